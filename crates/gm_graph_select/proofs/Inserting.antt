@@ -1,5 +1,5 @@
 -- The members of each list of vertices can be put in ascending order, so each list of edges has a build list.
-use Rattle.std.proofs.Common.{◌≡◌, ◌⊎◌, ℕ, List, [], ◌∷◌, get_or, map, Contains, ap, ◌∙◌, sym, refl, subst, inl, inr, arith}
+use Rattle.std.proofs.Common.{◌≡◌, ◌⊎◌, List, [], ◌∷◌, get_or, map, Contains, ap, ◌∙◌, sym, refl, subst, inl, inr, arith}
 use Rattle.std.specs.Prelude.{All}
 use Rattle.std.specs.declared.cmp.Ordering.{Ordering}
 use Rattle.std.specs.declared.cmp.Ordering.TheVariants.{Less, Equal, Greater}
@@ -9,11 +9,11 @@ use Rattle.std.proofs.lemmas.List.Elements.{Contains-get_or}
 use Rattle.std.proofs.lemmas.List.Kept.{AllPairs-cons}
 use Rattle.gm_name.specs.ModuleVersion.{ModuleVersion, pair_cmp, pair_total}
 use Rattle.gm_name.specs.Private.ModuleVersion.{pair-anti}
-use Rattle.gm_file.specs.Directives.{Replacing}
 use Rattle.gm_graph_select.specs.declared.step.Edge.{Edge}
-use Rattle.gm_graph_select.specs.BuildList.{Entry, IsBuildList, entry_of, main_entry}
+use Rattle.gm_graph_select.specs.BuildList.{entry_of, main_entry}
 use Rattle.gm_graph_select.specs.Graph.{among}
 use Rattle.gm_graph_select.specs.Greatest.{greatest_of}
+use Rattle.gm_graph_select.specs.Laws.{SomeBuildList}
 use Rattle.gm_graph_select.specs.Order.{HaveSame, IsAscending}
 use Rattle.gm_graph_select.specs.Private.StepOrder.{in_order}
 use Rattle.gm_graph_select.proofs.Ascending.{member_cases, member_head, member_tail, no_member, pairs_head, pairs_tail}
@@ -105,12 +105,11 @@ in_order_same (e ∷ xs) x =
       ]),
     )
 
-pub some_build_list : (main : List ℕ) (replaces : List Replacing) (edges : List Edge) → (entries : List Entry) × IsBuildList main replaces (among edges) entries
+pub some_build_list : {R : Type 0} → SomeBuildList R
 some_build_list main replaces edges =
     let to = map (λ (e : Edge). e.to) edges in
     let ends = in_order pair_cmp to in
     let selected = greatest_of main ends in (
       main_entry ∷ map (entry_of replaces) selected,
-      listed main replaces (among edges) selected
-          (are_selected main ends (in_order_ascends to) (among edges) (ends_same to ends (among edges) (in_order_same to) (ends_of edges))),
+      listed replaces (are_selected main ends (in_order_ascends to) (among edges) (ends_same to ends (among edges) (in_order_same to) (ends_of edges))),
     )

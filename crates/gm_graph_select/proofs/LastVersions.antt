@@ -1,5 +1,5 @@
 -- Among vertices in ascending order, the last ones of their paths are the selected ones.
-use Rattle.std.proofs.Common.{◌≡◌, ◌≢◌, ◌⊎◌, ◌&&◌, ℕ, zero, suc, Bool, true, false, List, [], ◌∷◌, map, Contains, ap, ◌∙◌, sym, refl, subst, inl, inr, arith}
+use Rattle.std.proofs.Common.{Option, ◌≡◌, ◌≢◌, ◌⊎◌, ◌&&◌, ℕ, zero, suc, Bool, true, false, List, [], ◌∷◌, map, Contains, ap, ◌∙◌, sym, refl, subst, inl, inr, arith}
 use Rattle.std.specs.Prelude.{if◌then◌else◌, not}
 use Rattle.std.specs.declared.cmp.Ordering.{Ordering}
 use Rattle.std.specs.declared.cmp.Ordering.TheVariants.{Less, Equal, Greater}
@@ -14,7 +14,6 @@ use Rattle.gm_name.specs.Version.{version_cmp}
 use Rattle.gm_name.specs.VersionOrder.{version_total}
 use Rattle.gm_name.specs.ModuleVersion.{ModuleVersion, pair_cmp}
 use Rattle.gm_name.proofs.Texts.{bytes_eq-differ, slice_cmp-same}
-use Rattle.gm_file.specs.Directives.{Replacing}
 use Rattle.gm_graph_select.specs.BuildList.{AreSelected, IsBuildList, entry_of, main_entry, path_cmp}
 use Rattle.gm_graph_select.specs.Graph.{AreEnds, Edges}
 use Rattle.gm_graph_select.specs.Greatest.{first_has_path, greatest_of, is_selected}
@@ -199,6 +198,6 @@ are_selected main xs up edges ends = record {
 }
 
 -- The main module and the selected vertices are the build list.
-pub listed : (main : List ℕ) (replaces : List Replacing) (edges : Edges) (xs : List ModuleVersion)
+pub listed : {R : Type 0} {main : List ℕ} {edges : Edges} {xs : List ModuleVersion} (replaces : ModuleVersion → Option R)
     → AreSelected main edges xs → IsBuildList main replaces edges (main_entry ∷ map (entry_of replaces) xs)
-listed main replaces edges xs are = record { selected = xs; entries_are = refl; ascending = are.ascending; each = are.each }
+listed {xs} replaces are = record { selected = xs; entries_are = refl; ascending = are.ascending; each = are.each }

@@ -12,17 +12,15 @@ use Rattle.std.proofs.lemmas.List.Kept.{AllPairs-cons}
 use Rattle.std.proofs.lemmas.List.Elements.{Contains-append_right, Contains-get_or}
 use Rattle.gm_name.specs.Version.{version_cmp}
 use Rattle.gm_name.specs.ModuleVersion.{ModuleVersion}
-use Rattle.gm_file.specs.Directives.{Replacing, Right}
-use Rattle.gm_file.specs.Fields.{replacement_of}
 use Rattle.gm_graph_select.specs.declared.step.Edge.{Edge}
 use Rattle.gm_graph_select.specs.declared.step.Step.{Step}
 use Rattle.gm_graph_select.specs.declared.step.Step.TheVariants.{Main, Of}
 use Rattle.gm_graph_select.specs.Graph.{Edges, among, step_cmp}
 use Rattle.gm_graph_select.specs.StepOrder.{step_total}
 use Rattle.gm_graph_select.specs.Private.StepOrder.{step-anti}
-use Rattle.gm_graph_select.specs.BuildList.{Entry, IsAt, IsBuildList, IsEntryOf, IsSelected, entry_of, main_entry, path_cmp, path_of}
+use Rattle.gm_graph_select.specs.BuildList.{IsAt, IsBuildList, IsEntryOf, IsSelected, entry_of, main_entry, path_cmp, path_of}
 use Rattle.gm_graph_select.specs.Chains.{at_main, along, IsPredecessor, IsChain, begins, goes_on, IsLevel, IsReached, IsRooted}
-use Rattle.gm_graph_select.specs.Laws.{ArePages, no_more, one_more, entries_of_pages, ChainIsShortest, EntriesAreReached, MainIsFirst, OneBuildList, OneChain, OneRest, PagesExist, PagesJoin, RowsAreEnds, RowsSatisfy}
+use Rattle.gm_graph_select.specs.Laws.{Entry, ArePages, no_more, one_more, entries_of_pages, ChainIsShortest, EntriesAreReached, MainIsFirst, OneBuildList, OneChain, OneRest, PagesExist, PagesJoin, RowsAreEnds, RowsSatisfy}
 use Rattle.gm_graph_select.proofs.Ascending.{less_itself, member_cases, member_head, member_tail, pairs_split, same_lists}
 use Rattle.gm_graph_select.proofs.Greatest.{IsGreatest, bests, ending}
 use Rattle.gm_graph_select.proofs.Same.{EndAlike, alike_selected, ending_ends, ends_alike, ends_of}
@@ -36,24 +34,24 @@ nowhere = ([], [])
 
 -- ---- the build list of any relation
 
-module _ (main : List ℕ) (replaces : List Replacing) (E : Edges) (entries : List Entry) (list : IsBuildList main replaces E entries) where
+module _ {R : Type 0} {main : List ℕ} {replaces : ModuleVersion → Option R} {E : Edges} {entries : List (Entry R)} (list : IsBuildList main replaces E entries) where
   -- The vertex of a row is selected.
-  pub row_selected : (x : ModuleVersion) (right : Option Right) → Contains entries (Of x, right) → IsSelected main E x
+  pub row_selected : (x : ModuleVersion) (right : Option R) → Contains entries (Of x, right) → IsSelected main E x
   row_selected x right there = (list.each x).0 (cases (member_cases main_entry (Of x, right)
-      (map (entry_of replaces) list.selected) (subst (λ (es : List Entry). Contains es (Of x, right)) list.entries_are
+      (map (entry_of replaces) list.selected) (subst (λ es. Contains es (Of x, right)) list.entries_are
       there)))
     where
       same_vertex : (v : ModuleVersion) → Of v ≡ Of x → v ≡ x
       same_vertex v e = cc e
 
       cases : (main_entry ≡ (Of x, right)) ⊎ Contains (map (entry_of replaces) list.selected) (Of x, right) → Contains list.selected x
-      cases (inl is) = absurd (let first : Main ≡ Of x = ap (λ (e : Entry). e.0) is in cc first)
+      cases (inl is) = absurd (let first : Main ≡ Of x = ap (λ e. e.0) is in cc first)
       cases (inr (k, below, at)) =
           let inside : k < length list.selected = rw length-map at below in (
             k,
             inside,
             same_vertex (get_or list.selected k x)
-                (ap (λ (e : Entry). e.0) (sym (get_or-map (entry_of replaces) list.selected k x (Of x, right) inside)
+                (ap (λ e. e.0) (sym (get_or-map (entry_of replaces) list.selected k x (Of x, right) inside)
                 ∙ at)),
           )
 
@@ -67,25 +65,25 @@ module _ (main : List ℕ) (replaces : List Replacing) (E : Edges) (entries : Li
         get_or-map (entry_of replaces) list.selected k x (entry_of replaces x) below
             ∙ ap (entry_of replaces) at,
       ) in
-      subst (λ (es : List Entry). Contains es (entry_of replaces x)) (sym list.entries_are)
+      subst (λ es. Contains es (entry_of replaces x)) (sym list.entries_are)
       (member_tail main_entry (entry_of replaces x) (map (entry_of replaces) list.selected) there)
 
   -- No two entries have the same path.
-  pub distinct : AllPairs (λ (a b : Entry). path_of main a.0 ≢ path_of main b.0) entries
-  distinct = subst (λ (es : List Entry). AllPairs (λ (a b : Entry). path_of main a.0 ≢ path_of main b.0) es)
-      (sym list.entries_are) (AllPairs-cons (λ (a b : Entry). path_of main a.0 ≢ path_of main b.0) main_entry
+  pub distinct : AllPairs (λ a b. path_of main a.0 ≢ path_of main b.0) entries
+  distinct = subst (λ es. AllPairs (λ a b. path_of main a.0 ≢ path_of main b.0) es)
+      (sym list.entries_are) (AllPairs-cons (λ a b. path_of main a.0 ≢ path_of main b.0) main_entry
       (map (entry_of replaces) list.selected) firsts others)
     where
-      path_at : (k : ℕ) (d : Entry) → k < length list.selected
+      path_at : (k : ℕ) (d : Entry R) → k < length list.selected
           → path_of main (get_or (map (entry_of replaces) list.selected) k d).0 ≡ (get_or list.selected k nowhere).0
-      path_at k d below = ap (λ (e : Entry). path_of main e.0) (get_or-map (entry_of replaces) list.selected k nowhere d below)
+      path_at k d below = ap (λ e. path_of main e.0) (get_or-map (entry_of replaces) list.selected k nowhere d below)
 
-      firsts : All (λ (b : Entry). main ≢ path_of main b.0) (map (entry_of replaces) list.selected)
+      firsts : All (λ b. main ≢ path_of main b.0) (map (entry_of replaces) list.selected)
       firsts k d below same =
           let inside : k < length list.selected = rw length-map at below in
           ((list.each (get_or list.selected k nowhere)).0 (Contains-get_or list.selected k nowhere inside)).not_main (sym (same ∙ path_at k d inside))
 
-      others : AllPairs (λ (a b : Entry). path_of main a.0 ≢ path_of main b.0) (map (entry_of replaces) list.selected)
+      others : AllPairs (λ a b. path_of main a.0 ≢ path_of main b.0) (map (entry_of replaces) list.selected)
       others i j d lt below same =
           let inside : j < length list.selected = rw length-map at below in
           let x = get_or list.selected i nowhere in
@@ -98,24 +96,24 @@ module _ (main : List ℕ) (replaces : List Replacing) (E : Edges) (entries : Li
   reached_entry path s rooted (entry, rest, at, is) = go s is
     where
       there : Contains entries entry
-      there = subst (λ (es : List Entry). Contains es entry) (sym at.parts) (Contains-append_right at.before (entry ∷ rest) entry (member_head entry rest))
+      there = subst (λ es. Contains es entry) (sym at.parts) (Contains-append_right at.before (entry ∷ rest) entry (member_head entry rest))
 
       go : (s : Step) → entry.0 ≡ s → IsReached E s
       go Main e = (0, at_main)
       go (Of x) e =
-          let make : Step → Option Right → Entry = λ t o. (t, o) in
-          let row : Contains entries (Of x, entry.1) = subst (λ (r : Entry). Contains entries r)
-          (ap (λ (t : Step). make t entry.1) e) (subst (λ (es : List Entry). Contains es entry) (sym at.parts)
+          let make : Step → Option R → Entry R = λ t o. (t, o) in
+          let row : Contains entries (Of x, entry.1) = subst (λ r. Contains entries r)
+          (ap (λ (t : Step). make t entry.1) e) (subst (λ es. Contains es entry) (sym at.parts)
           (Contains-append_right at.before (entry ∷ rest) entry (member_head entry rest))) in
           let (t, edge) = (row_selected x entry.1 row).is_end in
           let (n, leads) = rooted t x edge in
           (suc n, along leads edge)
 
-pub rows_are_ends : RowsAreEnds
-rows_are_ends main replaces edges entries list x right there = (row_selected main replaces (among edges) entries list x right there).is_end
+pub rows_are_ends : {R : Type 0} → RowsAreEnds R
+rows_are_ends main replaces edges entries list x right there = (row_selected list x right there).is_end
 
-pub rows_satisfy : RowsSatisfy
-rows_satisfy main replaces edges entries list y end apart = go ((bests main ends).0 y.0) ((bests main ends).1 y.0)
+pub rows_satisfy : {R : Type 0} → RowsSatisfy R
+rows_satisfy {R} main replaces edges entries list y end apart = go ((bests main ends).0 y.0) ((bests main ends).1 y.0)
   where
     ends : List ModuleVersion
     ends = map (λ (e : Edge). e.to) edges
@@ -124,32 +122,32 @@ rows_satisfy main replaces edges entries list y end apart = go ((bests main ends
     alike = ends_alike ends (ending ends) (among edges) (ending_ends ends) (ends_of edges)
 
     go : (o : Option ModuleVersion) → IsGreatest main (ending ends) y.0 o
-        → (x : ModuleVersion) × (right : Option Right) × Contains entries (Of x, right) × (x.0 ≡ y.0)
+        → (x : ModuleVersion) × (right : Option R) × Contains entries (Of x, right) × (x.0 ≡ y.0)
         × (is_gt (version_cmp y.1 x.1) ≡ false)
     go None g = absurd (apart (g y ((alike y).1 end) refl))
     go (Some x) (is, selected) = (
       x,
-      replacement_of replaces x,
-      selected_row main replaces (among edges) entries list x
+      replaces x,
+      selected_row list x
           (alike_selected main (ending ends) (among edges) alike x selected),
       is,
       selected.greatest y ((alike y).1 end) (sym is),
     )
 
-pub same_build_lists : (main : List ℕ) (replaces : List Replacing) (E : Edges) (a b : List Entry)
+pub same_build_lists : {R : Type 0} {main : List ℕ} {replaces : ModuleVersion → Option R} {E : Edges} {a b : List (Entry R)}
     → IsBuildList main replaces E a → IsBuildList main replaces E b → a ≡ b
-same_build_lists main replaces E a b x y =
+same_build_lists {replaces} x y =
     let same : x.selected ≡ y.selected = same_lists path_total x.selected y.selected x.ascending y.ascending
     (λ z. ((λ h. (y.each z).1 ((x.each z).0 h)), (λ h. (x.each z).1 ((y.each z).0 h)))) in
     x.entries_are ∙ ap (λ (xs : List ModuleVersion). main_entry ∷ map (entry_of replaces) xs) same ∙ sym y.entries_are
 
-pub one_build_list : OneBuildList
-one_build_list main replaces edges = same_build_lists main replaces (among edges)
+pub one_build_list : {R : Type 0} → OneBuildList R
+one_build_list main replaces edges a b = same_build_lists
 
-pub one_rest : OneRest
+pub one_rest : {R : Type 0} → OneRest R
 one_rest main entries path a b (x, h) (y, g) = (one_at main entries path x y a b h g).1
 
-pub main_is_first : MainIsFirst
+pub main_is_first : {R : Type 0} → MainIsFirst R
 main_is_first main replaces edges entries s list entry =
     let first : IsAt main entries main main_entry (map (entry_of replaces) list.selected) =
     record {
@@ -161,8 +159,8 @@ main_is_first main replaces edges entries s list entry =
     } in
     one_entry main entries main s Main entry (main_entry, map (entry_of replaces) list.selected, first, refl)
 
-pub entries_are_reached : EntriesAreReached
-entries_are_reached main replaces edges entries path s list rooted entry = reached_entry main replaces (among edges) entries list path s rooted entry
+pub entries_are_reached : {R : Type 0} → EntriesAreReached R
+entries_are_reached main replaces edges entries path s list rooted entry = reached_entry list path s rooted entry
 
 -- ---- chains
 
@@ -217,36 +215,36 @@ one_chain edges s a b h g = same_chains (among edges) h b g
 
 -- ---- pages
 
-snoc : (x : Entry) (xs : List Entry) → (front : List Entry) × (last : Entry) × (x ∷ xs ≡ front ++ last ∷ [])
+snoc : {R : Type 0} (x : Entry R) (xs : List (Entry R)) → (front : List (Entry R)) × (last : Entry R) × (x ∷ xs ≡ front ++ last ∷ [])
 snoc x [] = ([], x, refl)
 snoc x (y ∷ xs) =
     let (front, last, is) = snoc y xs in
-    (x ∷ front, last, ap (λ (l : List Entry). x ∷ l) is)
+    (x ∷ front, last, ap (λ l. x ∷ l) is)
 
-module _ (main : List ℕ) (entries : List Entry) (apart : AllPairs (λ (a b : Entry). path_of main a.0 ≢ path_of main b.0) entries) (n : ℕ) where
+module _ {R : Type 0} (main : List ℕ) (entries : List (Entry R)) (apart : AllPairs (λ a b. path_of main a.0 ≢ path_of main b.0) entries) (n : ℕ) where
   -- What is left after a page follows the page's last entry.
-  page_end : (before left front : List Entry) (last : Entry) → entries ≡ before ++ left
+  page_end : (before left front : List (Entry R)) (last : Entry R) → entries ≡ before ++ left
       → take n left ≡ front ++ last ∷ [] → IsAt main entries (path_of main last.0) last (drop n left)
   page_end before left front last whole page = record { before = before ++ front; parts = parts; path_is = refl; others = others }
     where
       parts : entries ≡ (before ++ front) ++ last ∷ drop n left
       parts =
-          whole ∙ ap (λ (l : List Entry). before ++ l) (sym (take-append-drop n left)
-          ∙ ap (λ (l : List Entry). l ++ drop n left) page ∙ append_assoc front (last ∷ []) (drop n left))
+          whole ∙ ap (λ l. before ++ l) (sym (take-append-drop n left)
+          ∙ ap (λ l. l ++ drop n left) page ∙ append_assoc front (last ∷ []) (drop n left))
           ∙ sym (append_assoc before front (last ∷ drop n left))
 
-      others : (x : Entry) → Contains (before ++ front) x → path_of main x.0 ≢ path_of main last.0
-      others x h = pairs_split (λ (a b : Entry). path_of main a.0 ≢ path_of main b.0) (before ++ front) (drop n left)
-          last x (subst (λ (l : List Entry). AllPairs (λ (a b : Entry). path_of main a.0 ≢ path_of main b.0) l) (
-          whole ∙ ap (λ (l : List Entry). before ++ l) (sym (take-append-drop n left)
-          ∙ ap (λ (l : List Entry). l ++ drop n left) page ∙ append_assoc front (last ∷ []) (drop n left))
+      others : (x : Entry R) → Contains (before ++ front) x → path_of main x.0 ≢ path_of main last.0
+      others x h = pairs_split (λ a b. path_of main a.0 ≢ path_of main b.0) (before ++ front) (drop n left)
+          last x (subst (λ l. AllPairs (λ a b. path_of main a.0 ≢ path_of main b.0) l) (
+          whole ∙ ap (λ l. before ++ l) (sym (take-append-drop n left)
+          ∙ ap (λ l. l ++ drop n left) page ∙ append_assoc front (last ∷ []) (drop n left))
           ∙ sym (append_assoc before front (last ∷ drop n left))) apart) h
 
-  further : (before left : List Entry) → entries ≡ before ++ left → entries ≡ (before ++ take n left) ++ drop n left
-  further before left whole = whole ∙ ap (λ (l : List Entry). before ++ l) (sym (take-append-drop n left))
+  further : (before left : List (Entry R)) → entries ≡ before ++ left → entries ≡ (before ++ take n left) ++ drop n left
+  further before left whole = whole ∙ ap (λ l. before ++ l) (sym (take-append-drop n left))
       ∙ sym (append_assoc before (take n left) (drop n left))
 
-  pages_join_from : (before left : List Entry) (pages : List (List Entry)) → entries ≡ before ++ left
+  pages_join_from : (before left : List (Entry R)) (pages : List (List (Entry R))) → entries ≡ before ++ left
       → ArePages main entries n left pages → entries_of_pages pages ≡ left
   pages_join_from before _ _ whole no_more = refl
   pages_join_from before left _ whole (one_more {rest} {pages} front last page after more) =
@@ -254,21 +252,21 @@ module _ (main : List ℕ) (entries : List Entry) (apart : AllPairs (λ (a b : E
       let same : rest ≡ drop n left = (one_at main entries (path_of main last.0) entry last rest (drop n left) at
       (page_end before left front last whole page)).1 in
       let rest_whole : entries ≡ (before ++ take n left) ++ rest =
-      subst (λ (l : List Entry). entries ≡ (before ++ take n left) ++ l) (sym same) (further before left whole) in
-      ap (λ (l : List Entry). take n left ++ l) (pages_join_from (before ++ take n left) rest pages rest_whole more ∙ same) ∙ take-append-drop n left
+      subst (λ l. entries ≡ (before ++ take n left) ++ l) (sym same) (further before left whole) in
+      ap (λ l. take n left ++ l) (pages_join_from (before ++ take n left) rest pages rest_whole more ∙ same) ∙ take-append-drop n left
 
   -- one page, followed by the others
-  page_more : 0 < n → (before left : List Entry) (x : Entry) → entries ≡ before ++ x ∷ left → (page : List Entry)
-      → take n (x ∷ left) ≡ page → (pages : List (List Entry)) × ArePages main entries n (drop n (x ∷ left)) pages
-      → (pages : List (List Entry)) × ArePages main entries n (x ∷ left) pages
+  page_more : 0 < n → (before left : List (Entry R)) (x : Entry R) → entries ≡ before ++ x ∷ left → (page : List (Entry R))
+      → take n (x ∷ left) ≡ page → (pages : List (List (Entry R))) × ArePages main entries n (drop n (x ∷ left)) pages
+      → (pages : List (List (Entry R))) × ArePages main entries n (x ∷ left) pages
   page_more some before left x whole [] is more = absurd (let none = ap length is in omega (arith, length-take n (x ∷ left), none, some))
   page_more some before left x whole (y ∷ ys) is (pages, more) =
       let (front, last, parts) = snoc y ys in
       let page : take n (x ∷ left) ≡ front ++ last ∷ [] = is ∙ parts in
       (take n (x ∷ left) ∷ pages, one_more front last page (last, page_end before (x ∷ left) front last whole page) more)
 
-  pages_from : 0 < n → (m : ℕ) (before left : List Entry) → length left ≤ m → entries ≡ before ++ left
-      → (pages : List (List Entry)) × ArePages main entries n left pages
+  pages_from : 0 < n → (m : ℕ) (before left : List (Entry R)) → length left ≤ m → entries ≡ before ++ left
+      → (pages : List (List (Entry R))) × ArePages main entries n left pages
   pages_from some m before [] low whole = ([], no_more)
   pages_from some zero before (x ∷ left) low whole = absurd (omega (arith, low))
   pages_from some (suc m) before (x ∷ left) low whole =
@@ -277,10 +275,10 @@ module _ (main : List ℕ) (entries : List Entry) (apart : AllPairs (λ (a b : E
       (pages_from some m (before ++ take n (x ∷ left)) (drop n (x ∷ left)) shorter
       (further before (x ∷ left) whole))
 
-pub pages_join : PagesJoin
+pub pages_join : {R : Type 0} → PagesJoin R
 pages_join main replaces edges entries n pages list h =
-    pages_join_from main entries (distinct main replaces (among edges) entries list) n [] entries pages refl h
+    pages_join_from main entries (distinct list) n [] entries pages refl h
 
-pub pages_exist : PagesExist
+pub pages_exist : {R : Type 0} → PagesExist R
 pages_exist main replaces edges entries n some list = pages_from main entries
-    (distinct main replaces (among edges) entries list) n some (length entries) [] entries (omega arith) refl
+    (distinct list) n some (length entries) [] entries (omega arith) refl

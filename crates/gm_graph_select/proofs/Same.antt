@@ -1,15 +1,14 @@
 -- Relations that lead to the same vertices have the same build lists. Relations between the same steps and vertices
 -- have the same levels and chains, too.
-use Rattle.std.proofs.Common.{◌↔◌, ◌∙◌, ◌<◌, ℕ, suc, List, length, get_or, map, Contains, ap, subst, sym}
+use Rattle.std.proofs.Common.{◌↔◌, ◌∙◌, ◌<◌, ℕ, suc, List, length, get_or, map, Option, Contains, ap, subst, sym}
 use Rattle.std.proofs.lemmas.List.{get_or-map, length-map}
 use Rattle.std.proofs.lemmas.List.Elements.{Contains-get_or}
 use Rattle.gm_name.specs.ModuleVersion.{ModuleVersion}
-use Rattle.gm_file.specs.Directives.{Replacing}
 use Rattle.gm_graph_select.specs.declared.step.Edge.{Edge}
 use Rattle.gm_graph_select.specs.declared.step.Step.{Step}
 use Rattle.gm_graph_select.specs.declared.step.Step.TheVariants.{Main, Of}
 use Rattle.gm_graph_select.specs.Graph.{AreEnds, Edges, IsEdgeEnd, among, edge}
-use Rattle.gm_graph_select.specs.BuildList.{Entry, IsSelected, IsBuildList}
+use Rattle.gm_graph_select.specs.BuildList.{IsSelected, IsBuildList}
 use Rattle.gm_graph_select.specs.Order.{HaveSame}
 use Rattle.gm_graph_select.proofs.Greatest.{ending}
 use Rattle.gm_graph_select.specs.Chains.{Leads, at_main, along, IsLevel, IsPredecessor, IsChain, begins, goes_on, IsReached, IsRooted}
@@ -67,9 +66,9 @@ alike_selected main E F h x is = record {
 }
 
 -- A build list depends only on the vertices that edges lead to.
-pub alike_build_list : (main : List ℕ) (replaces : List Replacing) (E F : Edges) (entries : List Entry) → EndAlike E F
-    → IsBuildList main replaces E entries → IsBuildList main replaces F entries
-alike_build_list main replaces E F entries h list = record {
+alike_build_list : {R : Type 0} {main : List ℕ} {replaces : ModuleVersion → Option R} {entries : List (Step × Option R)} (E F : Edges)
+    → EndAlike E F → IsBuildList main replaces E entries → IsBuildList main replaces F entries
+alike_build_list {main} E F h list = record {
   selected = list.selected;
   entries_are = list.entries_are;
   ascending = list.ascending;
@@ -79,9 +78,9 @@ alike_build_list main replaces E F entries h list = record {
   );
 }
 
-pub same_build_list : (main : List ℕ) (replaces : List Replacing) (E F : Edges) (entries : List Entry) → AreSame E F
-    → IsBuildList main replaces E entries → IsBuildList main replaces F entries
-same_build_list main replaces E F entries h = alike_build_list main replaces E F entries (same_ends E F h)
+pub same_build_list : {R : Type 0} {main : List ℕ} {replaces : ModuleVersion → Option R} {entries : List (Step × Option R)} (E F : Edges)
+    → AreSame E F → IsBuildList main replaces E entries → IsBuildList main replaces F entries
+same_build_list E F h = alike_build_list E F (same_ends E F h)
 
 pub same_leads : (E F : Edges) → AreSame E F → {s : Step} {n : ℕ} → Leads E s n → Leads F s n
 same_leads E F h at_main = at_main

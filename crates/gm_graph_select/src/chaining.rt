@@ -43,7 +43,7 @@ impl From<AllocError> for ChainFault {
 }
 
 /// The step that the rows have for a path: the main module or a vertex.
-fn entry_of<'a>(main: &ModPath, rows: &'a [Row], path: &ModPath) -> Option<&'a Step>
+fn entry_of<'a, R>(main: &ModPath, rows: &'a [Row<R>], path: &ModPath) -> Option<&'a Step>
     ensures some { IfSome result (λ step. IsEntryOf main.now (entries_of_rows rows.now) path.now step.now) }
     ensures none { IfNone result (¬ (HasEntryFor main.now (entries_of_rows rows.now) path.now)) }
 {
@@ -114,11 +114,11 @@ impl Graph {
     /// `NotListed` is returned exactly if no row has the path, or no edges lead from the main module to the row that
     /// has it. `NoMemory` is returned if memory runs out. For n vertices, and lists of m numbers in all, it compares
     /// log n vertices, and numbers n log n + m times at most, however many edges there are.
-    pub fn chain(
+    pub fn chain<R>(
         &self,
         alloc: Global,
         main: &ModPath,
-        rows: &[Row],
+        rows: &[Row<R>],
         path: &ModPath,
     ) -> Result<Vec<Step>, ChainFault>
         ensures chain { IfOk result (λ steps. (s : Step) × IsEntryOf main.now (entries_of_rows rows.now) path.now s

@@ -5,21 +5,21 @@
 
 ghost use Rattle.std.specs.Prelude.{◌≡◌, IfNone, IfOk, IfSome, OnErr};
 ghost use Rattle.std.specs.Iterator.{YieldsFirstRef, item_count};
-ghost use Rattle.gm_graph_select.specs.BuildList.{IsAt, HasEntryFor, IsRestAfter, entries_of_rows, entry_of_row, path_of};
+ghost use Rattle.gm_graph_select.specs.BuildList.{IsAt, HasEntryFor, IsRestAfter, entries_of_rows, path_of};
 
 use crate::step::Step;
-use gm_file::Right;
 use gm_name::ModPath;
 use std::marker::Model;
 use thiserror::Error;
 
-/// A row of the build list: the main module or the selected version of a path, with its replacement.
+/// A row of the build list: the main module or the selected version of a path, with its replacement, which may be of any
+/// type.
 #[derive(Debug, Drop, PartialEq, Eq)]
-pub struct Row {
+pub struct Row<R> {
     /// The main module, or a path at its selected version.
     pub step: Step,
     /// The right-hand side of the `replace` directive that applies to it, if there is one.
-    pub right: Option<Right>,
+    pub right: Option<R>,
 }
 
 /// The path is not in the build list.
@@ -30,39 +30,39 @@ pub struct NotListed;
 /// An iterator over rows, in order. It takes no memory. A clause sees it as the list of the rows that are still to
 /// come.
 #[derive(Drop)]
-pub struct Rows<'a> {
+pub struct Rows<'a, R> {
     /// The rows that are still to come.
-    rest: &'a [Row],
+    rest: &'a [Row<R>],
 }
 
-impl<'a> Model for Rows<'a> {
+impl<'a, R> Model for Rows<'a, R> {
     ghost use Rattle.std.specs.Prelude.{List};
     ghost use Rattle.gm_graph_select.specs.declared.row.Row.{Row};
 
-    ghost Value = { List Row };
+    ghost Value = { List (Row R) };
 
     ghost view = { λ rows. rows.rest.now };
 }
 
-impl<'a> Iterator for Rows<'a> {
+impl<'a, R> Iterator for Rows<'a, R> {
     /// A row of the list.
-    type Item = &'a Row;
+    type Item = &'a Row<R>;
 
     ghost next_gives = { YieldsFirstRef (λ rows. rows) };
 
     ghost remaining = { item_count (λ rows. rows) };
 
     /// The next row, or `None` after the last one.
-    fn next(&mut self) -> Option<&'a Row> {
+    fn next(&mut self) -> Option<&'a Row<R>> {
         let (first, others) = self.rest.split_first()?;
         self.rest = others;
         Some(first)
     }
 }
 
-impl<'a> Rows<'a> {
+impl<'a, R> Rows<'a, R> {
     /// All rows of a list.
-    pub fn all(rows: &'a [Row]) -> Rows<'a>
+    pub fn all(rows: &'a [Row<R>]) -> Rows<'a, R>
         ensures { result ≡ rows.now }
     {
         Rows { rest: rows }
@@ -80,14 +80,14 @@ fn path_of<'a>(main: &'a ModPath, step: &'a Step) -> &'a ModPath
 }
 
 /// The first row of a path, and the rows after it.
-pub(crate) fn row_at<'a>(
+pub(crate) fn row_at<'a, R>(
     main: &ModPath,
-    rows: &'a [Row],
+    rows: &'a [Row<R>],
     path: &ModPath,
-) -> Option<(&'a Row, Rows<'a>)>
+) -> Option<(&'a Row<R>, Rows<'a, R>)>
     ensures some { IfSome result (λ found.
         IsAt main.now (entries_of_rows rows.now) path.now
-        (entry_of_row found.0.now) (entries_of_rows found.1)) }
+        (found.0.now.step, found.0.now.right) (entries_of_rows found.1)) }
     ensures none { IfNone result (¬ (HasEntryFor main.now (entries_of_rows rows.now) path.now)) }
 {
     let mut rest = Rows::all(rows);
@@ -104,11 +104,11 @@ pub(crate) fn row_at<'a>(
 ///
 /// `NotListed` is returned exactly if no row has the path. The call takes no memory, and looks at each row at most
 /// once.
-pub fn rest_after<'a>(
+pub fn rest_after<'a, R>(
     main: &ModPath,
-    rows: &'a [Row],
+    rows: &'a [Row<R>],
     path: &ModPath,
-) -> Result<Rows<'a>, NotListed>
+) -> Result<Rows<'a, R>, NotListed>
     ensures rest { IfOk result (λ left.
         IsRestAfter main.now (entries_of_rows rows.now) path.now (entries_of_rows left)) }
     ensures not_listed { OnErr result (¬ (HasEntryFor main.now (entries_of_rows rows.now) path.now)) }

@@ -3,8 +3,8 @@ use Rattle.gm_graph_select.proofs.RestRows.{IsRemainder}
 use Rattle.gm_graph_select.proofs.row.row_at.Given as goal
 
 abbrev pub invariant-rows : goal.invariant-rows
-invariant-rows l = record {
-  can : (goal.iterator-rows).can_next l.rest;
-  finite : (goal.iterator-rows).is_finite l.rest;
+invariant-rows g l = record {
+  can : (goal.iterator-rows g).can_next l.rest;
+  finite : (goal.iterator-rows g).is_finite l.rest;
   behind : IsRemainder l.main (entries_of_rows l.rows) l.path (entries_of_rows l.rest);
 }
