@@ -16,13 +16,12 @@ use Rattle.gm_graph.specs.Laws.{EarlierSayingsStay, FirstAnswersSaySomething, Is
 use Rattle.gm_graph.proofs.Sayings.{answer_stays, one_said, says_more}
 
 pub rows_are_required : RowsAreRequired
-rows_are_required run asked loaded is x right there = (lawful.row_selected _ _ (IsEdge run)
-    loaded.rows is.rows x right there).is_end
+rows_are_required run asked loaded is x right there = (lawful.row_selected is.rows x right there).is_end
 
 pub rows_satisfy : RowsSatisfyRequirements
 rows_satisfy run asked loaded is from y to other =
     let same : AreSame (among loaded.edges) (IsEdge run) = λ s z. is.edges.each (edge s z) in
-    lawful.rows_satisfy _ _ loaded.edges loaded.rows (same_build_list _ _ (IsEdge run) (among loaded.edges) _ (same_back _ _ same) is.rows) y (from, (same from y).1 to) other
+    lawful.rows_satisfy _ _ loaded.edges loaded.rows (same_build_list (IsEdge run) (among loaded.edges) (same_back _ _ same) is.rows) y (from, (same from y).1 to) other
 
 module _ (run : Run) (unpruned : is_pruned_by run.main.go ≡ false) where
   deep_reached : {x : ModuleVersion} → IsDeep run x → IsTransitivelyRequired run x
@@ -63,7 +62,7 @@ pub one_answer : OneAnswer
 one_answer run asked a b is other = (
   ascending.same_lists faults_total a.faults b.faults is.faults.ascending other.faults.ascending (λ z. both (is.faults.each z) (other.faults.each z)),
   ascending.same_lists edge_total a.edges b.edges is.edges.ascending other.edges.ascending (λ z. both (is.edges.each z) (other.edges.each z)),
-  lawful.same_build_lists _ _ (IsEdge run) a.rows b.rows is.rows other.rows,
+  lawful.same_build_lists is.rows other.rows,
 )
 
 -- ---- what modules say

@@ -1,7 +1,7 @@
 -- The assembled graph is the specified result of loading.
 use Rattle.std.proofs.Common.{◌≡◌, ◌↔◌, List, [], Option, Contains, arith, map}
 use Rattle.gm_name.specs.ModuleVersion.{ModuleVersion}
-use Rattle.gm_file.specs.Main.{Main, without_excluded}
+use Rattle.gm_file.specs.Main.{Main, without_excluded, replacement_in}
 use Rattle.gm_store.specs.Asked.{Name, Reply, names_in}
 use Rattle.gm_store_sums.specs.Sums.{Sums}
 use Rattle.gm_graph.specs.declared.cache.Cache.{Cache}
@@ -48,7 +48,7 @@ pub loads : (main : Main) (sums : Option Sums) (pairs : List (Name × Reply)) {c
     → AskedInTurn (LoadingNeeds main sums) pairs → (loaded : LoadedGraph) → loaded.main ≡ main.path
     → AreFaultsOf parts.modules.items findings.faults.items loaded.faults → IsAscending edge_cmp loaded.edges
     → HaveSame (edges_of parts.modules.items (steps_by parts findings.places.items)) loaded.edges
-    → IsBuildList main.path main.replaces (among loaded.edges) loaded.rows
+    → IsBuildList main.path (replacement_in main) (among loaded.edges) loaded.rows
     → loaded.turns ≡ map (turn_of parts.modules.items) worklist.turns.items → IsLoaded (run_of main sums pairs) (names_in pairs) loaded
 loads main sums pairs {cache} {worklist} opened are asks loaded path_is faults ascending same rows turns =
     let run = run_of main sums pairs in
@@ -58,7 +58,7 @@ loads main sums pairs {cache} {worklist} opened are asks loaded path_is faults a
       main_is = path_is;
       faults = faults_exactly opened are loaded.faults faults;
       edges = record { ascending = ascending; each = each };
-      rows = same_build_list main.path main.replaces (among loaded.edges) (IsEdge run) loaded.rows (λ s y. each (edge s y)) rows;
+      rows = same_build_list (among loaded.edges) (IsEdge run) (λ s y. each (edge s y)) rows;
       turns = rw (turns, are.modules) opened.turns;
       settled = settled main sums pairs asks (known opened are) opened.read
           (few_opened run opened.worklist_is.opened (turns_of (table_in cache) worklist) (omega (arith, worklist.few, opened.worklist_is.counted))

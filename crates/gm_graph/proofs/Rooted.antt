@@ -1,14 +1,15 @@
 -- Edges lead from the main module to each step that has an edge, and so to each entry of the build list.
-use Rattle.std.proofs.Common.{◌↔◌, ℕ, zero, suc, List, ◌∷◌, map, Contains, inl, inr, arith}
+use Rattle.std.proofs.Common.{◌↔◌, ℕ, zero, suc, List, ◌∷◌, map, Contains, inl, inr, arith, Option}
 use Rattle.gm_name.specs.ModuleVersion.{ModuleVersion}
-use Rattle.gm_file.specs.Directives.{Replacing}
+use Rattle.gm_file.specs.Directives.{Right}
 use Rattle.gm_graph_select.specs.declared.step.Edge.{Edge}
 use Rattle.gm_graph_select.specs.declared.step.Step.TheVariants.{Main as FromMain, Of}
-use Rattle.gm_graph_select.specs.BuildList.{Entry, IsBuildList, IsSelected, entry_of, main_entry}
+use Rattle.gm_graph_select.specs.BuildList.{IsBuildList, IsSelected, entry_of, main_entry}
 use Rattle.gm_graph_select.specs.Chains.{IsReached, IsRooted, along, at_main}
 use Rattle.gm_graph_select.specs.Graph.{among, edge, edge_cmp}
 use Rattle.gm_graph_select.specs.Order.{HaveSame, IsAscending}
 use Rattle.gm_graph_select.proofs.Same.{same_back, same_rooted}
+use Rattle.gm_graph.specs.Entries.{Entry}
 use Rattle.gm_graph.specs.Run.{IsDeep, IsEdge, IsOpened, IsTop, Run, from_deep, from_main, from_top}
 use Rattle.gm_graph.specs.Outcome.{AreReached}
 use Rattle.gm_graph_select.proofs.RankedLists.{from_mapped}
@@ -34,7 +35,7 @@ pub list_rooted : (run : Run) (edges : List Edge) → ((e : Edge) → Contains e
 list_rooted run edges exact = same_rooted _ _ (same_back _ (IsEdge run) (λ s y. exact (edge s y))) (edges_rooted run)
 
 -- The entries of a build list are reached.
-module _ (main : List ℕ) (replaces : List Replacing) (edges : List Edge) (entries : List Entry)
+module _ {main : List ℕ} {replaces : ModuleVersion → Option Right} (edges : List Edge) (entries : List Entry)
     (rooted : IsRooted (among edges)) (list : IsBuildList main replaces (among edges) entries) where
   selected_reached : (x : ModuleVersion) → IsSelected main (among edges) x → IsReached (among edges) (Of x)
   selected_reached x is = let (s, e) = is.is_end in let (n, l) = rooted s x e in (suc n, along l e)

@@ -2,6 +2,7 @@ pub mod Private
 pub mod Turns
 pub mod WorklistFaults
 pub mod Outcome
+pub mod Entries
 pub mod Run
 pub mod Laws
 pub mod Reading

@@ -3,7 +3,7 @@ use Rattle.std.specs.Prelude.{◌≡◌, ℕ, List, Contains}
 use Rattle.gm_store.specs.Asked.{Name}
 use Rattle.gm_graph.specs.declared.cache.depth.Turn.{Turn}
 use Rattle.gm_graph_select.specs.declared.step.Edge.{Edge}
-use Rattle.gm_graph_select.specs.BuildList.{Entry}
+use Rattle.gm_graph.specs.Entries.{Entry}
 use Rattle.gm_graph_select.specs.Chains.{IsReached}
 use Rattle.gm_graph_select.specs.Graph.{among, edge_cmp}
 use Rattle.gm_graph_select.specs.Order.{IsAscending}

@@ -20,7 +20,8 @@ use Rattle.gm_graph.specs.Turns.{same_turn, turn}
 use Rattle.gm_graph_select.specs.declared.step.Edge.{Edge}
 use Rattle.gm_graph_select.specs.declared.step.Step.{Step}
 use Rattle.gm_graph_select.specs.declared.step.Step.TheVariants.{Main as FromMain, Of}
-use Rattle.gm_graph_select.specs.BuildList.{Entry, IsBuildList}
+use Rattle.gm_graph_select.specs.BuildList.{IsBuildList}
+use Rattle.gm_graph.specs.Entries.{Entry}
 use Rattle.gm_graph_select.specs.Graph.{IsEdgeEnd, edge_cmp}
 use Rattle.gm_graph_select.specs.Order.{IsAscending}
 
@@ -108,7 +109,7 @@ pub record AreEdges (run : Run) (edges : List Edge) : Type 0 where
 -- The build list: the main module, followed by each other path that an edge leads to, once, in path order, at
 -- the greatest version.
 abbrev pub AreRows : Run → List Entry → Type 0
-AreRows run rows = IsBuildList run.main.path run.main.replaces (IsEdge run) rows
+AreRows run rows = IsBuildList run.main.path (replacement_in run.main) (IsEdge run) rows
 
 -- The requirements of the module are read at this depth. Every deep module is read at full depth. A module at the top
 -- is read at the top only if the main file is pruned, since it is a deep one otherwise.

@@ -42,4 +42,5 @@ pub use crate::cache::reading::FileReading;
 pub use crate::fault::Fault;
 pub use crate::loaded::Loaded;
 pub use crate::loading::load;
-pub use gm_graph_select::{ChainFault, Edge, EdgeRef, Edges, NotListed, Row, Rows, Step};
+pub use crate::rows::{Row, Rows};
+pub use gm_graph_select::{ChainFault, Edge, EdgeRef, Edges, NotListed, Step};

@@ -1,7 +1,8 @@
 //! The loaded module graph, and what can be asked of it.
 
 ghost use Rattle.std.specs.Prelude.{◌≡◌, [], IfOk, OnErr, IsErrOf};
-ghost use Rattle.gm_graph_select.specs.BuildList.{IsEntryOf, HasEntryFor, IsRestAfter, entries_of_rows};
+ghost use Rattle.gm_graph_select.specs.BuildList.{IsEntryOf, HasEntryFor, IsRestAfter};
+ghost use Rattle.gm_graph.specs.Entries.{entries_of_rows};
 ghost use Rattle.gm_graph_select.specs.Chains.{IsChain};
 ghost use Rattle.gm_graph_select.specs.Graph.{among};
 ghost use Rattle.gm_graph_select.specs.declared.step.Step.{Step};
@@ -9,7 +10,8 @@ ghost use Rattle.gm_graph.specs.Outcome.{AreReached};
 
 use crate::cache::depth::Turn;
 use crate::fault::Fault;
-use gm_graph_select::{ChainFault, Edges, Graph, NotListed, Row, Rows, Step};
+use crate::rows::{Row, Rows};
+use gm_graph_select::{ChainFault, Edges, Graph, NotListed, Step};
 use gm_name::ModPath;
 use std::alloc::Global;
 use std::marker::Model;
@@ -31,7 +33,7 @@ pub struct Loaded {
 }
 
 impl Model for Loaded {
-    ghost use Rattle.gm_graph_select.specs.BuildList.{entries_of_rows};
+    ghost use Rattle.gm_graph.specs.Entries.{entries_of_rows};
     ghost use Rattle.gm_graph.specs.Outcome.{AreReached, LoadedGraph};
 
     ghost Value = { LoadedGraph };

@@ -8,7 +8,7 @@ ghost use Rattle.gm_store.specs.declared.files.FileName.{FileName};
 ghost use Rattle.gm_graph.specs.Private.Asking.{AsksInTurn};
 ghost use Rattle.gm_graph.specs.Cached.{Knows, file_count, main_in, run_in, sums_in, table_in, turns_in};
 ghost use Rattle.gm_graph.specs.Refusals.{refused_in};
-ghost use Rattle.gm_file.specs.Main.{main_of};
+ghost use Rattle.gm_file.specs.Main.{main_of, replacement_in};
 ghost use Rattle.gm_graph_select.specs.BuildList.{IsBuildList};
 ghost use Rattle.gm_graph_select.specs.Chains.{IsRooted};
 ghost use Rattle.gm_graph_select.specs.Graph.{IsEdgeEnd, among, edge_cmp};
@@ -111,7 +111,7 @@ fn assemble(
     ensures edges { IfOk result (λ loaded.
         HaveSame (edges_of parts.modules.items (steps_by parts findings.places.items)) loaded.edges) }
     ensures rows { IfOk result (λ loaded.
-        IsBuildList (main_of main.now).path (main_of main.now).replaces (among loaded.edges) loaded.rows) }
+        IsBuildList (main_of main.now).path (replacement_in (main_of main.now)) (among loaded.edges) loaded.rows) }
     ensures turns { IfOk result (λ loaded. loaded.turns ≡ map (turn_of parts.modules.items) turns.items) }
 {
     let Findings { places, faults } = findings;

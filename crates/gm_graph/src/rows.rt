@@ -4,13 +4,20 @@ ghost use Rattle.std.specs.Prelude.{◌≡◌, ◌∷◌, [], IfOk, map};
 ghost use Rattle.std.specs.Option.{option_map};
 ghost use Rattle.gm_file.specs.Views.{right_view};
 ghost use Rattle.gm_file.specs.Main.{main_of, replacement_in};
-ghost use Rattle.gm_graph_select.specs.BuildList.{IsBuildList, entries_of_rows, entry_of, entry_of_row, main_entry};
+ghost use Rattle.gm_graph_select.specs.BuildList.{IsBuildList, entry_of, main_entry};
+ghost use Rattle.gm_graph.specs.Entries.{entries_of_rows, entry_of_row};
 ghost use Rattle.gm_graph_select.specs.Graph.{AreEnds, among};
 
 use gm_file::{MainFile, Right};
-use gm_graph_select::{Graph, Row, Selection, Step};
+use gm_graph_select::{Graph, Selection, Step};
 use gm_name::ModVer;
 use std::alloc::{AllocError, Global};
+
+/// A row of the build list, with the right side of a `replace`.
+pub type Row = gm_graph_select::Row<Right>;
+
+/// An iterator over such rows.
+pub type Rows<'a> = gm_graph_select::Rows<'a, Right>;
 
 /// A copy of the replacement of a vertex in the main file, if it has one.
 fn replacement_of(
@@ -28,7 +35,7 @@ fn replacement_of(
 
 /// The row of a vertex, with its replacement.
 fn row_of(alloc: Global, main: &MainFile<'_>, vertex: &ModVer) -> Result<Row, AllocError>
-    ensures { IfOk result (λ row. entry_of_row row ≡ entry_of (main_of main.now).replaces vertex.now) }
+    ensures { IfOk result (λ row. entry_of_row row ≡ entry_of (replacement_in (main_of main.now)) vertex.now) }
 {
     let right = replacement_of(alloc, main, vertex)?;
     Ok(Row {
@@ -56,7 +63,7 @@ fn rows_of(
     selected: Selection<'_>,
 ) -> Result<Vec<Row>, AllocError>
     ensures { IfOk result (λ rows. entries_of_rows rows.items
-        ≡ main_entry ∷ map (entry_of (main_of main.now).replaces) selected.entry) }
+        ≡ main_entry ∷ map (entry_of (replacement_in (main_of main.now))) selected.entry) }
 {
     let mut rows = main_row(alloc)?;
     for vertex in selected {
@@ -72,7 +79,7 @@ pub(crate) fn build_list(
     graph: &Graph,
 ) -> Result<Vec<Row>, AllocError>
     ensures { IfOk result (λ rows. AreEnds graph.now.vertices (among graph.now.edges)
-        → IsBuildList (main_of main.now).path (main_of main.now).replaces (among graph.now.edges)
+        → IsBuildList (main_of main.now).path (replacement_in (main_of main.now)) (among graph.now.edges)
         (entries_of_rows rows.items)) }
 {
     let selected = graph.selected(main.module());

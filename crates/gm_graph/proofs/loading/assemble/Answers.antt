@@ -8,7 +8,7 @@ pub new-requires : goal.new-requires
 new-requires c =
     let steps = steps_by c.args.parts c.args.findings.places.items in
     let told = c.in_ok-graph.ensures in
-    are_reached _ _ _ _ (sorted_rooted _ _ told.edges c.requires.rooted)
+    are_reached _ _ (sorted_rooted _ _ told.edges c.requires.rooted)
     (c.in_ok-rows.ensures (ends_are _ (sources_of c.args.parts.modules.items steps) _ _ told.edges told.vertices c.requires.sources))
     told.ascending
 
