@@ -3,10 +3,9 @@ use Rattle.std.proofs.Common.{◌∙◌, List, Option, Ok, None, refl, sym, inl}
 use Rattle.gm_name.specs.ModuleVersion.{ModuleVersion}
 use Rattle.gm_store.specs.Asked.{Name, Reply}
 use Rattle.gm_store_sums.specs.Sums.{Sums}
-use Rattle.gm_file.specs.Fields.{replacement_of}
-use Rattle.gm_file.specs.Main.{Main}
+use Rattle.gm_file.specs.Main.{Main, replacement_in}
 use Rattle.gm_graph_select.specs.declared.step.Step.{Step}
-use Rattle.gm_graph_select.specs.BuildList.{Entry}
+use Rattle.gm_graph.specs.Entries.{Entry}
 use Rattle.gm_graph_select.proofs.Lawful.{row_selected, selected_row}
 use Rattle.gm_graph.specs.Run.{AreRows, IsEdge, IsOpened, IsTop, Run, run_of}
 use Rattle.gomod_run.specs.GraphQuery.{PrintsGraph}
@@ -47,12 +46,12 @@ module _ (first second : Main) (more : SaysMore first second) (t u : Option Sums
 
   not_lower : IsFew next → (rows others : List Entry) → AreRows one rows → AreRows next others → AreNotLower rows others
   not_lower few rows others list other x right there =
-      let is = row_selected first.path first.replaces (IsEdge one) rows list x right there in
+      let is = row_selected list x right there in
       let (s, leads) = is.is_end in
       let are = greatest next few others other in
       let (y, inside, path, high) = are.satisfied x (s, edge_more s x leads) (λ e. is.not_main (e ∙ sym more.path)) in
-      let row = selected_row second.path second.replaces (IsEdge next) others other y ((other.each y).0 inside) in
-      (y, replacement_of second.replaces y, row, path, high)
+      let row = selected_row other y ((other.each y).0 inside) in
+      (y, replacement_in second y, row, path, high)
 
 pub list_lowers_nothing : ListLowersNothing
 list_lowers_nothing file other sums first second one next runs more ends =

@@ -9,7 +9,8 @@ use Rattle.gm_name.specs.ModuleVersion.{ModuleVersion}
 use Rattle.gm_file.specs.Main.{Main}
 use Rattle.gm_graph_select.specs.declared.step.Edge.{Edge}
 use Rattle.gm_graph_select.specs.declared.step.Step.TheVariants.{Main as FromMain, Of}
-use Rattle.gm_graph_select.specs.BuildList.{Entry, HasEntryFor, path_of}
+use Rattle.gm_graph_select.specs.BuildList.{HasEntryFor, path_of}
+use Rattle.gm_graph.specs.Entries.{Entry}
 use Rattle.gm_graph_select.proofs.Ascending.{member_cases, member_head, no_member}
 use Rattle.gomod_run.specs.Queries.{Given}
 use Rattle.gomod_run.specs.Outcome.{Outcome, text_outcome}

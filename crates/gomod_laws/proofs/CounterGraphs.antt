@@ -2,13 +2,14 @@
 use Rattle.std.proofs.Common.{◌≡◌, ◌∙◌, ◌∷◌, ◌++◌, ℕ, List, [], Option, None, Contains, ap, append_assoc, arith, codes, inl, inr, length, refl, subst, sym}
 use Rattle.std.proofs.lemmas.List.Elements.{Contains-push_cases}
 use Rattle.gm_name.specs.ModuleVersion.{ModuleVersion}
-use Rattle.gm_file.specs.Main.{Main}
+use Rattle.gm_file.specs.Main.{Main, replacement_in}
 use Rattle.gm_store_sums.specs.Sums.{Sums}
 use Rattle.gm_graph.specs.Run.{AreEdges, AreRows, IsEdge, run_of}
 use Rattle.gm_graph_select.specs.declared.step.Edge.{Edge}
 use Rattle.gm_graph_select.specs.declared.step.Step.{Step}
 use Rattle.gm_graph_select.specs.declared.step.Step.TheVariants.{Main as FromMain, Of}
-use Rattle.gm_graph_select.specs.BuildList.{Entry, main_entry, path_of}
+use Rattle.gm_graph_select.specs.BuildList.{main_entry, path_of}
+use Rattle.gm_graph.specs.Entries.{Entry}
 use Rattle.gm_graph_select.specs.Graph.{Edges, among, edge}
 use Rattle.gm_graph_select.proofs.Ascending.{member_cases, member_head, member_tail, no_member}
 use Rattle.gm_graph_select.proofs.Lawful.{rows_are_ends}
@@ -185,14 +186,14 @@ pub list_is_of_another_graph : ListIsOfAnotherGraph
 list_is_of_another_graph path run chain (main, table, edges, rows, found, exact, one) =
     let here_edges : Edges = IsEdge (run_of main table run.answers.asked) in
     let are : AreRows (run_of main table run.answers.asked) rows =
-    same_build_list main.path main.replaces (among edges) here_edges rows (λ t y. exact.each (edge t y))
+    same_build_list (among edges) here_edges (λ t y. exact.each (edge t y))
     one.build_list in
     let (own, same) = rows_are run main table rows found are ((Of b_one, None) ∷ []) with_b_proper
     (sym (same_text (codes "m\nb.c v1.0.0\n") (list_text main.path rows)
     (all_rows main rows None (text_outcome (codes "m\nb.c v1.0.0\n")) one.list_is))) in
     let there : Contains rows (Of b_one, None) = subst (λ (es : List Entry). Contains es (Of b_one, None)) (sym same)
     (member_tail main_entry (Of b_one, None) ((Of b_one, None) ∷ []) (member_head (Of b_one, None) [])) in
-    let (s, end) = rows_are_ends main.path main.replaces edges rows one.build_list b_one None there in
+    let (s, end) = rows_are_ends main.path (replacement_in main) edges rows one.build_list b_one None there in
     b_is_no_end edges s (edges_are run main table edges found exact own one.graph_is) end
 
 pub chain_is_of_another_graph : ChainIsOfAnotherGraph

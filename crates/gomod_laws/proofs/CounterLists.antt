@@ -8,12 +8,13 @@ use Rattle.std.proofs.lemmas.List.Elements.{Contains-append_left, Contains-appen
 use Rattle.gm_name.specs.Path.{IsPath}
 use Rattle.gm_name.specs.Version.{IsVersion, version_cmp}
 use Rattle.gm_name.specs.ModuleVersion.{ModuleVersion}
-use Rattle.gm_file.specs.Directives.{Replacing}
-use Rattle.gm_file.specs.Main.{Main, without_excluded, IsMainFile}
+use Rattle.gm_file.specs.Main.{Main, without_excluded, IsMainFile, replacement_in}
 use Rattle.gm_store_sums.specs.Sums.{Sums}
+use Rattle.gm_file.specs.Directives.{Right}
 use Rattle.gm_graph.specs.Run.{AreRows, IsDeep, IsOpened, IsTop, IsVertex, Run, from_deep, from_main, from_top, run_of}
 use Rattle.gm_graph_select.specs.declared.step.Step.TheVariants.{Main as FromMain, Of}
-use Rattle.gm_graph_select.specs.BuildList.{Entry, entry_of, main_entry, path_of}
+use Rattle.gm_graph_select.specs.BuildList.{entry_of, main_entry, path_of}
+use Rattle.gm_graph.specs.Entries.{Entry}
 use Rattle.gm_graph_select.specs.Laws.{entries_of_pages}
 use Rattle.gm_graph_select.proofs.Ascending.{member_cases, member_head, member_tail, no_member}
 use Rattle.gomod_run.specs.QueryLaws.{AreGreatest, ArePrintedPages, ShowsBuildList, no_row, one_page}
@@ -102,9 +103,9 @@ module _ (run : Given) (main : Main) (table : Option Sums) (rows : List Entry) (
   pub rows_are : (known : List Entry) → AreProperRows (main_entry ∷ known) → list_text main.path rows ≡ list_text (codes "m") (main_entry ∷ known)
       → (main.path ≡ codes "m") × (rows ≡ main_entry ∷ known)
   rows_are known proper e =
-      let begins : list_text main.path (main_entry ∷ map (entry_of main.replaces) are.selected) ≡ list_text (codes "m") (main_entry ∷ known) =
+      let begins : list_text main.path (main_entry ∷ map (entry_of (replacement_in main)) are.selected) ≡ list_text (codes "m") (main_entry ∷ known) =
       ap (list_text main.path) (sym are.entries_are) ∙ e in
-      let own = own_path main.path (list_text main.path (map (entry_of main.replaces) are.selected)) (list_text (codes "m") known) main_is_path begins in (
+      let own = own_path main.path (list_text main.path (map (entry_of (replacement_in main)) are.selected)) (list_text (codes "m") known) main_is_path begins in (
         own,
         text_says_rows main.path main_is_path rows (main_entry ∷ known) rows_proper proper
             (e ∙ ap (λ (m : List ℕ). list_text m (main_entry ∷ known)) (sym own)),
@@ -130,7 +131,7 @@ heads_same x y xs ys e = cc e
 tails_same : (x y : Entry) (xs ys : List Entry) → x ∷ xs ≡ y ∷ ys → xs ≡ ys
 tails_same x y xs ys e = cc e
 
-vertices_are : (replaces : List Replacing) (xs ys : List ModuleVersion) → map (entry_of replaces) xs ≡ map row_at ys → xs ≡ ys
+vertices_are : (replaces : ModuleVersion → Option Right) (xs ys : List ModuleVersion) → map (entry_of replaces) xs ≡ map row_at ys → xs ≡ ys
 vertices_are replaces [] [] e = refl
 vertices_are replaces [] (y ∷ ys) e = absurd (cc e)
 vertices_are replaces (x ∷ xs) [] e = absurd (cc e)
@@ -157,12 +158,12 @@ selects : (run : Given) (text : List ℕ) (known : List ModuleVersion) → AllBy
     → ShowsBuildList run (text_outcome text) → Selects run known
 selects run text known names is (main, table, selected, found, greatest, says) =
     let r : Run = run_of main table run.answers.asked in
-    let rows : List Entry = main_entry ∷ map (entry_of main.replaces) selected in
+    let rows : List Entry = main_entry ∷ map (entry_of (replacement_in main)) selected in
     let are : AreRows r rows = as_build_list r selected greatest in
     let proper : AreProperRows (main_entry ∷ map row_at known) = each_of IsProperRow (main_entry ∷ map row_at known) (refl, names_proper known names) in
     let (own, same) = rows_are run main table rows found are (map row_at known) proper (sym (same_text text (list_text main.path rows) says) ∙ is) in
-    let modules : selected ≡ known = vertices_are main.replaces selected known
-    (tails_same main_entry main_entry (map (entry_of main.replaces) selected) (map row_at known) same) in
+    let modules : selected ≡ known = vertices_are (replacement_in main) selected known
+    (tails_same main_entry main_entry (map (entry_of (replacement_in main)) selected) (map row_at known) same) in
     record { main = main; table = table; found = found; own = own; greatest = subst (λ (xs : List ModuleVersion). AreGreatest r xs) modules greatest }
 
 a_name : IsName a_one
@@ -189,9 +190,9 @@ first_lacks = lacks 10 (λ b. nat_lt 10 b) refl (codes "a.b v1.0.0") refl
 
 pub main_is_missing : MainIsMissing
 main_is_missing run (main, table, selected, found, greatest, says) =
-    let rows : List Entry = main_entry ∷ map (entry_of main.replaces) selected in
+    let rows : List Entry = main_entry ∷ map (entry_of (replacement_in main)) selected in
     let is = main_is_path run main table rows found (as_build_list (run_of main table run.answers.asked) selected greatest) in
-    let rest = list_text main.path (map (entry_of main.replaces) selected) in
+    let rest = list_text main.path (map (entry_of (replacement_in main)) selected) in
     let text : codes "a.b v1.0.0" ++ (10 ∷ []) ≡ main.path ++ (10 ∷ rest) =
     same_text (codes "a.b v1.0.0\n") (list_text main.path rows) says ∙ spread_main main.path rest in
     let own = (cut_at 10 (codes "a.b v1.0.0") main.path [] rest first_lacks (path-plain main.path is) text).0 in

@@ -14,7 +14,8 @@ use Rattle.gm_graph.specs.Run.{AreEdges, AreFaults, AreRows, AreTooMany, FileSay
 use Rattle.gm_graph.proofs.RunLemmas.{RequiresToo, edge_too, many_too, opened_too}
 use Rattle.gm_graph_select.specs.declared.step.Edge.{Edge}
 use Rattle.gm_graph_select.specs.declared.step.Step.TheVariants.{Of}
-use Rattle.gm_graph_select.specs.BuildList.{Entry, HasEntryFor, IsBuildList, IsRestAfter, entry_of, main_entry}
+use Rattle.gm_graph_select.specs.BuildList.{HasEntryFor, IsBuildList, IsRestAfter, entry_of, main_entry}
+use Rattle.gm_graph.specs.Entries.{Entry}
 use Rattle.gm_graph_select.proofs.Same.{AreSame, same_build_list, same_chain}
 use Rattle.gomod_run.specs.GraphQuery.{graph_text}
 use Rattle.gomod_run.specs.ListQuery.{up_to, list_text, PrintsRows, no_path, path_listed, path_unlisted}
@@ -162,10 +163,10 @@ module _ (r s : Run) (alike : ReadAlike r s) where
 
   rows_to : (rows : List Entry) → AreRows r rows → AreRows s rows
   rows_to rows are =
-      let list = same_build_list r.main.path r.main.replaces (IsEdge r) (IsEdge s) rows edges_same are in
+      let list = same_build_list (IsEdge r) (IsEdge s) edges_same are in
       let entry : ModuleVersion → Option Right → Entry = λ x right. (Of x, right) in
-      let replaced : entry_of r.main.replaces ≡ entry_of s.main.replaces = fun_ext (λ (x : ModuleVersion). ap (entry x) (mains.replaced x)) in
-      subst (λ (path : List ℕ). IsBuildList path s.main.replaces (IsEdge s) rows) mains.path
+      let replaced : entry_of (replacement_in r.main) ≡ entry_of (replacement_in s.main) = fun_ext (λ (x : ModuleVersion). ap (entry x) (mains.replaced x)) in
+      subst (λ (path : List ℕ). IsBuildList path (replacement_in s.main) (IsEdge s) rows) mains.path
       (record {
         selected = list.selected;
         entries_are = list.entries_are ∙ ap (λ (f : ModuleVersion → Entry). main_entry ∷ map f list.selected) replaced;

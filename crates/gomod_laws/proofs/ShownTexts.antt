@@ -3,12 +3,13 @@ use Rattle.std.proofs.Common.{◌≡◌, ◌≢◌, ◌∙◌, ◌∷◌, ◌++�
 use Rattle.gm_name.specs.Path.{IsPath}
 use Rattle.gm_name.specs.Version.{IsVersion}
 use Rattle.gm_name.specs.ModuleVersion.{ModuleVersion}
-use Rattle.gm_file.specs.Main.{Main}
+use Rattle.gm_file.specs.Main.{Main, replacement_in}
 use Rattle.gm_graph_select.specs.declared.step.Edge.{Edge}
 use Rattle.gm_graph_select.specs.declared.step.Step.{Step}
 use Rattle.gm_graph_select.specs.declared.step.Step.TheVariants.{Main as FromMain, Of}
 use Rattle.gm_graph_select.specs.Graph.{Edges, edge}
-use Rattle.gm_graph_select.specs.BuildList.{Entry, entry_of, main_entry}
+use Rattle.gm_graph_select.specs.BuildList.{entry_of, main_entry}
+use Rattle.gm_graph.specs.Entries.{Entry}
 use Rattle.gm_graph_select.specs.Chains.{IsChain, begins, goes_on}
 use Rattle.gm_graph_select.proofs.Ascending.{member_head}
 use Rattle.gm_store_sums.specs.Sums.{Sums}
@@ -93,7 +94,7 @@ module _ (run : Given) (main : Main) where
 
     pub main_of_list : (more : List Entry) → shown ≡ main_entry ∷ more → Lacks 10 path → main.path ≡ path
     main_of_list more is none =
-        let others : List Entry = map (entry_of main.replaces) shows.are.selected in
+        let others : List Entry = map (entry_of (replacement_in main)) shows.are.selected in
         let text : main.path ++ (10 ∷ list_text main.path others) ≡ path ++ (10 ∷ list_text path more) =
         sym (first_row main.path others) ∙ ap (list_text main.path) (sym shows.are.entries_are) ∙ sym rows_text
         ∙ ap (list_text path) is ∙ first_row path more in

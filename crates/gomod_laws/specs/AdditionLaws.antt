@@ -8,7 +8,7 @@ use Rattle.gm_store.specs.Asked.{Name, Reply}
 use Rattle.gm_file.specs.Main.{Main, is_pruned_by, replacement_in, IsMainFile}
 use Rattle.gm_graph_select.specs.declared.step.Edge.{Edge}
 use Rattle.gm_graph_select.specs.declared.step.Step.TheVariants.{Of}
-use Rattle.gm_graph_select.specs.BuildList.{Entry}
+use Rattle.gm_graph.specs.Entries.{Entry}
 use Rattle.gomod_run.specs.QueryLaws.{AnswerAlike}
 use Rattle.gomod_run.specs.Queries.{Given}
 use Rattle.gomod_run.specs.Outcome.{Outcome}

@@ -4,7 +4,8 @@ use Rattle.std.specs.List.{flat_map}
 use Rattle.gm_store.specs.Asked.{Name, Reply}
 use Rattle.gm_file.specs.Main.{Main}
 use Rattle.gm_graph_select.specs.declared.step.Edge.{Edge}
-use Rattle.gm_graph_select.specs.BuildList.{Entry, HasEntryFor, path_of}
+use Rattle.gm_graph_select.specs.BuildList.{HasEntryFor, path_of}
+use Rattle.gm_graph.specs.Entries.{Entry}
 use Rattle.gomod_run.specs.QueryLaws.{AnswerAlike}
 use Rattle.gomod_run.specs.Outcome.{Outcome, text_outcome, refusal_outcome}
 use Rattle.gomod_run.specs.Reports.{not_listed_line}

@@ -17,7 +17,8 @@ use Rattle.gm_file.specs.Misreading.{IsBytesFault}
 use Rattle.gm_graph.specs.Refusals.{refused_in, refused_names}
 use Rattle.gm_graph.specs.declared.cache.load_fault.LoadFault.{LoadFault}
 use Rattle.gm_graph.specs.declared.cache.load_fault.LoadFault.TheVariants as load
-use Rattle.gm_graph_select.specs.BuildList.{Entry, IsRestAfter}
+use Rattle.gm_graph_select.specs.BuildList.{IsRestAfter}
+use Rattle.gm_graph.specs.Entries.{Entry}
 use Rattle.gm_graph_select.specs.Graph.{among, edge}
 use Rattle.gm_graph_select.proofs.Same.{same_chain}
 use Rattle.gm_graph.specs.declared.fault.Fault.{Fault}

@@ -3,6 +3,7 @@ use Rattle.std.proofs.Common.{◌≡◌, ◌∙◌, ℕ, List, [], ◌∷◌, ma
 use Rattle.std.specs.Cmp.Lexicographic.{nat_list_cmp_total}
 use Rattle.std.specs.declared.cmp.Ordering.TheVariants.{Less}
 use Rattle.gm_name.specs.ModuleVersion.{ModuleVersion}
+use Rattle.gm_file.specs.Main.{replacement_in}
 use Rattle.gm_graph_select.specs.BuildList.{IsBuildList, IsSelected, entry_of, main_entry, path_cmp}
 use Rattle.gm_graph_select.specs.Order.{IsAscending}
 use Rattle.gm_graph_select.proofs.Ascending.{less_itself, member_cases, no_member, pairs_head, pairs_tail}
@@ -48,13 +49,13 @@ module _ (run : Run) (selected : List ModuleVersion) (are : AreGreatest run sele
       let same : z ≡ x = ap₂ (λ (p v : List ℕ). (p, v)) path (same_version z.1 x.1 (is.greatest z (are.required z inside) path) high) in
       subst (Contains selected) same inside
 
-  pub as_build_list : IsBuildList run.main.path run.main.replaces (IsEdge run) (main_entry ∷ map (entry_of run.main.replaces) selected)
+  pub as_build_list : IsBuildList run.main.path (replacement_in run.main) (IsEdge run) (main_entry ∷ map (entry_of (replacement_in run.main)) selected)
   as_build_list = record { selected = selected; entries_are = refl; ascending = are.ascending; each = λ x. (is_selected x, is_row x) }
 
 pub build_list_is_listed : BuildListIsListed
 build_list_is_listed run main table selected found greatest =
     no_fault main table found (
-      main_entry ∷ map (entry_of main.replaces) selected,
+      main_entry ∷ map (entry_of (replacement_in main)) selected,
       as_build_list (run_of main table run.answers.asked) selected greatest,
       no_path refl refl,
     )

@@ -12,7 +12,7 @@ use Rattle.gm_syntax.proofs.Stable.{ended_line, plain_append}
 use Rattle.gm_file.specs.Directives.{Right, Folder, Module}
 use Rattle.gm_file.specs.Values.{is_folder_path}
 use Rattle.gm_graph_select.specs.declared.step.Step.TheVariants.{Main, Of}
-use Rattle.gm_graph_select.specs.BuildList.{Entry}
+use Rattle.gm_graph.specs.Entries.{Entry}
 use Rattle.gm_graph_select.proofs.Ascending.{member_head, member_tail}
 use Rattle.gm_graph_select.proofs.RankedLists.{from_mapped}
 use Rattle.gomod_run.specs.ListQuery.{list_text, replacement_suffix, replacement_text, row_text}

@@ -28,7 +28,7 @@ one_graph after limit path run graph list chain is_graph is_list is_chain ends =
       found,
       exact,
       record {
-        build_list = same_build_list main.path main.replaces here (among edges) rows among_here listed;
+        build_list = same_build_list here (among edges) among_here listed;
         graph_is = says;
         list_is = shows;
         chain_is = shown_by path main here (among edges) rows chain among_here

@@ -6,7 +6,8 @@ use Rattle.gm_name.proofs.Texts.{bytes_eq-differ, bytes_eq-same}
 use Rattle.gm_file.specs.Main.{Main}
 use Rattle.gm_graph_select.specs.declared.step.Step.{Step}
 use Rattle.gm_graph_select.specs.declared.step.Edge.{Edge}
-use Rattle.gm_graph_select.specs.BuildList.{Entry, HasEntryFor, IsRestAfter}
+use Rattle.gm_graph_select.specs.BuildList.{HasEntryFor, IsRestAfter}
+use Rattle.gm_graph.specs.Entries.{Entry}
 use Rattle.gm_graph_select.specs.Chains.{IsChain}
 use Rattle.gm_graph_select.specs.Graph.{Edges, among}
 use Rattle.gm_graph_select.specs.Private.StepOrder.{edge_total}
@@ -57,7 +58,7 @@ one_chain_text run few s steps others chain other =
 -- ---- rows
 
 pub one_rows : (run : Run) (rows others : List Entry) → AreRows run rows → AreRows run others → rows ≡ others
-one_rows run rows others is other = same_build_lists run.main.path run.main.replaces (IsEdge run) rows others is other
+one_rows run rows others is other = same_build_lists is other
 
 module _ (main : Main) (rows : List Entry) (limit : Option ℕ) where
   -- what is printed, by whether a path is given
@@ -102,7 +103,7 @@ module _ (r s : Run) (main_is : r.main ≡ s.main) (same : AreSame (IsEdge r) (I
   }
 
   rows_alike : (rows : List Entry) → AreRows r rows → AreRows s rows
-  rows_alike rows are = rw main_is at (same_build_list r.main.path r.main.replaces (IsEdge r) (IsEdge s) rows same are)
+  rows_alike rows are = rw main_is at (same_build_list (IsEdge r) (IsEdge s) same are)
 
 pub shown_by : (path : List ℕ) (main : Main) (E F : Edges) (rows : List Entry) (outcome : Outcome) → AreSame E F
     → ShowsChain path main E rows outcome → ShowsChain path main F rows outcome

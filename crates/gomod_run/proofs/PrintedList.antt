@@ -9,12 +9,13 @@ use Rattle.std.proofs.lemmas.Grind.{flat_map-append}
 use Rattle.gm_name.specs.Version.{version_cmp}
 use Rattle.gm_name.specs.ModuleVersion.{ModuleVersion}
 use Rattle.gm_name.proofs.Texts.{bytes_eq-differ, bytes_eq-same}
-use Rattle.gm_file.specs.Directives.{Replacing}
-use Rattle.gm_file.specs.Main.{Main}
+use Rattle.gm_file.specs.Main.{Main, replacement_in}
 use Rattle.gm_store_sums.specs.Sums.{Sums}
+use Rattle.gm_file.specs.Directives.{Right}
 use Rattle.gm_graph_select.specs.declared.step.Edge.{Edge}
 use Rattle.gm_graph_select.specs.declared.step.Step.TheVariants.{Main as FromMain}
-use Rattle.gm_graph_select.specs.BuildList.{Entry, IsBuildList, IsRestAfter, IsSelected, path_of}
+use Rattle.gm_graph_select.specs.BuildList.{IsBuildList, IsRestAfter, IsSelected, path_of}
+use Rattle.gm_graph.specs.Entries.{Entry}
 use Rattle.gm_graph_select.specs.Graph.{Edges, IsEdgeEnd, among, edge}
 use Rattle.gm_graph_select.specs.Laws.{ArePages as AreRowPages, entries_of_pages, no_more, one_more}
 use Rattle.gm_graph_select.proofs.Ascending.{member_cases, member_head, member_tail, no_member}
@@ -81,10 +82,10 @@ module _ (run : Run) (few : IsFew run) (rows : List Entry) (list : AreRows run r
     where
       listed : ((x : ModuleVersion) → Contains list.selected x → x.0 ≢ y.0) → (edges : List Edge) → AreSame (among edges) (IsEdge run) → ⊥
       listed none edges same =
-          let among_list : IsBuildList run.main.path run.main.replaces (among edges) rows =
-          same_build_list run.main.path run.main.replaces (IsEdge run) (among edges) rows (same_back (among edges) (IsEdge run) same) list in
-          let (x, right, row, path, high) = rows_satisfy run.main.path run.main.replaces edges rows among_list y (from, (same from y).1 is) apart in
-          none x ((list.each x).1 (row_selected run.main.path run.main.replaces (IsEdge run) rows list x right row)) path
+          let among_list : IsBuildList run.main.path (replacement_in run.main) (among edges) rows =
+          same_build_list (IsEdge run) (among edges) (same_back (among edges) (IsEdge run) same) list in
+          let (x, right, row, path, high) = rows_satisfy run.main.path (replacement_in run.main) edges rows among_list y (from, (same from y).1 is) apart in
+          none x ((list.each x).1 (row_selected list x right row)) path
 
   pub greatest : AreGreatest run list.selected
   greatest = record {
@@ -108,7 +109,7 @@ list_is_build_list run outcome is ends =
 -- ---- pages
 
 -- the selected vertices as edges from the main module have the same build list
-module _ (main : List ℕ) (replaces : List Replacing) (E : Edges) (rows : List Entry) (list : IsBuildList main replaces E rows) where
+module _ (main : List ℕ) (replaces : ModuleVersion → Option Right) (E : Edges) (rows : List Entry) (list : IsBuildList main replaces E rows) where
   abbrev own_edges : List Edge
   own_edges = map (edge FromMain) list.selected
 
@@ -164,7 +165,7 @@ pub pages_join : PrintedPagesJoin
 pages_join run n whole some is ends =
     let (main, table, found, (rows, list, says)) = printed_run (PrintsList None None) run whole is ends in
     let r : Run = run_of main table run.answers.asked in
-    let (pages, paging, joins) = row_pages main.path main.replaces (IsEdge r) rows list n some in (
+    let (pages, paging, joins) = row_pages main.path (replacement_in main) (IsEdge r) rows list n some in (
       main,
       table,
       pages,

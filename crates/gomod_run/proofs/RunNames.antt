@@ -7,7 +7,7 @@ use Rattle.gm_name.specs.ModuleVersion.{ModuleVersion}
 use Rattle.gm_syntax.specs.LineViews.{plain_lines}
 use Rattle.gm_file.specs.Directives.{Lax, Strict, directives}
 use Rattle.gm_file.specs.Fields.{Dependency, replacement_of}
-use Rattle.gm_file.specs.Main.{Main, is_excluded, without_excluded, IsMainFile}
+use Rattle.gm_file.specs.Main.{Main, is_excluded, without_excluded, IsMainFile, replacement_in}
 use Rattle.gm_file.specs.declared.misreading.Misreading.TheVariants as misreading
 use Rattle.gm_store.specs.Asked.{Name, Reply, absent, bytes, mod_file, too_long}
 use Rattle.gm_store_sums.specs.Hash.{file_hash}
@@ -22,7 +22,8 @@ use Rattle.gm_file.proofs.Pairwise.{faultless-apart}
 use Rattle.gm_graph_select.proofs.RankedLists.{from_mapped}
 use Rattle.gm_graph_select.specs.declared.step.Step.{Step}
 use Rattle.gm_graph_select.specs.declared.step.Step.TheVariants.{Main as FromMain, Of}
-use Rattle.gm_graph_select.specs.BuildList.{Entry, entry_of, main_entry}
+use Rattle.gm_graph_select.specs.BuildList.{entry_of, main_entry}
+use Rattle.gm_graph.specs.Entries.{Entry}
 use Rattle.gm_graph_select.specs.Chains.{IsChain, begins, goes_on}
 use Rattle.gm_graph_select.proofs.Ascending.{member_cases, no_member}
 use Rattle.gomod_run.specs.PrintedLines.{AreProperSteps, IsProperClass, IsProperRight, IsProperRow, IsProperStep, RunHasNames, RunHasProperEdges, RunHasProperFaults, RunHasProperRows, RunHasProperSteps}
@@ -144,12 +145,12 @@ run_has_proper_faults run main table faults read are one there =
 
 pub run_has_proper_rows : RunHasProperRows
 run_has_proper_rows run main table rows read are row there =
-    elim (member_cases main_entry row (map (entry_of main.replaces) are.selected) (subst (λ (es : List Entry). Contains es row) are.entries_are there)) [
+    elim (member_cases main_entry row (map (entry_of (replacement_in main)) are.selected) (subst (λ (es : List Entry). Contains es row) are.entries_are there)) [
       | inl same ↦ subst IsProperRow same refl
-      | inr later ↦ (let (x, inside, is) = from_mapped (entry_of main.replaces) are.selected row later in
+      | inr later ↦ (let (x, inside, is) = from_mapped (entry_of (replacement_in main)) are.selected row later in
           let end = ((are.each x).0 inside).is_end in
           let name = end_name (run_of main table run.answers.asked) run.file read.main_file end.0 x end.1 in
-          let proper : IsProperRow (entry_of main.replaces x) = (name.0, name.1, (main_proper run.file main read.main_file).2 x) in
+          let proper : IsProperRow (entry_of (replacement_in main) x) = (name.0, name.1, (main_proper run.file main read.main_file).2 x) in
           subst IsProperRow is proper)
     ]
 

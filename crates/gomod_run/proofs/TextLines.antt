@@ -6,7 +6,7 @@ use Rattle.std.specs.List.{flat_map}
 use Rattle.std.specs.Option.{option_map, option_eq}
 use Rattle.std.specs.Prelude.{nat_eq}
 use Rattle.std.proofs.lemmas.Bool.{eqb-true, false≢true}
-use Rattle.gm_graph_select.specs.BuildList.{Entry}
+use Rattle.gm_graph.specs.Entries.{Entry}
 use Rattle.gomod_run.specs.ListQuery.{entry_line, up_to, list_text}
 
 -- the lines so far, and the next

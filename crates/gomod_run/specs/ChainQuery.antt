@@ -2,7 +2,8 @@
 use Rattle.std.specs.Prelude.{◌≡◌, ◌⊎◌, ℕ, List}
 use Rattle.gm_file.specs.Main.{Main}
 use Rattle.gm_graph_select.specs.declared.step.Step.{Step}
-use Rattle.gm_graph_select.specs.BuildList.{Entry, IsEntryOf}
+use Rattle.gm_graph_select.specs.BuildList.{IsEntryOf}
+use Rattle.gm_graph.specs.Entries.{Entry}
 use Rattle.gm_graph_select.specs.Chains.{IsChain}
 use Rattle.gm_graph_select.specs.Graph.{Edges}
 use Rattle.gm_graph.specs.Run.{AreRows, IsEdge}

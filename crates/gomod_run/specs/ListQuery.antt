@@ -2,7 +2,8 @@
 use Rattle.std.specs.Prelude.{◌≡◌, ℕ, List, [], Option, Some, None, ◌++◌, codes, take}
 use Rattle.gm_file.specs.Main.{Main}
 use Rattle.gm_graph_select.specs.declared.step.Step.{Step}
-use Rattle.gm_graph_select.specs.BuildList.{Entry, IsRestAfter}
+use Rattle.gm_graph_select.specs.BuildList.{IsRestAfter}
+use Rattle.gm_graph.specs.Entries.{Entry}
 use Rattle.gm_graph.specs.Run.{AreRows}
 use Rattle.gomod_run.specs.Outcome.{Outcome, text_outcome}
 use Rattle.std.specs.List.{flat_map}

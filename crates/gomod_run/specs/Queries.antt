@@ -6,7 +6,8 @@ use Rattle.gm_store.specs.Asked.{Name, Reply, names_in}
 use Rattle.gm_store_sums.specs.Sums.{HasValidLines, IsFirstInvalid, ReadsAs, Sums}
 use Rattle.gm_file.specs.Main.{IsMainFile, Main}
 use Rattle.gm_file.specs.Misreading.{IsMisread}
-use Rattle.gm_graph_select.specs.BuildList.{Entry, HasEntryFor}
+use Rattle.gm_graph_select.specs.BuildList.{HasEntryFor}
+use Rattle.gm_graph.specs.Entries.{Entry}
 use Rattle.gm_graph.specs.declared.fault.Fault.{Fault}
 use Rattle.gm_graph.specs.Run.{AreFaults, AreTooMany, IsDue, IsRead, IsSettled, Run, run_of}
 use Rattle.gomod_run.specs.Outcome.{Outcome, failure_outcome, refusal_outcome}

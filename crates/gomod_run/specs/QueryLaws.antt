@@ -8,11 +8,12 @@ use Rattle.gm_name.specs.Version.{version_cmp}
 use Rattle.gm_name.specs.ModuleVersion.{ModuleVersion}
 use Rattle.gm_store.specs.Asked.{Name, Reply, answer_in}
 use Rattle.gm_store_sums.specs.Sums.{Sums}
-use Rattle.gm_file.specs.Main.{Main}
+use Rattle.gm_file.specs.Main.{Main, replacement_in}
 use Rattle.gm_graph_select.specs.declared.step.Edge.{Edge}
 use Rattle.gm_graph_select.specs.declared.step.Step.{Step}
 use Rattle.gm_graph_select.specs.declared.step.Step.TheVariants.{Main as FromMain, Of}
-use Rattle.gm_graph_select.specs.BuildList.{Entry, IsBuildList, IsEntryOf, entry_of, main_entry, path_cmp, path_of}
+use Rattle.gm_graph_select.specs.BuildList.{IsBuildList, IsEntryOf, entry_of, main_entry, path_cmp, path_of}
+use Rattle.gm_graph.specs.Entries.{Entry}
 use Rattle.gm_graph_select.specs.Graph.{Edges, among}
 use Rattle.gm_graph_select.specs.Laws.{entries_of_pages}
 use Rattle.gm_graph_select.specs.Order.{IsAscending}
@@ -59,7 +60,7 @@ abbrev pub ShowsBuildList : Given → Outcome → Type 0
 ShowsBuildList run outcome =
     (main : Main) × (table : Option Sums) × (selected : List ModuleVersion) × AreFound run main table []
     × AreGreatest (run_of main table run.answers.asked) selected
-    × (outcome ≡ text_outcome (list_text main.path (main_entry ∷ map (entry_of main.replaces) selected)))
+    × (outcome ≡ text_outcome (list_text main.path (main_entry ∷ map (entry_of (replacement_in main)) selected)))
 
 -- this holds when `list` prints
 abbrev pub ListIsBuildList : Type 0
@@ -71,7 +72,7 @@ abbrev pub BuildListIsListed : Type 0
 BuildListIsListed = (run : Given) (main : Main) (table : Option Sums) (selected : List ModuleVersion)
     → AreFound run main table [] → AreGreatest (run_of main table run.answers.asked) selected
     → ListEnds None None run
-    (text_outcome (list_text main.path (main_entry ∷ map (entry_of main.replaces) selected)))
+    (text_outcome (list_text main.path (main_entry ∷ map (entry_of (replacement_in main)) selected)))
 
 -- ---- parts of the list
 
@@ -143,7 +144,7 @@ PrintedChainIsShortest = (path : List ℕ) (run : Given) (outcome : Outcome) →
 -- these edges to the build list's entry for the path.
 pub record AreOfOneGraph (main : Main) (edges : List Edge) (rows : List Entry)
     (after : Option (List ℕ)) (limit : Option ℕ) (path : List ℕ) (graph list chain : Outcome) : Type 0 where
-  pub build_list : IsBuildList main.path main.replaces (among edges) rows
+  pub build_list : IsBuildList main.path (replacement_in main) (among edges) rows
   pub graph_is : graph ≡ text_outcome (graph_text main.path edges)
   pub list_is : PrintsRows main rows after limit list
   pub chain_is : ShowsChain path main (among edges) rows chain

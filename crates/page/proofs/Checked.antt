@@ -9,7 +9,8 @@ use Rattle.std.specs.declared.cmp.Ordering.TheVariants.{Less, Equal, Greater}
 use Rattle.std.proofs.lemmas.Bool.{and_parts, false≢true, leb-true, not-true, or_cases}
 use Rattle.std.proofs.lemmas.Option.{same_Some}
 use Rattle.page.specs.Asked.{Name, Reply, absent, answer_in, bytes, folder_file, list_file, mod_file, names_in, same_name, too_long}
-use Rattle.page.specs.BuildList.{Entry, HasEntryFor, IsRestAfter, entry_of, main_entry, path_cmp, path_of}
+use Rattle.page.specs.BuildList.{HasEntryFor, IsRestAfter, entry_of, main_entry, path_cmp, path_of}
+use Rattle.page.specs.Entries.{Entry}
 use Rattle.page.specs.Fields.{Dependency}
 use Rattle.page.specs.Files.{main_in, said_in, sum_fault}
 use Rattle.page.specs.ListQuery.{list_text, up_to, ListEnds, PrintsRows, no_path, path_listed, path_unlisted}
@@ -359,7 +360,7 @@ module _ (main : Main) (sums : Option Sums) (asked : List (Name × Reply)) where
   selected = filter is_row (sorted (joined [] ends))
 
   abbrev build_list : List Entry
-  build_list = main_entry ∷ map (entry_of main.replaces) selected
+  build_list = main_entry ∷ map (entry_of (replacement_in main)) selected
 
   abbrev ending_of : Option (List ℕ) → Option ℕ → List Fault → Outcome
   ending_of after limit [] = printed after limit main.path build_list

@@ -3,11 +3,12 @@ use Rattle.std.proofs.Common.{◌≡◌, ◌∙◌, ◌↔◌, ◌++◌, ℕ, Li
 use Rattle.std.specs.Cmp.{IsTotalOrder, nat_cmp_total, on_total, then_total}
 use Rattle.std.specs.Cmp.Lexicographic.{nat_list_cmp_total}
 use Rattle.page.specs.Asked.{Name}
-use Rattle.page.specs.BuildList.{Entry, HasEntryFor, IsRestAfter, entry_of, main_entry, path_cmp, path_of}
+use Rattle.page.specs.BuildList.{HasEntryFor, IsRestAfter, entry_of, main_entry, path_cmp, path_of}
+use Rattle.page.specs.Entries.{Entry}
 use Rattle.page.specs.Files.{IsMainFile, IsMisread}
 use Rattle.page.specs.Directives.{Strict}
 use Rattle.page.specs.ListQuery.{list_text, up_to, ListEnds, PrintsList, PrintsRows, no_path, path_listed, path_unlisted}
-use Rattle.page.specs.Main.{Main}
+use Rattle.page.specs.Main.{Main, replacement_in}
 use Rattle.page.specs.ModuleVersion.{ModuleVersion, pair_cmp}
 use Rattle.page.specs.Outcome.{Outcome, failure_outcome, refusal_outcome, text_outcome}
 use Rattle.page.specs.Queries.{AreFound, FilesReadAs, Given, bad_main, bad_sums, device, faulty, no_fault, too_many}
@@ -85,7 +86,7 @@ one_faults run a b is be = same_lists faults_total a b is.ascending be.ascending
 one_rows : (run : Run) (a b : List Entry) → AreRows run a → AreRows run b → a ≡ b
 one_rows run a b is be =
     let same : is.selected ≡ be.selected = same_lists path_total is.selected be.selected is.ascending be.ascending (λ x. both (is.each x) (be.each x)) in
-    is.entries_are ∙ ap (λ (xs : List ModuleVersion). main_entry ∷ map (entry_of run.main.replaces) xs) same ∙ sym be.entries_are
+    is.entries_are ∙ ap (λ (xs : List ModuleVersion). main_entry ∷ map (entry_of (replacement_in run.main)) xs) same ∙ sym be.entries_are
 
 -- ---- what follows a path
 

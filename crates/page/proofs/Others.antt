@@ -4,7 +4,8 @@ use Rattle.std.specs.Cmp.Lexicographic.{pointwise}
 use Rattle.std.proofs.lemmas.Bool.{and_parts, false≢true, not-true}
 use Rattle.std.proofs.lemmas.Option.{same_Some}
 use Rattle.page.specs.Asked.{bytes}
-use Rattle.page.specs.BuildList.{Entry, HasEntryFor, IsRestAfter, IsSelected, path_of}
+use Rattle.page.specs.BuildList.{HasEntryFor, IsRestAfter, IsSelected, path_of}
+use Rattle.page.specs.Entries.{Entry}
 use Rattle.page.specs.Fields.{Dependency}
 use Rattle.page.specs.Files.{end_one, local_file, low_ten, main_file, mid_nine, mid_ten, own_one, top_file, top_one, top_text}
 use Rattle.page.specs.Files.RowFiles.{alone_file, file_requiring, first_of, huge_text, one_file}

@@ -2,7 +2,8 @@
 use Rattle.std.proofs.Common.{◌≡◌, ℕ, false, List, [], ◌∷◌, Contains, None, Ok, arith, codes, inl, inr, refl, subst, sym}
 use Rattle.std.specs.Ordering.{is_gt}
 use Rattle.page.specs.Asked.{bytes}
-use Rattle.page.specs.BuildList.{Entry, main_entry, path_of}
+use Rattle.page.specs.BuildList.{main_entry, path_of}
+use Rattle.page.specs.Entries.{Entry}
 use Rattle.page.specs.Fields.{Dependency}
 use Rattle.page.specs.Files.{folder_says, folder_text, end_one, low_ten, mid_file, mid_nine, mid_ten, mid_text, top_file, top_one, top_text}
 use Rattle.page.specs.Files.RowFiles.{file_requiring, first_of, going, malformed_text, requiring, three_file}
@@ -10,7 +11,7 @@ use Rattle.page.specs.Graph.{IsEdgeEnd}
 use Rattle.page.specs.ModuleVersion.{ModuleVersion}
 use Rattle.page.specs.Path.{is_fetchable}
 use Rattle.page.specs.Run.{IsDeep, IsOpened, Says, answered, faulty, from_deep, from_main, from_top, run_of, sound, wrong_path}
-use Rattle.page.specs.Types.{Of}
+use Rattle.page.specs.Types.{Main, Of}
 use Rattle.page.specs.Version.{version_cmp}
 use Rattle.page.specs.Worlds.Parts.{PartsAreShown, pruned_run, two_paths, two_versions}
 use Rattle.page.specs.Worlds.Rows.{malformed_answers}
@@ -29,7 +30,7 @@ before_end other there same = elim (member_cases main_entry other [] there) [
   | inr later ↦ no_member other later
 ]
   where
-    not_main : path_of (codes "m") main_entry.0 ≡ codes "end.org" → ⊥
+    not_main : path_of (codes "m") Main ≡ codes "end.org" → ⊥
     not_main e = cc e
 
 abbrev a_file : Dependency

@@ -10,7 +10,7 @@ use Rattle.page.specs.BuildList.{IsSelected, entry_of, main_entry, path_cmp}
 use Rattle.page.specs.Fields.{Dependency}
 use Rattle.page.specs.Files.{main_in}
 use Rattle.page.specs.Graph.{IsEdgeEnd}
-use Rattle.page.specs.Main.{Main, is_pruned_by, without_excluded}
+use Rattle.page.specs.Main.{Main, is_pruned_by, without_excluded, replacement_in}
 use Rattle.page.specs.ModuleVersion.{ModuleVersion, pair_cmp, pair_eq}
 use Rattle.page.specs.Queries.{AreFound}
 use Rattle.page.specs.Reading.{file_of, is_askable}
@@ -445,7 +445,7 @@ module _ (content : List ℕ) (text : Option (List ℕ)) (main : Main) (sums : O
   ]
 
   pub rows_from : (selected : List ModuleVersion) → Pairs (λ (a b : ModuleVersion). path_cmp a b ≡ Less) selected
-      → is_selection main tops deep selected ≡ true → AreRows run (main_entry ∷ map (entry_of main.replaces) selected)
+      → is_selection main tops deep selected ≡ true → AreRows run (main_entry ∷ map (entry_of (replacement_in main)) selected)
   rows_from selected ascend h =
       let parts = and_parts (every (is_chosen main ends) selected) (every (is_placed main ends selected) ends) h in
       record {

@@ -2,6 +2,7 @@ pub mod Asked
 pub mod BuildList
 pub mod ClassWords
 pub mod Directives
+pub mod Entries
 pub mod Faults
 pub mod Fields
 pub mod Files

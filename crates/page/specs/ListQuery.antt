@@ -2,7 +2,8 @@
 use Rattle.std.specs.Prelude.{◌≡◌, ℕ, List, [], Option, Some, None, ◌++◌, codes, take}
 use Rattle.page.specs.Main.{Main}
 use Rattle.page.specs.Types.{Step, Main as FromMain, Of}
-use Rattle.page.specs.BuildList.{Entry, IsRestAfter}
+use Rattle.page.specs.BuildList.{IsRestAfter}
+use Rattle.page.specs.Entries.{Entry}
 use Rattle.page.specs.Run.{AreRows}
 use Rattle.page.specs.Outcome.{Outcome, text_outcome}
 use Rattle.std.specs.List.{flat_map}

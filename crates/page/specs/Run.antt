@@ -8,7 +8,8 @@ use Rattle.page.specs.Asked.{Name, Reply, answer_in, same_name}
 use Rattle.page.specs.Types.{Sums, Class, NotFetchable, WrongPath, Fault, Step, Main as FromMain, Of}
 use Rattle.page.specs.Main.{Main, is_pruned_by, replacement_in, without_excluded}
 use Rattle.page.specs.Reading.{IsFileReading, file_of, is_askable, is_right_path}
-use Rattle.page.specs.BuildList.{Entry, IsBuildList}
+use Rattle.page.specs.BuildList.{IsBuildList}
+use Rattle.page.specs.Entries.{Entry}
 
 -- A run: what the main file says, what the go.sum says if there is one, and the answer to each name that the store was
 -- asked for.
@@ -79,7 +80,7 @@ pub record AreFaults (run : Run) (faults : List Fault) : Type 0 where
 -- The build list: the main module, followed by each other path that an edge leads to, once, in path order, at
 -- the greatest version.
 abbrev pub AreRows : Run → List Entry → Type 0
-AreRows run rows = IsBuildList run.main.path run.main.replaces (IsEdge run) rows
+AreRows run rows = IsBuildList run.main.path (replacement_in run.main) (IsEdge run) rows
 
 -- The name is that of the file of an opened module, and may be asked for.
 abbrev pub IsNeeded : Run → Name → Type 0

@@ -4,7 +4,7 @@
 
 ghost use Rattle.gomod_run.specs.QueryLaws.{BuildListIsListed, ListIsBuildList, OneGraph, OneRefusal, PartsOfOneList, PrintedChainIsShortest, PrintedPagesJoin};
 ghost use Rattle.gm_graph.specs.declared.fault.Fault.{Fault};
-ghost use Rattle.gm_graph_select.specs.BuildList.{Entry};
+ghost use Rattle.gm_graph.specs.Entries.{Entry};
 ghost use Rattle.gm_graph_select.specs.declared.step.Edge.{Edge};
 ghost use Rattle.gm_graph_select.specs.declared.step.Step.{Step};
 ghost use Rattle.gm_name.specs.Path.{IsPath};

@@ -4,7 +4,7 @@
 ghost use Rattle.std.specs.Prelude.{◌≡◌, ◌++◌, ◌-◌, IfOk, OnOk, option_map, []};
 ghost use Rattle.std.specs.String.{string_bytes};
 ghost use Rattle.gm_file.specs.Views.{right_view};
-ghost use Rattle.gm_graph_select.specs.BuildList.{entries_of_rows, entry_of_row};
+ghost use Rattle.gm_graph.specs.Entries.{entries_of_rows, entry_of_row};
 ghost use Rattle.gomod_run.specs.ListQuery.{entry_line, up_to, list_text, module_text, replacement_suffix, replacement_text, PrintsRows};
 ghost use Rattle.std.specs.Option.{option_copied};
 ghost use Rattle.gm_file.specs.Main.{main_of};
@@ -12,8 +12,8 @@ ghost use Rattle.gomod_run.specs.Outcome.{OrNoMemory, outcome_view, text_outcome
 
 use crate::reports::report::Report;
 use gm_file::{MainFile, Right};
-use gm_graph::Loaded;
-use gm_graph_select::{Row, Rows, Step};
+use gm_graph::{Loaded, Row, Rows};
+use gm_graph_select::Step;
 use gm_name::{ModPath, NoMemory};
 use std::alloc::Global;
 

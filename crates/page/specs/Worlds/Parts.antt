@@ -1,7 +1,8 @@
 -- What single definitions say in these worlds. A lemma that all worlds share would hide which of them was changed.
 use Rattle.std.specs.Prelude.{◌≡◌, ◌⊎◌, List, [], ◌∷◌, Some, None, Result, Ok, Err, codes}
 use Rattle.page.specs.Asked.{Name, Reply, absent, answer_in, bytes, mod_file, too_long}
-use Rattle.page.specs.BuildList.{Entry, HasEntryFor, IsRestAfter, IsSelected, main_entry}
+use Rattle.page.specs.BuildList.{HasEntryFor, IsRestAfter, IsSelected, main_entry}
+use Rattle.page.specs.Entries.{Entry}
 use Rattle.page.specs.Directives.{Module}
 use Rattle.page.specs.Fields.{Dependency}
 use Rattle.page.specs.Files.{end_one, local_file, low_nine, low_ten, main_file, mid_nine, mid_ten, old_file, own_one, top_file, top_one, top_text}

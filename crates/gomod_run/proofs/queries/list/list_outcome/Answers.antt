@@ -1,6 +1,6 @@
 use Rattle.std.proofs.Common.{inl, refl}
 use Rattle.gm_file.specs.Main.{main_of}
-use Rattle.gm_graph_select.specs.BuildList.{entries_of_rows}
+use Rattle.gm_graph.specs.Entries.{entries_of_rows}
 use Rattle.gomod_run.specs.ListQuery.{path_unlisted}
 use Rattle.gomod_run.proofs.CommandOutcomes.{rest_printed}
 use Rattle.gomod_run.proofs.queries.list.list_outcome.Goals as goal

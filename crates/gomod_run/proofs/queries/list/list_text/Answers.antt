@@ -1,5 +1,5 @@
 use Rattle.std.proofs.Common.{string_bytes, ◌++◌, ap, sym, ◌∙◌}
-use Rattle.gm_graph_select.specs.BuildList.{entries_of_rows, entry_of_row}
+use Rattle.gm_graph.specs.Entries.{entries_of_rows, entry_of_row}
 use Rattle.gomod_run.specs.ListQuery.{up_to, list_text}
 use Rattle.gomod_run.proofs.TextLines.{ended, entry_more, none_more}
 use Rattle.gomod_run.proofs.queries.list.list_text.Goals as goal

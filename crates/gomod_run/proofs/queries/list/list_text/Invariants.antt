@@ -1,5 +1,5 @@
 use Rattle.std.proofs.Common.{◌≡◌, ◌++◌, string_bytes}
-use Rattle.gm_graph_select.specs.BuildList.{entries_of_rows}
+use Rattle.gm_graph.specs.Entries.{entries_of_rows}
 use Rattle.gomod_run.specs.ListQuery.{up_to, list_text}
 use Rattle.gomod_run.proofs.queries.list.list_text.Given as goal
 
