@@ -14,10 +14,10 @@ use Rattle.gm_graph_select.specs.declared.step.Step.TheVariants.{Main, Of}
 use Rattle.gm_graph_select.specs.declared.step.Edge.{Edge}
 use Rattle.gm_graph_select.specs.declared.searching.Visit.{Visit}
 use Rattle.gm_graph_select.specs.Adjacency.{GraphView}
-use Rattle.gm_graph_select.specs.Graph.{Edges, edge, step_cmp}
+use Rattle.gm_graph_select.specs.Graph.{Edges, edge, step_cmp, among}
 use Rattle.gm_graph_select.specs.Chains.{IsChain, IsLevel, IsPredecessor, IsReached, Leads, along, at_main, begins, goes_on}
 use Rattle.gm_graph_select.specs.Private.Marking.{AreMarked, HasMark}
-use Rattle.gm_graph_select.specs.Private.Numbering.{AreInList, AreLeaving, HasList, IsGraph, edge_leaving, edges_leaving, graph_edges, step_at, steps_of}
+use Rattle.gm_graph_select.specs.Private.Numbering.{AreInList, AreLeaving, HasList, IsGraph, edge_leaving, edges_leaving, step_at, steps_of}
 use Rattle.gm_graph_select.specs.Order.{HaveSame}
 use Rattle.gm_graph_select.specs.Private.Searching.{ArePassed, AreTraced, AreTried, IsVisitDue, IsFollowed, IsFoundEnd, IsNextEdge, IsSearchedTo, IsTraced, IsTracedTo, IsTurn, IsVisitedNext, IsWithin, State, first_state, numbers_visited, visit_at, visited_step}
 use Rattle.gm_graph_select.proofs.Ascending.{member_head, no_member, one_member}
@@ -119,7 +119,7 @@ last_visit steps visits v all p is at = (
 
 module _ (G : GraphView) (goal : ModuleVersion) (level : ℕ) (before : List Bool) (tried : List Edge) where
   abbrev E : Edges
-  E = graph_edges G
+  E = among G.edges
 
   abbrev steps : List Step
   steps = steps_of G
@@ -287,9 +287,9 @@ one_more G number done ranks i rank below is =
 -- ---- one more visit of a level
 
 pub one_tried : (G : GraphView) (v : Visit) (more : List Edge)
-    → ((y : ModuleVersion) → graph_edges G (step_at (steps_of G) v.number) y
+    → ((y : ModuleVersion) → among G.edges (step_at (steps_of G) v.number) y
     → Contains more (edge (step_at (steps_of G) v.number) y)) → AreTried G (v ∷ []) more
-one_tried G v more all w h y e = subst (λ (u : Visit). graph_edges G (step_at (steps_of G) u.number) y
+one_tried G v more all w h y e = subst (λ (u : Visit). among G.edges (step_at (steps_of G) u.number) y
     → Contains more (edge (step_at (steps_of G) u.number) y)) (one_member v w h) (all y) e
 
 pub tried_more : (G : GraphView) (due : List Visit) (i : ℕ) (v : Visit) (tried more : List Edge) → i < length due
@@ -302,21 +302,21 @@ tried_more G due i v tried more below is old new =
       | inr last ↦ Contains-append_right tried more (edge (step_at (steps_of G) w.number) y) (new w (0, omega arith, last) y e)
     ])
 
-module _ (G : GraphView) (goal : ModuleVersion) (level : ℕ) (start : State) (due : List Visit) (are : IsGraph G) (h : IsSearchedTo G goal level start due) where
+module _ {G : GraphView} {goal : ModuleVersion} {level : ℕ} {start : State} {due : List Visit} (are : IsGraph G) (h : IsSearchedTo G goal level start due) where
   -- A step of the level with an edge is that of a visit that is due.
-  visit_to : (s : Step) (y : ModuleVersion) → graph_edges G s y → IsLevel (graph_edges G) s level
+  visit_to : (s : Step) (y : ModuleVersion) → among G.edges s y → IsLevel (among G.edges) s level
       → (v : Visit) × Contains due v × (step_at (steps_of G) v.number ≡ s)
   visit_to s y e l =
       let (i, inside, at) = step_number G are s y e in
-      let (v, there, number) = h.listed i inside (subst (λ (t : Step). IsLevel (graph_edges G) t level) (sym at) l) in
+      let (v, there, number) = h.listed i inside (subst (λ (t : Step). IsLevel (among G.edges) t level) (sym at) l) in
       (v, there, ap (step_at (steps_of G)) number ∙ at)
 
   -- its edge, if those of these visits were followed
   tried_edge : (visits : List Visit) (tried : List Edge) (v : Visit) (s : Step) (y : ModuleVersion)
-      → AreTried G visits tried → Contains visits v → step_at (steps_of G) v.number ≡ s → graph_edges G s y
+      → AreTried G visits tried → Contains visits v → step_at (steps_of G) v.number ≡ s → among G.edges s y
       → Contains tried (edge s y)
   tried_edge visits tried v s y all there same e = subst (λ (t : Step). Contains tried (edge t y)) same
-      (all v there y (subst (λ (t : Step). graph_edges G t y) (sym same) e))
+      (all v there y (subst (λ (t : Step). among G.edges t y) (sym same) e))
 
   -- No edge was followed yet.
   pub level_begins : IsFollowed G goal level start.found [] start
@@ -330,11 +330,11 @@ module _ (G : GraphView) (goal : ModuleVersion) (level : ℕ) (start : State) (d
   }
 
   -- A visit of the level is due after those before it.
-  pub due_next : (state : State) (tried : List Edge) (i : ℕ) (v : Visit) → i < length due → v ≡ get_or due i v
-      → AreTried G (take i due) tried → IsTraced (graph_edges G) (steps_of G) state.visits (length state.visits) v
+  pub due_next : {state : State} {tried : List Edge} (i : ℕ) (v : Visit) → i < length due → v ≡ get_or due i v
+      → AreTried G (take i due) tried → IsTraced (among G.edges) (steps_of G) state.visits (length state.visits) v
       → IsFollowed G goal level start.found tried state
       → IsVisitedNext G goal level start.found tried state v
-  due_next state tried i v below is all traced f = record {
+  due_next {tried} i v below is all traced f = record {
     turn = record { on_level = (h.each v member).on_level; lower = lower; full = λ j inside w. (h.found j inside).1 w };
     far = h.far;
     traced = traced;
@@ -344,7 +344,7 @@ module _ (G : GraphView) (goal : ModuleVersion) (level : ℕ) (start : State) (d
       member : Contains due v
       member = (i, below, sym is)
 
-      lower : (t : Step) (y : ModuleVersion) → graph_edges G t y → IsLevel (graph_edges G) t level
+      lower : (t : Step) (y : ModuleVersion) → among G.edges t y → IsLevel (among G.edges) t level
           → is_lt (step_cmp t (step_at (steps_of G) v.number)) ≡ true → Contains tried (edge t y)
       lower t y e l low =
           let (w, (p, room, found), same) = visit_to t y e l in
@@ -363,60 +363,60 @@ module _ (G : GraphView) (goal : ModuleVersion) (level : ℕ) (start : State) (d
           ]
 
   -- If a level has no steps, nothing more is found.
-  pub not_reached : due ≡ [] → IsReached (graph_edges G) (Of goal) → ⊥
-  not_reached empty (n, leads) = all_within (graph_edges G) level (λ s y l e.
+  pub not_reached : due ≡ [] → IsReached (among G.edges) (Of goal) → ⊥
+  not_reached empty (n, leads) = all_within (among G.edges) level (λ s y l e.
       let (v, there, same) = visit_to s y e l in
       no_member v (subst (λ (vs : List Visit). Contains vs v) empty there)) (Of goal) n leads h.far
 
   -- ---- one more level
 
-  module _ (tried : List Edge) (state : State) (all : AreTried G due tried) (f : IsFollowed G goal level start.found tried state) where
-    found_end : (s : Step) (y : ModuleVersion) → IsLevel (graph_edges G) s level → graph_edges G s y → IsFoundEnd G goal state.found y
+  module _ {tried : List Edge} {state : State} (all : AreTried G due tried) (f : IsFollowed G goal level start.found tried state) where
+    found_end : (s : Step) (y : ModuleVersion) → IsLevel (among G.edges) s level → among G.edges s y → IsFoundEnd G goal state.found y
     found_end s y l e = let (v, there, same) = visit_to s y e l in f.ends (edge s y) (tried_edge due tried v s y all there same e)
 
-    found_old : (i : ℕ) → i < length (steps_of G) → (s : Step) → step_at (steps_of G) i ≡ s → IsWithin (graph_edges G) level s → HasMark state.found i
-    found_old i inside s is w = (f.found.each i).1 (inl ((h.found i inside).1 (subst (λ (t : Step). IsWithin (graph_edges G) level t) (sym is) w)))
+    found_old : (i : ℕ) → i < length (steps_of G) → (s : Step) → step_at (steps_of G) i ≡ s → IsWithin (among G.edges) level s → HasMark state.found i
+    found_old i inside s is w = (f.found.each i).1 (inl ((h.found i inside).1 (subst (λ (t : Step). IsWithin (among G.edges) level t) (sym is) w)))
 
-    found_next : (i : ℕ) → i < length (steps_of G) → IsWithin (graph_edges G) (suc level) (step_at (steps_of G) i) → HasMark state.found i
+    found_next : (i : ℕ) → i < length (steps_of G) → IsWithin (among G.edges) (suc level) (step_at (steps_of G) i) → HasMark state.found i
     found_next i inside w = true_from_ne_false (get_or state.found i false) (λ none. go none (step_at (steps_of G) i) refl)
       where
         go : get_or state.found i false ≡ false → (s : Step) → step_at (steps_of G) i ≡ s → ⊥
         go none Main is = false≢true (sym none ∙ found_old i inside Main is (0, omega arith, at_main))
-        go none (Of y) is = not_further (graph_edges G) level y
+        go none (Of y) is = not_further (among G.edges) level y
             (λ g. false≢true (sym none ∙ found_old i inside (Of y) is g))
             (λ s l e. false≢true (sym none ∙ (found_end s y l e).end i inside is))
-            (subst (λ (s : Step). IsWithin (graph_edges G) (suc level) s) is w)
+            (subst (λ (s : Step). IsWithin (among G.edges) (suc level) s) is w)
 
     -- A step that was found was found before, or is that of a visit to the next level.
     found_by : (i : ℕ) → HasMark state.found i → HasMark start.found i ⊎ ((v : Visit) × Contains state.next v × (v.number ≡ i))
     found_by i g = elim ((f.found.each i).0 g) [ inl old ↦ inl old | inr new ↦ inr (from_mapped (λ (v : Visit). v.number) state.next i new) ]
 
-    pub level_more : (next : List Visit) → HaveSame state.next next → IsNonDecreasingBy (λ (v : Visit). v.number) next
+    pub level_more : {next : List Visit} → HaveSame state.next next → IsNonDecreasingBy (λ (v : Visit). v.number) next
         → IsSearchedTo G goal (suc level) (record state { next = [] }) next
-    level_more next same up = record {
+    level_more {next} same up = record {
       size = f.found.count ∙ h.size;
       found = λ i inside. ((λ g. within i inside g), (λ w. found_next i inside w));
       listed = dues;
       each = λ v there. f.each v ((same v).1 there);
       ascending = up;
       visits = f.visits;
-      far = not_further (graph_edges G) level goal h.far (λ s l e. (found_end s goal l e).miss refl);
+      far = not_further (among G.edges) level goal h.far (λ s l e. (found_end s goal l e).miss refl);
       none = refl;
       passed = f.passed;
     }
       where
-        within : (i : ℕ) → i < length (steps_of G) → HasMark state.found i → IsWithin (graph_edges G) (suc level) (step_at (steps_of G) i)
+        within : (i : ℕ) → i < length (steps_of G) → HasMark state.found i → IsWithin (among G.edges) (suc level) (step_at (steps_of G) i)
         within i inside g = elim (found_by i g) [
           | inl old ↦ let (k, low, l) = (h.found i inside).0 old in (k, omega (arith, low), l)
           | inr (v, there, number) ↦ (
             suc level,
             omega arith,
-            subst (λ (n : ℕ). Leads (graph_edges G) (step_at (steps_of G) n) (suc level)) number
+            subst (λ (n : ℕ). Leads (among G.edges) (step_at (steps_of G) n) (suc level)) number
                 (f.each v there).on_level.leads,
           )
         ]
 
-        dues : (i : ℕ) → i < length (steps_of G) → IsLevel (graph_edges G) (step_at (steps_of G) i) (suc level) → (v : Visit) × Contains next v × (v.number ≡ i)
+        dues : (i : ℕ) → i < length (steps_of G) → IsLevel (among G.edges) (step_at (steps_of G) i) (suc level) → (v : Visit) × Contains next v × (v.number ≡ i)
         dues i inside l = elim (found_by i (found_next i inside (suc level, omega arith, l.leads))) [
           | inl old ↦ absurd (let (k, low, g) = (h.found i inside).0 old in let high = l.least k g in omega (arith, low, high))
           | inr (v, there, number) ↦ (v, (same v).0 there, number)
@@ -432,17 +432,17 @@ first_level G goal lists due are some main is = subst (λ (d : List Visit). IsSe
   found = λ i inside. (
     (λ g. elim ((marked.each i).0 g) [
       | inl old ↦ absurd (none_marked (length (steps_of G)) i old)
-      | inr first ↦ subst (λ (n : ℕ). IsWithin (graph_edges G) 0 (step_at (steps_of G) n)) (one_member 0 i first)
-          (subst (λ (s : Step). IsWithin (graph_edges G) 0 s) (sym main) (0, omega arith, at_main))
+      | inr first ↦ subst (λ (n : ℕ). IsWithin (among G.edges) 0 (step_at (steps_of G) n)) (one_member 0 i first)
+          (subst (λ (s : Step). IsWithin (among G.edges) 0 s) (sym main) (0, omega arith, at_main))
     ]),
-    (λ w. (marked.each i).1 (inr (0, omega arith, sym (only i inside (within_none (graph_edges G) (step_at (steps_of G) i) w))))),
+    (λ w. (marked.each i).1 (inr (0, omega arith, sym (only i inside (within_none (among G.edges) (step_at (steps_of G) i) w))))),
   );
-  listed = λ i inside l. (v, (0, omega arith, refl), sym (only i inside (within_none (graph_edges G) (step_at (steps_of G) i) (0, omega arith, l.leads))));
+  listed = λ i inside l. (v, (0, omega arith, refl), sym (only i inside (within_none (among G.edges) (step_at (steps_of G) i) (0, omega arith, l.leads))));
   each = λ w there. subst (λ (u : Visit). IsVisitDue G 0 [] u) (one_member v w there)
-      (record { inside = some; on_level = subst (λ (s : Step). IsLevel (graph_edges G) s 0) (sym main) (main_level (graph_edges G)); traced = inl main });
+      (record { inside = some; on_level = subst (λ (s : Step). IsLevel (among G.edges) s 0) (sym main) (main_level (among G.edges)); traced = inl main });
   ascending = IsNonDecreasingBy-short (λ (u : Visit). u.number) (v ∷ []) (omega arith);
   visits = record { inside = λ k below. absurd (omega (arith, below)); traced = λ k below. absurd (omega (arith, below)) };
-  far = λ w. absurd (let same : Of goal ≡ Main = within_none (graph_edges G) (Of goal) w in cc same);
+  far = λ w. absurd (let same : Of goal ≡ Main = within_none (among G.edges) (Of goal) w in cc same);
   none = refl;
   passed = λ number list inside has mark y e. absurd (none_marked lists list mark);
 })
@@ -460,10 +460,10 @@ first_level G goal lists due are some main is = subst (λ (d : List Visit). IsSe
     only i inside at = same_number (steps_of G) (steps_ascend G are) i 0 inside some (at ∙ sym main)
 
 -- Nothing leads to a vertex that the graph has not.
-pub no_vertex : (G : GraphView) (goal : ModuleVersion) → IsGraph G → (Contains G.vertices goal → ⊥) → IsReached (graph_edges G) (Of goal) → ⊥
+pub no_vertex : (G : GraphView) (goal : ModuleVersion) → IsGraph G → (Contains G.vertices goal → ⊥) → IsReached (among G.edges) (Of goal) → ⊥
 no_vertex G goal are none (n, leads) = last n leads
   where
-    last : (n : ℕ) → Leads (graph_edges G) (Of goal) n → ⊥
+    last : (n : ℕ) → Leads (among G.edges) (Of goal) n → ⊥
     last _ (along {s} {n = k} l e) = none (are.ends (edge s goal) e)
 
 -- A step that is no vertex is the main module.

@@ -2,11 +2,9 @@
 use Rattle.std.proofs.Common.{◌≡◌, ◌≢◌, ℕ, Bool, true, false, cond, List, [], ◌∷◌, ◌++◌, Option, Some, None, Contains, append_assoc, append-nil, ap, ◌∙◌, sym, refl, subst, inl, inr, ◌⊎◌, arith}
 use Rattle.std.specs.declared.cmp.Ordering.{Ordering}
 use Rattle.std.specs.declared.cmp.Ordering.TheVariants.{Less, Equal, Greater}
-use Rattle.std.specs.Ordering.{is_eq, is_gt, nat_cmp, ordering_reverse}
-use Rattle.std.specs.Cmp.Lexicographic.{slice_cmp}
+use Rattle.std.specs.Ordering.{is_gt, ordering_reverse}
 use Rattle.std.specs.Str.{bytes_eq}
 use Rattle.std.proofs.lemmas.Bool.{false≢true}
-use Rattle.std.proofs.lemmas.Map.Text.{is_eq-slice_cmp}
 use Rattle.std.proofs.lemmas.Slice.Eq.{bytes_eq-Decides}
 use Rattle.std.proofs.lemmas.List.Elements.{Contains-append_left, Contains-push, Contains-push_cases}
 use Rattle.gm_name.specs.Version.{version_cmp}
@@ -81,35 +79,18 @@ selected_kept main ends e x low is = record {
   ];
 }
 
--- A vertex of the main module's path changes nothing.
-pub greatest_main : (main : List ℕ) (ends : List ModuleVersion) (path : List ℕ) (e : ModuleVersion)
-    (o : Option ModuleVersion) → e.0 ≡ main → IsGreatest main (ending ends) path o
+-- A vertex of another path, of the main module's, or that is not above the greatest of its path changes nothing.
+greatest_kept : (main : List ℕ) (ends : List ModuleVersion) (path : List ℕ) (e : ModuleVersion) (o : Option ModuleVersion)
+    → (e.0 ≡ path → (path ≡ main) ⊎ (is_above e o ≡ false)) → IsGreatest main (ending ends) path o
     → IsGreatest main (ending (ends ++ e ∷ [])) path o
-greatest_main main ends path e None is g = λ y h same.
-    elim (end_cases ends e y h) [
-      | inl there ↦ g y there same
-      | inr new ↦ sym same
-          ∙ ap (λ (z : ModuleVersion). z.0) (sym new) ∙ is
-    ]
-greatest_main main ends path e (Some x) is g = (g.0, selected_kept main ends e x (λ same. absurd (g.1.not_main (sym same ∙ is))) g.1)
-
--- A vertex of another path changes nothing.
-greatest_other : (main : List ℕ) (ends : List ModuleVersion) (path : List ℕ) (e : ModuleVersion)
-    (o : Option ModuleVersion) → e.0 ≢ path → IsGreatest main (ending ends) path o
-    → IsGreatest main (ending (ends ++ e ∷ [])) path o
-greatest_other main ends path e None other g = λ y h same.
-    elim (end_cases ends e y h) [
-      | inl there ↦ g y there same
-      | inr new ↦ absurd
-          (other (ap (λ (z : ModuleVersion). z.0) new ∙ same))
-    ]
-greatest_other main ends path e (Some x) other g = (g.0, selected_kept main ends e x (λ same. absurd (other (same ∙ g.0))) g.1)
-
--- A vertex that is not above the greatest so far changes nothing.
-greatest_beaten : (main : List ℕ) (ends : List ModuleVersion) (e : ModuleVersion) (o : Option ModuleVersion)
-    → is_above e o ≡ false → IsGreatest main (ending ends) e.0 o → IsGreatest main (ending (ends ++ e ∷ [])) e.0 o
-greatest_beaten main ends e None low g = absurd (false≢true (sym low))
-greatest_beaten main ends e (Some x) low g = (g.0, selected_kept main ends e x (λ same. low) g.1)
+greatest_kept main ends path e None low g = λ y h same. elim (end_cases ends e y h) [
+  | inl there ↦ g y there same
+  | inr new ↦ elim (low (ap (λ (z : ModuleVersion). z.0) new ∙ same)) [ inl is ↦ is | inr below ↦ absurd (false≢true (sym below)) ]
+]
+greatest_kept main ends path e (Some x) low g = (
+  g.0,
+  selected_kept main ends e x (λ same. elim (low (same ∙ g.0)) [ inl is ↦ absurd (g.1.not_main (g.0 ∙ is)) | inr below ↦ below ]) g.1,
+)
 
 -- A vertex that is above all so far is the greatest.
 greatest_new : (main : List ℕ) (ends : List ModuleVersion) (e : ModuleVersion) (o : Option ModuleVersion) → e.0 ≢ main
@@ -125,34 +106,16 @@ greatest_new main ends e o not_main above g = (refl, record { not_main = not_mai
     top (Some x) above g y h same = elim (end_cases ends e y h)
         [ inl there ↦ below_more y.1 x.1 e.1 (g.1.greatest y there (same ∙ sym g.0)) above | inr new ↦ itself y new ]
 
--- The greatest versions stay if a vertex is not above that of its path.
-pub greatest_stays : (main : List ℕ) (ends : List ModuleVersion) (path : List ℕ) (e : ModuleVersion)
-    (best : List ℕ → Option ModuleVersion) → is_above e (best e.0) ≡ false
-    → IsGreatest main (ending ends) path (best path) → IsGreatest main (ending (ends ++ e ∷ [])) path (best path)
-greatest_stays main ends path e best low g = go (bytes_eq e.0 path) refl
-  where
-    go : (b : Bool) → bytes_eq e.0 path ≡ b → IsGreatest main (ending (ends ++ e ∷ [])) path (best path)
-    go true is =
-        let same = (bytes_eq-Decides e.0 path).0 is in
-        subst (λ (p : List ℕ). IsGreatest main (ending (ends ++ e ∷ [])) p (best p)) same
-        (greatest_beaten main ends e (best e.0) low (subst (λ (p : List ℕ). IsGreatest main (ending ends) p (best p)) (sym same) g))
-    go false is = greatest_other main ends path e (best path) (λ same. false≢true (sym is ∙ (bytes_eq-Decides e.0 path).1 same)) g
-
--- If it is above, they are those of the map with the vertex put in.
-greatest_insert : (main : List ℕ) (ends : List ModuleVersion) (path : List ℕ) (e : ModuleVersion)
-    (old new : List ℕ → Option ModuleVersion) → ((q : List ℕ)
-    → new q ≡ cond (is_eq (slice_cmp nat_cmp e.0 q)) (Some e) (old q)) → e.0 ≢ main → is_above e (old e.0) ≡ true
-    → IsGreatest main (ending ends) path (old path) → IsGreatest main (ending (ends ++ e ∷ [])) path (new path)
-greatest_insert main ends path e old new puts not_main above g =
-    subst (λ (o : Option ModuleVersion). IsGreatest main (ending (ends ++ e ∷ [])) path o) (sym (puts path))
-    (go (is_eq (slice_cmp nat_cmp e.0 path)) refl)
-  where
-    go : (b : Bool) → is_eq (slice_cmp nat_cmp e.0 path) ≡ b → IsGreatest main (ending (ends ++ e ∷ [])) path (cond b (Some e) (old path))
-    go true is =
-        let same = (bytes_eq-Decides e.0 path).0 (sym (is_eq-slice_cmp e.0 path) ∙ is) in
-        subst (λ (p : List ℕ). IsGreatest main (ending (ends ++ e ∷ [])) p (Some e)) same
-        (greatest_new main ends e (old e.0) not_main above (subst (λ (p : List ℕ). IsGreatest main (ending ends) p (old p)) (sym same) g))
-    go false is = greatest_other main ends path e (old path) (λ same. false≢true (sym is ∙ is_eq-slice_cmp e.0 path ∙ (bytes_eq-Decides e.0 path).1 same)) g
+-- If it is above, it is put in for its path.
+greatest_insert : (main : List ℕ) (ends : List ModuleVersion) (path : List ℕ) (e : ModuleVersion) (best : List ℕ → Option ModuleVersion)
+    → e.0 ≢ main → is_above e (best e.0) ≡ true → IsGreatest main (ending ends) path (best path)
+    → (b : Bool) → bytes_eq e.0 path ≡ b → IsGreatest main (ending (ends ++ e ∷ [])) path (cond b (Some e) (best path))
+greatest_insert main ends path e best not_main above g true is =
+    let same = (bytes_eq-Decides e.0 path).0 is in
+    subst (λ (p : List ℕ). IsGreatest main (ending (ends ++ e ∷ [])) p (Some e)) same
+    (greatest_new main ends e (best e.0) not_main above (subst (λ (p : List ℕ). IsGreatest main (ending ends) p (best p)) (sym same) g))
+greatest_insert main ends path e best not_main above g false is =
+    greatest_kept main ends path e (best path) (λ same. absurd (false≢true (sym is ∙ (bytes_eq-Decides e.0 path).1 same))) g
 
 -- ---- each path of the vertices has a greatest version
 
@@ -164,15 +127,17 @@ one_best main done e (best, g) = of_main (bytes_eq e.0 main) refl
   where
     above : (b : Bool) → is_above e (best e.0) ≡ b → e.0 ≢ main → Bests main (done ++ e ∷ [])
     above true is apart = (
-      (λ q. cond (is_eq (slice_cmp nat_cmp e.0 q)) (Some e) (best q)),
-      λ path.
-          greatest_insert main done path e best (λ q. cond (is_eq (slice_cmp nat_cmp e.0 q)) (Some e) (best q))
-          (λ q. refl) apart is (g path),
+      (λ path. cond (bytes_eq e.0 path) (Some e) (best path)),
+      λ path. greatest_insert main done path e best apart is (g path) (bytes_eq e.0 path) refl,
     )
-    above false is apart = (best, λ path. greatest_stays main done path e best is (g path))
+    above false is apart = (
+      best,
+      λ path. greatest_kept main done path e (best path)
+          (λ same. inr (subst (λ (p : List ℕ). is_above e (best p) ≡ false) same is)) (g path),
+    )
 
     of_main : (b : Bool) → bytes_eq e.0 main ≡ b → Bests main (done ++ e ∷ [])
-    of_main true is = (best, λ path. greatest_main main done path e (best path) ((bytes_eq-Decides e.0 main).0 is) (g path))
+    of_main true is = (best, λ path. greatest_kept main done path e (best path) (λ same. inl (sym same ∙ (bytes_eq-Decides e.0 main).0 is)) (g path))
     of_main false is = above (is_above e (best e.0)) refl (λ same. false≢true (sym is ∙ (bytes_eq-Decides e.0 main).1 same))
 
 all_bests : (main : List ℕ) (done rest : List ModuleVersion) → Bests main done → Bests main (done ++ rest)

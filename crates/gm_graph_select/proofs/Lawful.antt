@@ -1,5 +1,5 @@
 -- The laws hold.
-use Rattle.std.proofs.Common.{◌≡◌, ◌≢◌, ◌<◌, ◌≤◌, ℕ, zero, suc, false, List, [], ◌∷◌, ◌++◌, length, take, drop, get_or, map, Option, Some, None, Contains, append_assoc, ap, ◌∙◌, sym, refl, subst, inl, inr, ◌⊎◌, arith, length-append, length-drop}
+use Rattle.std.proofs.Common.{◌≡◌, ◌≢◌, ◌<◌, ◌≤◌, ℕ, zero, suc, false, List, [], ◌∷◌, ◌++◌, length, take, drop, get_or, map, Option, Some, None, Contains, append_assoc, ap, ◌∙◌, sym, refl, subst, inl, inr, arith, length-append, length-drop}
 use Rattle.std.specs.Prelude.{AllPairs, All}
 use Rattle.std.specs.Cmp.{IsTotalOrder, on_total}
 use Rattle.std.specs.Cmp.Lexicographic.{nat_list_cmp_total, slice_cmp}
@@ -24,6 +24,7 @@ use Rattle.gm_graph_select.specs.Laws.{Entry, ArePages, no_more, one_more, entri
 use Rattle.gm_graph_select.proofs.Ascending.{less_itself, member_cases, member_head, member_tail, pairs_split, same_lists}
 use Rattle.gm_graph_select.proofs.Greatest.{IsGreatest, bests, ending}
 use Rattle.gm_graph_select.proofs.Same.{EndAlike, alike_selected, ending_ends, ends_alike, ends_of}
+use Rattle.gm_graph_select.proofs.RankedLists.{from_mapped, in_mapped}
 use Rattle.gm_graph_select.proofs.RestRows.{one_at, one_entry}
 
 path_total : IsTotalOrder path_cmp
@@ -37,36 +38,18 @@ nowhere = ([], [])
 module _ {R : Type 0} {main : List ℕ} {replaces : ModuleVersion → Option R} {E : Edges} {entries : List (Entry R)} (list : IsBuildList main replaces E entries) where
   -- The vertex of a row is selected.
   pub row_selected : (x : ModuleVersion) (right : Option R) → Contains entries (Of x, right) → IsSelected main E x
-  row_selected x right there = (list.each x).0 (cases (member_cases main_entry (Of x, right)
-      (map (entry_of replaces) list.selected) (subst (λ es. Contains es (Of x, right)) list.entries_are
-      there)))
-    where
-      same_vertex : (v : ModuleVersion) → Of v ≡ Of x → v ≡ x
-      same_vertex v e = cc e
-
-      cases : (main_entry ≡ (Of x, right)) ⊎ Contains (map (entry_of replaces) list.selected) (Of x, right) → Contains list.selected x
-      cases (inl is) = absurd (let first : Main ≡ Of x = ap (λ e. e.0) is in cc first)
-      cases (inr (k, below, at)) =
-          let inside : k < length list.selected = rw length-map at below in (
-            k,
-            inside,
-            same_vertex (get_or list.selected k x)
-                (ap (λ e. e.0) (sym (get_or-map (entry_of replaces) list.selected k x (Of x, right) inside)
-                ∙ at)),
-          )
+  row_selected x right there = elim (member_cases main_entry (Of x, right) (map (entry_of replaces) list.selected) (rw list.entries_are at there)) [
+    | inl is ↦ absurd (let first : Main ≡ Of x = ap (λ e. e.0) is in cc first)
+    | inr later ↦ let (y, inside, same) = from_mapped (entry_of replaces) list.selected (Of x, right) later in
+        let step : Of y ≡ Of x = ap (λ e. e.0) same in
+        let one : y ≡ x = cc step in
+        (list.each x).0 (rw one at inside)
+  ]
 
   -- Each selected vertex has a row.
   pub selected_row : (x : ModuleVersion) → IsSelected main E x → Contains entries (entry_of replaces x)
-  selected_row x is =
-      let (k, below, at) = (list.each x).1 is in
-      let there : Contains (map (entry_of replaces) list.selected) (entry_of replaces x) = (
-        k,
-        rw length-map below,
-        get_or-map (entry_of replaces) list.selected k x (entry_of replaces x) below
-            ∙ ap (entry_of replaces) at,
-      ) in
-      subst (λ es. Contains es (entry_of replaces x)) (sym list.entries_are)
-      (member_tail main_entry (entry_of replaces x) (map (entry_of replaces) list.selected) there)
+  selected_row x is = subst (λ es. Contains es (entry_of replaces x)) (sym list.entries_are)
+      (member_tail main_entry (entry_of replaces x) (map (entry_of replaces) list.selected) (in_mapped (entry_of replaces) list.selected x ((list.each x).1 is)))
 
   -- No two entries have the same path.
   pub distinct : AllPairs (λ a b. path_of main a.0 ≢ path_of main b.0) entries
@@ -93,21 +76,12 @@ module _ {R : Type 0} {main : List ℕ} {replaces : ModuleVersion → Option R} 
           less_itself nat_list_cmp_total x.0 (subst (λ (p : List ℕ). slice_cmp nat_cmp x.0 p ≡ Less) (sym paths) less)
 
   pub reached_entry : (path : List ℕ) (s : Step) → IsRooted E → IsEntryOf main entries path s → IsReached E s
-  reached_entry path s rooted (entry, rest, at, is) = go s is
-    where
-      there : Contains entries entry
-      there = subst (λ es. Contains es entry) (sym at.parts) (Contains-append_right at.before (entry ∷ rest) entry (member_head entry rest))
-
-      go : (s : Step) → entry.0 ≡ s → IsReached E s
-      go Main e = (0, at_main)
-      go (Of x) e =
-          let make : Step → Option R → Entry R = λ t o. (t, o) in
-          let row : Contains entries (Of x, entry.1) = subst (λ r. Contains entries r)
-          (ap (λ (t : Step). make t entry.1) e) (subst (λ es. Contains es entry) (sym at.parts)
-          (Contains-append_right at.before (entry ∷ rest) entry (member_head entry rest))) in
-          let (t, edge) = (row_selected x entry.1 row).is_end in
-          let (n, leads) = rooted t x edge in
-          (suc n, along leads edge)
+  reached_entry path Main rooted entry = (0, at_main)
+  reached_entry path (Of x) rooted (entry, rest, at, is) =
+      let there = subst (λ es. Contains es entry) (sym at.parts) (Contains-append_right at.before (entry ∷ rest) entry (member_head entry rest)) in
+      let (t, edge) = (row_selected x entry.1 (subst (λ (s : Step). Contains entries (s, entry.1)) is there)).is_end in
+      let (n, leads) = rooted t x edge in
+      (suc n, along leads edge)
 
 pub rows_are_ends : {R : Type 0} → RowsAreEnds R
 rows_are_ends main replaces edges entries list x right there = (row_selected list x right there).is_end
@@ -234,11 +208,8 @@ module _ {R : Type 0} (main : List ℕ) (entries : List (Entry R)) (apart : AllP
           ∙ sym (append_assoc before front (last ∷ drop n left))
 
       others : (x : Entry R) → Contains (before ++ front) x → path_of main x.0 ≢ path_of main last.0
-      others x h = pairs_split (λ a b. path_of main a.0 ≢ path_of main b.0) (before ++ front) (drop n left)
-          last x (subst (λ l. AllPairs (λ a b. path_of main a.0 ≢ path_of main b.0) l) (
-          whole ∙ ap (λ l. before ++ l) (sym (take-append-drop n left)
-          ∙ ap (λ l. l ++ drop n left) page ∙ append_assoc front (last ∷ []) (drop n left))
-          ∙ sym (append_assoc before front (last ∷ drop n left))) apart) h
+      others x h = pairs_split (λ a b. path_of main a.0 ≢ path_of main b.0) (before ++ front) (drop n left) last x
+          (subst (λ l. AllPairs (λ a b. path_of main a.0 ≢ path_of main b.0) l) parts apart) h
 
   further : (before left : List (Entry R)) → entries ≡ before ++ left → entries ≡ (before ++ take n left) ++ drop n left
   further before left whole = whole ∙ ap (λ l. before ++ l) (sym (take-append-drop n left))

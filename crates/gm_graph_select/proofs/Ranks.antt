@@ -86,7 +86,7 @@ next_ranked all before ranks next rest once in_all inside x there so = elim so [
 
 -- ---- the marked modules so far
 
-module _ (front : List ModuleVersion) (marks : List Bool) (x : ModuleVersion) (all : List Numbered) (are : AreMarkedModules front marks all) where
+module _ {front : List ModuleVersion} {marks : List Bool} {all : List Numbered} (x : ModuleVersion) (are : AreMarkedModules front marks all) where
   wider : (one : Numbered) → IsPlaced front marks one → IsPlaced (front ++ x ∷ []) marks one
   wider one placed = record {
     within = omega (arith, placed.within, length_push front x);
@@ -161,7 +161,7 @@ next_module modules rest x i within is = (inside, size, taken)
 
 -- ---- the marked modules in another order
 
-module _ (modules : List ModuleVersion) (marks : List Bool) (all : List Numbered) (are : AreMarkedModules modules marks all) where
+module _ {modules : List ModuleVersion} {marks : List Bool} {all : List Numbered} (are : AreMarkedModules modules marks all) where
   -- Their vertices are distinct if the modules are.
   all_distinct : IsDistinct pair_eq modules → IsDistinct pair_eq (map vertex_of all)
   all_distinct distinct = IsDistinct-from_apart pair_eq (map vertex_of all) apart

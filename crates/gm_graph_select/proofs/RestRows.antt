@@ -11,27 +11,24 @@ use Rattle.gm_graph_select.specs.Laws.{Entry}
 use Rattle.gm_graph_select.specs.declared.step.Step.{Step}
 
 -- The entries are some of other paths, followed by what is left.
-abbrev pub IsRemainder : {R : Type 0} → List ℕ → List (Entry R) → List ℕ → List (Entry R) → Type 0
-IsRemainder {R} main entries path left = (before : List (Entry R)) × (entries ≡ before ++ left)
-    × ((other : Entry R) → Contains before other → path_of main other.0 ≢ path)
+pub record IsRemainder {R : Type 0} (main : List ℕ) (entries : List (Entry R)) (path : List ℕ) (left : List (Entry R)) : Type 0 where
+  pub before : List (Entry R)
+  pub parts : entries ≡ before ++ left
+  pub others : (other : Entry R) → Contains before other → path_of main other.0 ≢ path
 
--- one more entry of another path
-pub behind_more : {R : Type 0} (main : List ℕ) (entries : List (Entry R)) (path : List ℕ) (entry : Entry R) (old left : List (Entry R))
-    → old ≡ entry ∷ left → path_of main entry.0 ≢ path → IsRemainder main entries path old
-    → IsRemainder main entries path left
-behind_more main entries path entry old left e differs (before, is, none) = (
-  before ++ entry ∷ [],
-  is ∙ ap (λ t. before ++ t) e ∙ sym (append_assoc before (entry ∷ []) left),
-  λ one h. elim (Contains-push_cases before entry one h)
-      [ inl there ↦ none one there | inr same ↦ subst (λ r. path_of main r.0 ≢ path) same differs ],
-)
+module _ {R : Type 0} {main path : List ℕ} {entries old left : List (Entry R)} {entry : Entry R} (e : old ≡ entry ∷ left) where
+  -- one more entry of another path
+  pub behind_more : path_of main entry.0 ≢ path → IsRemainder main entries path old → IsRemainder main entries path left
+  behind_more differs h = record {
+    before = h.before ++ entry ∷ [];
+    parts = h.parts ∙ ap (λ t. h.before ++ t) e ∙ sym (append_assoc h.before (entry ∷ []) left);
+    others = λ one there. elim (Contains-push_cases h.before entry one there)
+        [ inl earlier ↦ h.others one earlier | inr same ↦ subst (λ r. path_of main r.0 ≢ path) same differs ];
+  }
 
--- The entry of the path was found.
-pub at_found : {R : Type 0} (main : List ℕ) (entries : List (Entry R)) (path : List ℕ) (entry : Entry R) (old left : List (Entry R))
-    → old ≡ entry ∷ left → path_of main entry.0 ≡ path → IsRemainder main entries path old
-    → IsAt main entries path entry left
-at_found main entries path entry old left e is (before, parts, none) =
-    record { before = before; parts = parts ∙ ap (λ t. before ++ t) e; path_is = is; others = none }
+  -- The entry of the path was found.
+  pub at_found : path_of main entry.0 ≡ path → IsRemainder main entries path old → IsAt main entries path entry left
+  at_found is h = record { before = h.before; parts = h.parts ∙ ap (λ t. h.before ++ t) e; path_is = is; others = h.others }
 
 -- An entry of the path is listed.
 pub entry_listed : {R : Type 0} (main : List ℕ) (entries : List (Entry R)) (path : List ℕ) (s : Step) → IsEntryOf main entries path s → HasEntryFor main entries path
@@ -70,13 +67,13 @@ pub one_entry : {R : Type 0} (main : List ℕ) (entries : List (Entry R)) (path 
 one_entry main entries path s t (a, rest, h, is) (b, more, g, other) = sym is ∙ ap (λ x. x.0) (one_at main entries path a b rest more h g).0 ∙ other
 
 -- No entry has the path.
-pub not_found : {R : Type 0} (main : List ℕ) (entries : List (Entry R)) (path : List ℕ) (left : List (Entry R)) → left ≡ []
-    → IsRemainder main entries path left → HasEntryFor main entries path → ⊥
-not_found main entries path left e (before, parts, none) (entry, there, is) =
-    none entry (subst (λ t. Contains t entry) (parts ∙ ap (λ t. before ++ t) e ∙ append-nil before) there) is
+pub not_found : {R : Type 0} {main path : List ℕ} {entries left : List (Entry R)} → left ≡ [] → IsRemainder main entries path left
+    → HasEntryFor main entries path → ⊥
+not_found e h (entry, there, is) =
+    h.others entry (subst (λ t. Contains t entry) (h.parts ∙ ap (λ t. h.before ++ t) e ∙ append-nil h.before) there) is
 
-pub behind_from : {R : Type 0} (main : List ℕ) (entries left : List (Entry R)) (path : List ℕ) → entries ≡ left → IsRemainder main entries path left
-behind_from main entries left path e = ([], e, λ other h. absurd (omega (arith, h.1)))
+pub behind_from : {R : Type 0} {main path : List ℕ} {entries left : List (Entry R)} → entries ≡ left → IsRemainder main entries path left
+behind_from e = record { before = []; parts = e; others = λ other h. absurd (omega (arith, h.1)) }
 
 -- ---- rows whose replacements are seen in another way
 

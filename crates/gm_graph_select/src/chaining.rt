@@ -8,7 +8,7 @@ ghost use Rattle.gm_name.specs.ModuleVersion.{module_at};
 ghost use Rattle.gm_graph_select.specs.Graph.{among};
 ghost use Rattle.gm_graph_select.specs.BuildList.{IsEntryOf, HasEntryFor, entries_of_rows};
 ghost use Rattle.gm_graph_select.specs.Chains.{IsChain, IsReached};
-ghost use Rattle.gm_graph_select.specs.Private.Numbering.{IsGraph, graph_edges};
+ghost use Rattle.gm_graph_select.specs.Private.Numbering.{IsGraph};
 ghost use Rattle.gm_graph_select.specs.Private.Searching.{IsTracedTo};
 ghost use Rattle.gm_graph_select.specs.declared.step.Step.{Step};
 ghost use Rattle.gm_graph_select.specs.declared.step.Step.TheVariants.{Of};
@@ -72,7 +72,7 @@ fn walk_back(
     requires goal { goal < length graph.now.vertices }
     requires traced { IsTracedTo graph.now (module_at graph.now.vertices goal) visits.now }
     ensures { IfOk result (λ steps.
-        IsChain (graph_edges graph.now) (Of (module_at graph.now.vertices goal)) steps.items) }
+        IsChain (among graph.now.edges) (Of (module_at graph.now.vertices goal)) steps.items) }
 {
     let mut steps = Vec::new(alloc);
     push_step(alloc, &mut steps, graph.vertex(goal))?;

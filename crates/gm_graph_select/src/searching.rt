@@ -10,12 +10,13 @@
 ghost use Rattle.std.specs.Prelude.{◌≡◌, ◌<◌, ◌≤◌, ◌++◌, ◌∷◌, [], false, true, ℕ, Bool, IfNone, IfOk, IfSome, List, OnOk, length, slice_index_or, slice_set};
 ghost use Rattle.std.specs.List.Sorted.{IsNonDecreasingBy};
 ghost use Rattle.gm_name.specs.ModuleVersion.{ModuleVersion, module_at};
+ghost use Rattle.gm_graph_select.specs.Graph.{among};
 ghost use Rattle.gm_graph_select.specs.declared.step.Edge.{Edge};
 ghost use Rattle.gm_graph_select.specs.declared.step.Step.TheVariants.{Of};
 ghost use Rattle.gm_graph_select.specs.Adjacency.{GraphView};
 ghost use Rattle.gm_graph_select.specs.Order.{HaveSame};
 ghost use Rattle.gm_graph_select.specs.Chains.{IsReached};
-ghost use Rattle.gm_graph_select.specs.Private.Numbering.{IsGraph, graph_edges, steps_of};
+ghost use Rattle.gm_graph_select.specs.Private.Numbering.{IsGraph, steps_of};
 ghost use Rattle.gm_graph_select.specs.Private.Searching.{AreTried, IsFollowed, IsNextEdge, IsSearchedTo, IsTracedTo, IsVisitedNext, first_state, state_of};
 
 use crate::graph::Graph;
@@ -185,7 +186,7 @@ pub(crate) fn visits_to(
     ensures found { IfOk result (λ visits. IfSome visits (λ visits.
         IsTracedTo graph.now (module_at graph.now.vertices goal) visits.items)) }
     ensures none { IfOk result (λ visits. IfNone visits
-        (IsReached (graph_edges graph.now) (Of (module_at graph.now.vertices goal)) → ⊥)) }
+        (IsReached (among graph.now.edges) (Of (module_at graph.now.vertices goal)) → ⊥)) }
 {
     // The only step of the first level is the main module.
     let main = Visit {

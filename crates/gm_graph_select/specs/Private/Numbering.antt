@@ -6,7 +6,7 @@ use Rattle.gm_graph_select.specs.declared.step.Edge.{Edge}
 use Rattle.gm_graph_select.specs.declared.step.Step.{Step}
 use Rattle.gm_graph_select.specs.declared.step.Step.TheVariants.{Main, Of}
 use Rattle.gm_graph_select.specs.Adjacency.{GraphView}
-use Rattle.gm_graph_select.specs.Graph.{Edges, among, edge}
+use Rattle.gm_graph_select.specs.Graph.{edge}
 use Rattle.gm_graph_select.specs.Order.{IsAscending}
 
 -- the steps, by number
@@ -15,9 +15,6 @@ steps_of graph = Main ∷ map Of graph.vertices
 
 abbrev pub step_at : List Step → ℕ → Step
 step_at steps number = slice_index_or steps number Main
-
-abbrev pub graph_edges : GraphView → Edges
-graph_edges graph = among graph.edges
 
 -- The vertices are in strictly ascending order, and edges lead from the main module and the vertices to vertices.
 pub record IsGraph (graph : GraphView) : Type 0 where

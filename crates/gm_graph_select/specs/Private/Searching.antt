@@ -9,10 +9,10 @@ use Rattle.gm_graph_select.specs.declared.step.Edge.{Edge}
 use Rattle.gm_graph_select.specs.declared.searching.Visit.{Visit}
 use Rattle.gm_graph_select.specs.declared.searching.Search.{Search}
 use Rattle.gm_graph_select.specs.Adjacency.{GraphView}
-use Rattle.gm_graph_select.specs.Graph.{Edges, edge, step_cmp}
+use Rattle.gm_graph_select.specs.Graph.{Edges, edge, step_cmp, among}
 use Rattle.gm_graph_select.specs.Chains.{IsLevel, IsPredecessor, Leads}
 use Rattle.gm_graph_select.specs.Private.Marking.{AreMarked, HasMark}
-use Rattle.gm_graph_select.specs.Private.Numbering.{HasList, graph_edges, step_at, steps_of}
+use Rattle.gm_graph_select.specs.Private.Numbering.{HasList, step_at, steps_of}
 
 -- A path of at most that many edges leads from the main module to the step.
 abbrev pub IsWithin : Edges → ℕ → Step → Type 0
@@ -40,9 +40,9 @@ pub record AreTraced (edges : Edges) (steps : List Step) (visits : List Visit) :
 
 -- The last visit is of the goal's predecessor.
 pub record IsTracedTo (graph : GraphView) (goal : ModuleVersion) (visits : List Visit) : Type 0 where
-  pub each : AreTraced (graph_edges graph) (steps_of graph) visits
+  pub each : AreTraced (among graph.edges) (steps_of graph) visits
   pub some : 0 < length visits
-  pub last : IsPredecessor (graph_edges graph) (visited_step (steps_of graph) visits (length visits - 1)) goal
+  pub last : IsPredecessor (among graph.edges) (visited_step (steps_of graph) visits (length visits - 1)) goal
 
 -- the numbers of the steps that are visited
 abbrev pub numbers_visited : List Visit → List ℕ
@@ -82,7 +82,7 @@ pub record IsFoundEnd (graph : GraphView) (goal : ModuleVersion) (found : List B
 -- The edges that leave a step whose list was passed lead to vertices that were found and aren't the goal.
 abbrev pub ArePassed : GraphView → ModuleVersion → List Bool → List Bool → Type 0
 ArePassed graph goal found passed = (number list : ℕ) → number < length (steps_of graph) → HasList graph number list
-    → HasMark passed list → (y : ModuleVersion) → graph_edges graph (step_at (steps_of graph) number) y
+    → HasMark passed list → (y : ModuleVersion) → among graph.edges (step_at (steps_of graph) number) y
     → IsFoundEnd graph goal found y
 
 -- how many steps were not found
@@ -92,8 +92,8 @@ count_left found = sum_by (λ is_found. if is_found then 0 else 1) found
 -- A visit of a step of the level, which names the place at which the step's predecessor was visited.
 pub record IsVisitDue (graph : GraphView) (level : ℕ) (visits : List Visit) (visit : Visit) : Type 0 where
   pub inside : visit.number < length (steps_of graph)
-  pub on_level : IsLevel (graph_edges graph) (step_at (steps_of graph) visit.number) level
-  pub traced : IsTraced (graph_edges graph) (steps_of graph) visits (length visits) visit
+  pub on_level : IsLevel (among graph.edges) (step_at (steps_of graph) visit.number) level
+  pub traced : IsTraced (among graph.edges) (steps_of graph) visits (length visits) visit
 
 -- All steps up to a level were visited but those due, which are the steps of the level in ascending order. The steps
 -- found are exactly those up to the level, and the goal is none of these.
@@ -101,14 +101,14 @@ pub record IsSearchedTo (graph : GraphView) (goal : ModuleVersion) (level : ℕ)
     (due : List Visit) : Type 0 where
   pub size : length state.found ≡ length (steps_of graph)
   pub found : (i : ℕ) → i < length (steps_of graph)
-      → HasMark state.found i ↔ IsWithin (graph_edges graph) level (step_at (steps_of graph) i)
+      → HasMark state.found i ↔ IsWithin (among graph.edges) level (step_at (steps_of graph) i)
   pub listed : (i : ℕ) → i < length (steps_of graph)
-      → IsLevel (graph_edges graph) (step_at (steps_of graph) i) level
+      → IsLevel (among graph.edges) (step_at (steps_of graph) i) level
       → (v : Visit) × Contains due v × (v.number ≡ i)
   pub each : (v : Visit) → Contains due v → IsVisitDue graph level state.visits v
   pub ascending : IsNonDecreasingBy (λ visit. visit.number) due
-  pub visits : AreTraced (graph_edges graph) (steps_of graph) state.visits
-  pub far : IsWithin (graph_edges graph) level (Of goal) → ⊥
+  pub visits : AreTraced (among graph.edges) (steps_of graph) state.visits
+  pub far : IsWithin (among graph.edges) level (Of goal) → ⊥
   pub none : state.next ≡ []
   pub passed : ArePassed graph goal state.found state.passed
 
@@ -120,17 +120,17 @@ pub record IsFollowed (graph : GraphView) (goal : ModuleVersion) (level : ℕ) (
   pub count : count_left state.found + length state.next ≡ count_left before
   pub each : (v : Visit) → Contains state.next v → IsVisitDue graph (suc level) state.visits v
   pub ends : (e : Edge) → Contains tried e → IsFoundEnd graph goal state.found e.to
-  pub visits : AreTraced (graph_edges graph) (steps_of graph) state.visits
+  pub visits : AreTraced (among graph.edges) (steps_of graph) state.visits
   pub passed : ArePassed graph goal state.found state.passed
 
 -- It is a step's turn: it is on the level, and all edges of the level's lesser steps were followed. All steps up to
 -- the level were found.
 pub record IsTurn (graph : GraphView) (level : ℕ) (before : List Bool) (tried : List Edge) (s : Step) : Type 0 where
-  pub on_level : IsLevel (graph_edges graph) s level
-  pub lower : (t : Step) (y : ModuleVersion) → graph_edges graph t y → IsLevel (graph_edges graph) t level
+  pub on_level : IsLevel (among graph.edges) s level
+  pub lower : (t : Step) (y : ModuleVersion) → among graph.edges t y → IsLevel (among graph.edges) t level
       → is_lt (step_cmp t s) ≡ true → Contains tried (edge t y)
   pub full : (i : ℕ) → i < length (steps_of graph)
-      → IsWithin (graph_edges graph) level (step_at (steps_of graph) i) → HasMark before i
+      → IsWithin (among graph.edges) level (step_at (steps_of graph) i) → HasMark before i
 
 -- The edge leaves the step that was visited at a place, whose turn it is. It leads to the step with a number, which
 -- isn't the goal.
@@ -148,12 +148,12 @@ pub record IsNextEdge (graph : GraphView) (goal : ModuleVersion) (level : ℕ) (
 pub record IsVisitedNext (graph : GraphView) (goal : ModuleVersion) (level : ℕ) (before : List Bool) (tried : List Edge)
     (state : State) (visit : Visit) : Type 0 where
   pub turn : IsTurn graph level before tried (step_at (steps_of graph) visit.number)
-  pub far : IsWithin (graph_edges graph) level (Of goal) → ⊥
-  pub traced : IsTraced (graph_edges graph) (steps_of graph) state.visits (length state.visits) visit
+  pub far : IsWithin (among graph.edges) level (Of goal) → ⊥
+  pub traced : IsTraced (among graph.edges) (steps_of graph) state.visits (length state.visits) visit
   pub followed : IsFollowed graph goal level before tried state
 
 -- The edges that were followed include those that leave the visited steps.
 abbrev pub AreTried : GraphView → List Visit → List Edge → Type 0
 AreTried graph visits tried = (v : Visit) → Contains visits v → (y : ModuleVersion)
-    → graph_edges graph (step_at (steps_of graph) v.number) y
+    → among graph.edges (step_at (steps_of graph) v.number) y
     → Contains tried (edge (step_at (steps_of graph) v.number) y)

@@ -1,8 +1,9 @@
 use Rattle.std.proofs.Common.{◌≡◌, ◌∙◌, ◌++◌, ◌∷◌, [], List, ap, arith, reverse}
 use Rattle.gm_name.specs.ModuleVersion.{ModuleVersion, module_at}
+use Rattle.gm_graph_select.specs.Graph.{among}
 use Rattle.gm_graph_select.specs.declared.step.Step.{Step}
 use Rattle.gm_graph_select.specs.declared.step.Step.TheVariants.{Main, Of}
-use Rattle.gm_graph_select.specs.Private.Numbering.{graph_edges, steps_of}
+use Rattle.gm_graph_select.specs.Private.Numbering.{steps_of}
 use Rattle.gm_graph_select.specs.Private.Searching.{visited_step}
 use Rattle.gm_graph_select.proofs.BreadthFirst.{back_begins, back_done, back_longer, back_more}
 use Rattle.gm_graph_select.proofs.chaining.walk_back.Goals as goal
@@ -14,13 +15,13 @@ back-init c =
     ∙ ap (λ (x : ModuleVersion). Of x ∷ []) c.vertex.ensures in
     record {
       inside = let some = c.requires.traced.some in omega (arith, some);
-      chain = back_begins (graph_edges c.args.graph.now) (steps_of c.args.graph.now) c.args.visits.now
+      chain = back_begins (among c.args.graph.now.edges) (steps_of c.args.graph.now) c.args.visits.now
           (module_at c.args.graph.now.vertices c.args.goal) _ c.push_step.new.steps.items first c.requires.traced.last;
     }
 
 pub back-preserved : goal.back-preserved
 back-preserved c =
-    let E = graph_edges c.args.graph.now in
+    let E = among c.args.graph.now.edges in
     let steps = steps_of c.args.graph.now in
     let visits = c.args.visits.now in
     let k = c.back.place in
@@ -35,7 +36,7 @@ back-preserved c =
 
 pub returns : goal.returns
 returns c =
-    let E = graph_edges c.args.graph.now in
+    let E = among c.args.graph.now.edges in
     let steps = steps_of c.args.graph.now in
     let visits = c.args.visits.now in
     let all : c.reverse.new.self.items ≡ reverse (c.back.steps.items ++ Main ∷ []) = c.reverse.ensures.items ∙ ap reverse c.in_ok-push.ensures.items in

@@ -1,9 +1,10 @@
 use Rattle.std.proofs.Common.{◌++◌, ◌<◌, List, length, reverse}
 use Rattle.gm_name.specs.ModuleVersion.{module_at}
+use Rattle.gm_graph_select.specs.Graph.{among}
 use Rattle.gm_graph_select.specs.declared.step.Step.{Step}
 use Rattle.gm_graph_select.specs.declared.step.Step.TheVariants.{Of}
 use Rattle.gm_graph_select.specs.Chains.{IsChain}
-use Rattle.gm_graph_select.specs.Private.Numbering.{graph_edges, steps_of}
+use Rattle.gm_graph_select.specs.Private.Numbering.{steps_of}
 use Rattle.gm_graph_select.specs.Private.Searching.{visited_step}
 use Rattle.gm_graph_select.proofs.chaining.walk_back.Given as goal
 
@@ -11,8 +12,8 @@ use Rattle.gm_graph_select.proofs.chaining.walk_back.Given as goal
 abbrev pub invariant-back : goal.invariant-back
 invariant-back l = record {
   inside : l.place < length l.visits;
-  chain : (c : List Step) → IsChain (graph_edges l.graph) (visited_step (steps_of l.graph) l.visits l.place) c
-      → IsChain (graph_edges l.graph) (Of (module_at l.graph.vertices l.goal)) (c ++ reverse l.steps.items);
+  chain : (c : List Step) → IsChain (among l.graph.edges) (visited_step (steps_of l.graph) l.visits l.place) c
+      → IsChain (among l.graph.edges) (Of (module_at l.graph.vertices l.goal)) (c ++ reverse l.steps.items);
 }
 
 abbrev pub decreases-back : goal.decreases-back

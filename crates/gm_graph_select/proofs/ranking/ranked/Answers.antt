@@ -10,19 +10,16 @@ use Rattle.gm_graph_select.proofs.ranking.ranked.Goals as goal
 
 pub ranking_of-requires-clause-few : goal.ranking_of-requires-clause-few
 ranking_of-requires-clause-few c =
-    let few = few_ordered c.args.modules.items c.args.is_vertex.now c.in_ok-all.all.items c.in_ok-all.ensures
-    c.sort_unstable.new.self.items c.sort_unstable.ensures.permutation in
+    let few = few_ordered c.in_ok-all.ensures c.sort_unstable.new.self.items c.sort_unstable.ensures.permutation in
     omega (arith, few, c.requires.few)
 
 pub ranking_of-requires-clause-within : goal.ranking_of-requires-clause-within
 ranking_of-requires-clause-within c =
     subst (λ (n : ℕ). All (λ (one : Numbered). one.number < n) c.sort_unstable.new.self.items) (sym c.requires.marks)
-    (numbers_within c.args.modules.items c.args.is_vertex.now c.in_ok-all.all.items c.in_ok-all.ensures
-    c.sort_unstable.new.self.items c.sort_unstable.ensures.permutation)
+    (numbers_within c.in_ok-all.ensures c.sort_unstable.new.self.items c.sort_unstable.ensures.permutation)
 
 pub ranking_of-requires-clause-once : goal.ranking_of-requires-clause-once
-ranking_of-requires-clause-once c = one_vertex_each c.args.modules.items c.args.is_vertex.now c.in_ok-all.all.items
-    c.in_ok-all.ensures c.sort_unstable.new.self.items c.sort_unstable.ensures.permutation
+ranking_of-requires-clause-once c = one_vertex_each c.in_ok-all.ensures c.sort_unstable.new.self.items c.sort_unstable.ensures.permutation
 
 -- what holds of these vertices holds of those of the ranking
 of_vertices : {E : Type 0} (made : Result Ranking E) (xs : List ModuleVersion) (Q : List ModuleVersion → Type 0)
@@ -48,14 +45,13 @@ returns-clause-vertices c =
     let all = c.sort_unstable.new.self.items in
     of_vertices c.ranking_of.result (vertices_in all) (λ xs. (x : ModuleVersion)
     → Contains xs x ↔ IsMarkedModule c.args.modules.items c.args.is_vertex.now x) c.ranking_of.ensures.vertices
-    (marked_modules c.args.modules.items c.args.is_vertex.now c.in_ok-all.all.items c.in_ok-all.ensures all c.sort_unstable.ensures.permutation)
+    (marked_modules c.in_ok-all.ensures all c.sort_unstable.ensures.permutation)
 
 pub returns-clause-ascending : goal.returns-clause-ascending
 returns-clause-ascending c =
     let all = c.sort_unstable.new.self.items in
     of_vertices c.ranking_of.result (vertices_in all) (IsAscending pair_cmp) c.ranking_of.ensures.vertices
-    (vertices_ascend c.args.modules.items c.args.is_vertex.now c.in_ok-all.all.items c.in_ok-all.ensures all
-    c.sort_unstable.ensures.permutation c.sort_unstable.ensures.sorted c.requires.distinct)
+    (vertices_ascend c.in_ok-all.ensures all c.sort_unstable.ensures.permutation c.sort_unstable.ensures.sorted c.requires.distinct)
 
 pub returns-clause-ranks : goal.returns-clause-ranks
 returns-clause-ranks c =
@@ -63,5 +59,4 @@ returns-clause-ranks c =
     of_ranking c.ranking_of.result (vertices_in all) all (length c.args.is_vertex.now)
     (AreRanks c.args.modules.items c.args.is_vertex.now) c.ranking_of.ensures.vertices c.ranking_of.ensures.count
     c.ranking_of.ensures.ranks
-    (λ ranks each count. ranks_are c.args.modules.items c.args.is_vertex.now c.in_ok-all.all.items c.in_ok-all.ensures
-    all c.sort_unstable.ensures.permutation ranks each (count ∙ c.requires.marks) c.requires.marks)
+    (λ ranks each count. ranks_are c.in_ok-all.ensures all c.sort_unstable.ensures.permutation ranks each (count ∙ c.requires.marks) c.requires.marks)

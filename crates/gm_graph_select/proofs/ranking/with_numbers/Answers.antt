@@ -22,5 +22,5 @@ loop-vertex-preserved c =
       rest = ap (λ (xs : List ModuleVersion). xs ++ rest) taken ∙ append_assoc front (vertex ∷ []) rest ∙ left;
       numbered = subst (λ (xs : List ModuleVersion). AreMarkedModules xs c.args.is_vertex.now c.push_marked.new.all.items) (sym taken)
           (subst (λ (all : List Numbered). AreMarkedModules (front ++ vertex ∷ []) c.args.is_vertex.now all) (sym c.in_ok-push_marked.ensures)
-          (next_numbered front c.args.is_vertex.now vertex c.loop-vertex.all.items so.numbered next (sym size) refl));
+          (next_numbered vertex so.numbered next (sym size) refl));
     }

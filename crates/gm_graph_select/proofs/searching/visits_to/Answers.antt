@@ -43,12 +43,11 @@ levels-preserved c =
     let next = c.take_level-due in (
       suc level,
       subst (λ (state : State). IsSearchedTo graph goal (suc level) state next.result.items) (sym next.ensures.state)
-          (level_more graph goal level (state_of c.levels.search) c.levels.due.items c.requires.graph h tried
-          (state_of c.visit_level.new.self) tries f next.result.items next.ensures.members next.ensures.ascending),
+          (level_more c.requires.graph h tries f next.ensures.members next.ensures.ascending),
     )
 
 pub returns-clause-none : goal.returns-clause-none
 returns-clause-none c =
     let (level, h) = c.levels.invariant in
-    not_reached c.args.graph.now (module_at c.args.graph.now.vertices c.args.goal) level (state_of c.levels.search) c.levels.due.items c.requires.graph h
+    not_reached c.requires.graph h
     (no_due c.levels.due.items (vec_len c.levels.due) (omega (arith, c.levels.due.ok.0)) (sym c.is_empty.ensures ∙ c.levels-test.false))

@@ -2,9 +2,10 @@ use Rattle.std.proofs.Common.{◌≡◌, ◌≢◌, ◌++◌, ◌∙◌, [], Lis
 use Rattle.std.proofs.lemmas.Grind.{common_steps}
 use Rattle.std.proofs.lemmas.List.{length-map}
 use Rattle.gm_name.specs.ModuleVersion.{ModuleVersion, module_at}
+use Rattle.gm_graph_select.specs.Graph.{among}
 use Rattle.gm_graph_select.specs.declared.step.Edge.{Edge}
 use Rattle.gm_graph_select.specs.declared.step.Step.TheVariants.{Of}
-use Rattle.gm_graph_select.specs.Private.Numbering.{edge_leaving, edges_leaving, graph_edges, step_at, steps_of}
+use Rattle.gm_graph_select.specs.Private.Numbering.{edge_leaving, edges_leaving, step_at, steps_of}
 use Rattle.gm_graph_select.specs.Private.Searching.{IsFollowed, State, state_of}
 use Rattle.gm_graph_select.proofs.BreadthFirst.{found_here, last_visit, list_passed, one_more, one_tried, turn_later, visited_now, with_passed}
 use Rattle.gm_graph_select.proofs.NumberedSteps.{same_rank, step_of_rank}
@@ -62,7 +63,7 @@ returns-then-rank-goal-clause-found c = λ e level found tried due.
     let same : module_at graph.vertices rank ≡ goal = ap (λ (n : ℕ). module_at graph.vertices n) c.if-rank-goal.true in
     found_here graph goal level found (tried ++ edges_leaving graph number (take k ranks)) (state_of c.loop-rank.self)
     c.args.self.now.visits.items c.args.visit c.loop-rank.invariant.visits
-    (subst (λ (y : ModuleVersion). graph_edges graph (step_at (steps_of graph) number) y) same there)
+    (subst (λ (y : ModuleVersion). among graph.edges (step_at (steps_of graph) number) y) same there)
     (turn_later graph goal level found tried (edges_leaving graph number (take k ranks))
     (step_at (steps_of graph) number) due.turn) due.far (c.loop-rank.invariant.followed level found tried due)
 

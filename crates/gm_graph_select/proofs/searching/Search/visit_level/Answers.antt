@@ -2,10 +2,10 @@ use Rattle.std.proofs.Common.{◌≡◌, ◌++◌, [], List, Contains, get_or, l
 use Rattle.std.proofs.lemmas.Grind.{common_steps}
 use Rattle.std.proofs.lemmas.List.{get_or_default}
 use Rattle.std.proofs.lemmas.List.Elements.{Contains-get_or}
-use Rattle.gm_name.specs.ModuleVersion.{module_at}
+use Rattle.gm_graph_select.specs.Graph.{among}
 use Rattle.gm_graph_select.specs.declared.searching.Visit.{Visit}
-use Rattle.gm_graph_select.specs.Private.Numbering.{graph_edges, steps_of}
-use Rattle.gm_graph_select.specs.Private.Searching.{AreTried, IsTraced, state_of, visit_at}
+use Rattle.gm_graph_select.specs.Private.Numbering.{steps_of}
+use Rattle.gm_graph_select.specs.Private.Searching.{AreTried, IsTraced, visit_at}
 use Rattle.gm_graph_select.proofs.Ascending.{no_member}
 use Rattle.gm_graph_select.proofs.BreadthFirst.{due_next, level_begins, traced_more, tried_more}
 use Rattle.gm_graph_select.proofs.searching.Search.visit_level.Goals as goal
@@ -19,8 +19,7 @@ loop-visit-init c =
       followed = λ level h. (
         [],
         (λ v there. absurd (no_member v there)),
-        level_begins c.args.graph.now (module_at c.args.graph.now.vertices c.args.goal) level
-            (state_of c.args.self.now) c.args.due.now c.requires.graph h,
+        level_begins c.requires.graph h,
       );
     }
 
@@ -40,16 +39,15 @@ returns-then-branch-clause-found c = λ e.
     let v = visit_at due i in
     let member : Contains due v = Contains-get_or due i (record { number = 0; before = 0 }) (omega arith) in
     c.in_ok-visit.ensures.found c.if-branch.true level c.args.self.now.is_found.items tried
-    (due_next c.args.graph.now (module_at c.args.graph.now.vertices c.args.goal) level (state_of c.args.self.now) due
-    c.requires.graph h (state_of c.loop-visit.self) tried i v (omega arith)
+    (due_next c.requires.graph h i v (omega arith)
     (get_or_default due i (record { number = 0; before = 0 }) v (omega arith)) all (c.loop-visit.invariant.traced v member) f)
 
 pub loop-visit-preserved : goal.loop-visit-preserved
 loop-visit-preserved c = record {
   size = c.visit.ensures.size;
-  traced = λ w h. subst (λ (vs : List Visit). IsTraced (graph_edges c.args.graph.now) (steps_of c.args.graph.now) vs
+  traced = λ w h. subst (λ (vs : List Visit). IsTraced (among c.args.graph.now.edges) (steps_of c.args.graph.now) vs
       (length vs) w) (sym c.in_ok-visit.ensures.visits)
-      (traced_more (graph_edges c.args.graph.now) (steps_of c.args.graph.now) c.loop-visit.self.visits.items
+      (traced_more (among c.args.graph.now.edges) (steps_of c.args.graph.now) c.loop-visit.self.visits.items
       (visit_at c.args.due.now c.loop-visit.visit-index) w (c.loop-visit.invariant.traced w h));
   followed = λ level h.
       let (tried, all, f) = c.loop-visit.invariant.followed level h in
@@ -59,8 +57,7 @@ loop-visit-preserved c = record {
       let is : v ≡ get_or due i v = get_or_default due i (record { number = 0; before = 0 }) v (omega arith) in
       let member : Contains due v = Contains-get_or due i (record { number = 0; before = 0 }) (omega arith) in
       let (more, g, new) = c.in_ok-visit.ensures.missed c.if-branch.false level c.args.self.now.is_found.items tried
-      (due_next c.args.graph.now (module_at c.args.graph.now.vertices c.args.goal) level (state_of c.args.self.now) due
-      c.requires.graph h (state_of c.loop-visit.self) tried i v (omega arith) is all
+      (due_next c.requires.graph h i v (omega arith) is all
       (c.loop-visit.invariant.traced v member) f) in
       (tried ++ more, tried_more c.args.graph.now due i v tried more (omega arith) is all new, g);
 }
