@@ -35,7 +35,8 @@ nowhere = ([], [])
 
 -- ---- the build list of any relation
 
-module _ {R : Type 0} {main : List ℕ} {replaces : ModuleVersion → Option R} {E : Edges} {entries : List (Entry R)} (list : IsBuildList main replaces E entries) where
+module _ {R : Type 0} {main : List ℕ} {replaces : ModuleVersion → Option R} {E : Edges} {entries : List (Entry R)}
+    (list : IsBuildList main replaces E entries) where
   -- The vertex of a row is selected.
   pub row_selected : (x : ModuleVersion) (right : Option R) → Contains entries (Of x, right) → IsSelected main E x
   row_selected x right there = elim (member_cases main_entry (Of x, right) (map (entry_of replaces) list.selected) (rw list.entries_are at there)) [
@@ -49,7 +50,8 @@ module _ {R : Type 0} {main : List ℕ} {replaces : ModuleVersion → Option R} 
   -- Each selected vertex has a row.
   pub selected_row : (x : ModuleVersion) → IsSelected main E x → Contains entries (entry_of replaces x)
   selected_row x is = subst (λ es. Contains es (entry_of replaces x)) (sym list.entries_are)
-      (member_tail main_entry (entry_of replaces x) (map (entry_of replaces) list.selected) (in_mapped (entry_of replaces) list.selected x ((list.each x).1 is)))
+      (member_tail main_entry (entry_of replaces x) (map (entry_of replaces) list.selected)
+      (in_mapped (entry_of replaces) list.selected x ((list.each x).1 is)))
 
   -- No two entries have the same path.
   pub distinct : AllPairs (λ a b. path_of main a.0 ≢ path_of main b.0) entries

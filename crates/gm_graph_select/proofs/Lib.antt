@@ -1,5 +1,6 @@
 pub mod Sorts
 pub mod RestRows
+pub mod Listing
 pub mod Same
 pub mod Greatest
 pub mod LastVersions

@@ -31,7 +31,8 @@ module _ {R : Type 0} {main path : List ℕ} {entries old left : List (Entry R)}
   at_found is h = record { before = h.before; parts = h.parts ∙ ap (λ t. h.before ++ t) e; path_is = is; others = h.others }
 
 -- An entry of the path is listed.
-pub entry_listed : {R : Type 0} (main : List ℕ) (entries : List (Entry R)) (path : List ℕ) (s : Step) → IsEntryOf main entries path s → HasEntryFor main entries path
+pub entry_listed : {R : Type 0} (main : List ℕ) (entries : List (Entry R)) (path : List ℕ) (s : Step)
+    → IsEntryOf main entries path s → HasEntryFor main entries path
 entry_listed main entries path s (entry, rest, at, is) = (
   entry,
   subst (λ es. Contains es entry) (sym at.parts)
@@ -63,7 +64,8 @@ pub one_at : {R : Type 0} (main : List ℕ) (entries : List (Entry R)) (path : L
     → IsAt main entries path a rest → IsAt main entries path b more → (a ≡ b) × (rest ≡ more)
 one_at main entries path a b rest more h g = same_first main path a b rest more h.before g.before (sym h.parts ∙ g.parts) h.path_is g.path_is h.others g.others
 
-pub one_entry : {R : Type 0} (main : List ℕ) (entries : List (Entry R)) (path : List ℕ) (s t : Step) → IsEntryOf main entries path s → IsEntryOf main entries path t → s ≡ t
+pub one_entry : {R : Type 0} (main : List ℕ) (entries : List (Entry R)) (path : List ℕ) (s t : Step)
+    → IsEntryOf main entries path s → IsEntryOf main entries path t → s ≡ t
 one_entry main entries path s t (a, rest, h, is) (b, more, g, other) = sym is ∙ ap (λ x. x.0) (one_at main entries path a b rest more h g).0 ∙ other
 
 -- No entry has the path.

@@ -62,8 +62,8 @@ entries_of_pages (page ∷ pages) = page ++ entries_of_pages pages
 -- The entries of the pages are the build list.
 abbrev pub PagesJoin : Type 0 → Type 0
 PagesJoin R = (main : List ℕ) (replacement : ModuleVersion → Option R) (edges : List Edge)
-    (entries : List (Entry R)) (n : ℕ) (pages : List (List (Entry R))) → IsBuildList main replacement (among edges) entries
-    → ArePages main entries n entries pages → entries_of_pages pages ≡ entries
+    (entries : List (Entry R)) (n : ℕ) (pages : List (List (Entry R)))
+    → IsBuildList main replacement (among edges) entries → ArePages main entries n entries pages → entries_of_pages pages ≡ entries
 
 -- Such pages exist.
 abbrev pub PagesExist : Type 0 → Type 0
@@ -84,7 +84,8 @@ OneChain = (edges : List Edge) (s : Step) (a b : List Step) → IsChain (among e
 -- The entry of the main module's path is the main module.
 abbrev pub MainIsFirst : Type 0 → Type 0
 MainIsFirst R = (main : List ℕ) (replacement : ModuleVersion → Option R) (edges : List Edge)
-    (entries : List (Entry R)) (s : Step) → IsBuildList main replacement (among edges) entries → IsEntryOf main entries main s → s ≡ Main
+    (entries : List (Entry R)) (s : Step) → IsBuildList main replacement (among edges) entries
+    → IsEntryOf main entries main s → s ≡ Main
 
 -- If each edge leaves a step that edges lead to from the main module, edges lead to every entry.
 abbrev pub EntriesAreReached : Type 0 → Type 0

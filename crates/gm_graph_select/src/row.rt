@@ -12,8 +12,8 @@ use gm_name::ModPath;
 use std::marker::Model;
 use thiserror::Error;
 
-/// A row of the build list: the main module or the selected version of a path, with its replacement, which may be of any
-/// type.
+/// A row of the build list: the main module or the selected version of a path, with its replacement, which may be of
+/// any type.
 #[derive(Debug, Drop, PartialEq, Eq)]
 pub struct Row<R> {
     /// The main module, or a path at its selected version.
