@@ -13,7 +13,6 @@ pub mod Queueing
 pub mod Dues
 pub mod Ends
 pub mod Stepping
-pub mod Listing
 pub mod Mapped
 pub mod Rooted
 pub mod Exactly

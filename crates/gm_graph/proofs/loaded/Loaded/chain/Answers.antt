@@ -2,7 +2,7 @@ use Rattle.std.proofs.lemmas.Result.{IfOk-weaker}
 use Rattle.gm_file.specs.Views.{right_view}
 use Rattle.gm_graph_select.specs.BuildList.{entries_of_rows}
 use Rattle.gm_graph_select.proofs.RestRows.{entry_seen, member_seen, path_unseen}
-use Rattle.gm_graph.proofs.Listing.{reached_entry}
+use Rattle.gm_graph_select.proofs.Listing.{reached_entry}
 use Rattle.gm_graph.proofs.loaded.Loaded.chain.Goals as goal
 
 pub returns-clause-chain : goal.returns-clause-chain
