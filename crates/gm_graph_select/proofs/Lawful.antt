@@ -20,7 +20,7 @@ use Rattle.gm_graph_select.specs.StepOrder.{step_total}
 use Rattle.gm_graph_select.specs.Private.StepOrder.{step-anti}
 use Rattle.gm_graph_select.specs.BuildList.{IsAt, IsBuildList, IsEntryOf, IsSelected, entry_of, main_entry, path_cmp, path_of}
 use Rattle.gm_graph_select.specs.Chains.{at_main, along, IsPredecessor, IsChain, begins, goes_on, IsLevel, IsReached, IsRooted}
-use Rattle.gm_graph_select.specs.Laws.{Entry, ArePages, no_more, one_more, entries_of_pages, ChainIsShortest, EntriesAreReached, MainIsFirst, OneBuildList, OneChain, OneRest, PagesExist, PagesJoin, RowsAreEnds, RowsSatisfy}
+use Rattle.gm_graph_select.specs.Laws.{EntryWith, ArePages, no_more, one_more, entries_of_pages, ChainIsShortest, EntriesAreReached, MainIsFirst, OneBuildList, OneChain, OneRest, PagesExist, PagesJoin, RowsAreEnds, RowsSatisfy}
 use Rattle.gm_graph_select.proofs.Ascending.{less_itself, member_cases, member_head, member_tail, pairs_split, same_lists}
 use Rattle.gm_graph_select.proofs.Greatest.{IsGreatest, bests, ending}
 use Rattle.gm_graph_select.proofs.Same.{EndAlike, alike_selected, ending_ends, ends_alike, ends_of}
@@ -35,7 +35,7 @@ nowhere = ([], [])
 
 -- ---- the build list of any relation
 
-module _ {R : Type 0} {main : List ℕ} {replaces : ModuleVersion → Option R} {E : Edges} {entries : List (Entry R)}
+module _ {R : Type 0} {main : List ℕ} {replaces : ModuleVersion → Option R} {E : Edges} {entries : List (EntryWith R)}
     (list : IsBuildList main replaces E entries) where
   -- The vertex of a row is selected.
   pub row_selected : (x : ModuleVersion) (right : Option R) → Contains entries (Of x, right) → IsSelected main E x
@@ -59,7 +59,7 @@ module _ {R : Type 0} {main : List ℕ} {replaces : ModuleVersion → Option R} 
       (sym list.entries_are) (AllPairs-cons (λ a b. path_of main a.0 ≢ path_of main b.0) main_entry
       (map (entry_of replaces) list.selected) firsts others)
     where
-      path_at : (k : ℕ) (d : Entry R) → k < length list.selected
+      path_at : (k : ℕ) (d : EntryWith R) → k < length list.selected
           → path_of main (get_or (map (entry_of replaces) list.selected) k d).0 ≡ (get_or list.selected k nowhere).0
       path_at k d below = ap (λ e. path_of main e.0) (get_or-map (entry_of replaces) list.selected k nowhere d below)
 
@@ -110,7 +110,7 @@ rows_satisfy {R} main replaces edges entries list y end apart = go ((bests main 
       selected.greatest y ((alike y).1 end) (sym is),
     )
 
-pub same_build_lists : {R : Type 0} {main : List ℕ} {replaces : ModuleVersion → Option R} {E : Edges} {a b : List (Entry R)}
+pub same_build_lists : {R : Type 0} {main : List ℕ} {replaces : ModuleVersion → Option R} {E : Edges} {a b : List (EntryWith R)}
     → IsBuildList main replaces E a → IsBuildList main replaces E b → a ≡ b
 same_build_lists {replaces} x y =
     let same : x.selected ≡ y.selected = same_lists path_total x.selected y.selected x.ascending y.ascending
@@ -191,15 +191,15 @@ one_chain edges s a b h g = same_chains (among edges) h b g
 
 -- ---- pages
 
-snoc : {R : Type 0} (x : Entry R) (xs : List (Entry R)) → (front : List (Entry R)) × (last : Entry R) × (x ∷ xs ≡ front ++ last ∷ [])
+snoc : {R : Type 0} (x : EntryWith R) (xs : List (EntryWith R)) → (front : List (EntryWith R)) × (last : EntryWith R) × (x ∷ xs ≡ front ++ last ∷ [])
 snoc x [] = ([], x, refl)
 snoc x (y ∷ xs) =
     let (front, last, is) = snoc y xs in
     (x ∷ front, last, ap (λ l. x ∷ l) is)
 
-module _ {R : Type 0} (main : List ℕ) (entries : List (Entry R)) (apart : AllPairs (λ a b. path_of main a.0 ≢ path_of main b.0) entries) (n : ℕ) where
+module _ {R : Type 0} (main : List ℕ) (entries : List (EntryWith R)) (apart : AllPairs (λ a b. path_of main a.0 ≢ path_of main b.0) entries) (n : ℕ) where
   -- What is left after a page follows the page's last entry.
-  page_end : (before left front : List (Entry R)) (last : Entry R) → entries ≡ before ++ left
+  page_end : (before left front : List (EntryWith R)) (last : EntryWith R) → entries ≡ before ++ left
       → take n left ≡ front ++ last ∷ [] → IsAt main entries (path_of main last.0) last (drop n left)
   page_end before left front last whole page = record { before = before ++ front; parts = parts; path_is = refl; others = others }
     where
@@ -209,15 +209,15 @@ module _ {R : Type 0} (main : List ℕ) (entries : List (Entry R)) (apart : AllP
           ∙ ap (λ l. l ++ drop n left) page ∙ append_assoc front (last ∷ []) (drop n left))
           ∙ sym (append_assoc before front (last ∷ drop n left))
 
-      others : (x : Entry R) → Contains (before ++ front) x → path_of main x.0 ≢ path_of main last.0
+      others : (x : EntryWith R) → Contains (before ++ front) x → path_of main x.0 ≢ path_of main last.0
       others x h = pairs_split (λ a b. path_of main a.0 ≢ path_of main b.0) (before ++ front) (drop n left) last x
           (subst (λ l. AllPairs (λ a b. path_of main a.0 ≢ path_of main b.0) l) parts apart) h
 
-  further : (before left : List (Entry R)) → entries ≡ before ++ left → entries ≡ (before ++ take n left) ++ drop n left
+  further : (before left : List (EntryWith R)) → entries ≡ before ++ left → entries ≡ (before ++ take n left) ++ drop n left
   further before left whole = whole ∙ ap (λ l. before ++ l) (sym (take-append-drop n left))
       ∙ sym (append_assoc before (take n left) (drop n left))
 
-  pages_join_from : (before left : List (Entry R)) (pages : List (List (Entry R))) → entries ≡ before ++ left
+  pages_join_from : (before left : List (EntryWith R)) (pages : List (List (EntryWith R))) → entries ≡ before ++ left
       → ArePages main entries n left pages → entries_of_pages pages ≡ left
   pages_join_from before _ _ whole no_more = refl
   pages_join_from before left _ whole (one_more {rest} {pages} front last page after more) =
@@ -229,17 +229,17 @@ module _ {R : Type 0} (main : List ℕ) (entries : List (Entry R)) (apart : AllP
       ap (λ l. take n left ++ l) (pages_join_from (before ++ take n left) rest pages rest_whole more ∙ same) ∙ take-append-drop n left
 
   -- one page, followed by the others
-  page_more : 0 < n → (before left : List (Entry R)) (x : Entry R) → entries ≡ before ++ x ∷ left → (page : List (Entry R))
-      → take n (x ∷ left) ≡ page → (pages : List (List (Entry R))) × ArePages main entries n (drop n (x ∷ left)) pages
-      → (pages : List (List (Entry R))) × ArePages main entries n (x ∷ left) pages
+  page_more : 0 < n → (before left : List (EntryWith R)) (x : EntryWith R) → entries ≡ before ++ x ∷ left → (page : List (EntryWith R))
+      → take n (x ∷ left) ≡ page → (pages : List (List (EntryWith R))) × ArePages main entries n (drop n (x ∷ left)) pages
+      → (pages : List (List (EntryWith R))) × ArePages main entries n (x ∷ left) pages
   page_more some before left x whole [] is more = absurd (let none = ap length is in omega (arith, length-take n (x ∷ left), none, some))
   page_more some before left x whole (y ∷ ys) is (pages, more) =
       let (front, last, parts) = snoc y ys in
       let page : take n (x ∷ left) ≡ front ++ last ∷ [] = is ∙ parts in
       (take n (x ∷ left) ∷ pages, one_more front last page (last, page_end before (x ∷ left) front last whole page) more)
 
-  pages_from : 0 < n → (m : ℕ) (before left : List (Entry R)) → length left ≤ m → entries ≡ before ++ left
-      → (pages : List (List (Entry R))) × ArePages main entries n left pages
+  pages_from : 0 < n → (m : ℕ) (before left : List (EntryWith R)) → length left ≤ m → entries ≡ before ++ left
+      → (pages : List (List (EntryWith R))) × ArePages main entries n left pages
   pages_from some m before [] low whole = ([], no_more)
   pages_from some zero before (x ∷ left) low whole = absurd (omega (arith, low))
   pages_from some (suc m) before (x ∷ left) low whole =

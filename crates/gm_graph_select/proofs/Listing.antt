@@ -9,24 +9,24 @@ use Rattle.gm_graph_select.specs.declared.step.Step.{Step}
 use Rattle.gm_graph_select.specs.BuildList.{IsAt, IsEntryOf, HasEntryFor, path_of}
 use Rattle.gm_graph_select.specs.Chains.{IsReached}
 use Rattle.gm_graph_select.specs.Graph.{among}
-use Rattle.gm_graph_select.specs.Laws.{Entry}
+use Rattle.gm_graph_select.specs.Laws.{EntryWith}
 use Rattle.gm_name.proofs.Texts.{bytes_eq-differ}
 
-abbrev Found : {R : Type 0} → List ℕ → List (Entry R) → List ℕ → Type 0
-Found {R} main entries path = (entry : Entry R) × (rest : List (Entry R)) × IsAt main entries path entry rest
+abbrev Found : {R : Type 0} → List ℕ → List (EntryWith R) → List ℕ → Type 0
+Found {R} main entries path = (entry : EntryWith R) × (rest : List (EntryWith R)) × IsAt main entries path entry rest
 
-behind : {R : Type 0} (main : List ℕ) (e : Entry R) (es : List (Entry R)) (path : List ℕ) → path_of main e.0 ≢ path
+behind : {R : Type 0} (main : List ℕ) (e : EntryWith R) (es : List (EntryWith R)) (path : List ℕ) → path_of main e.0 ≢ path
     → HasEntryFor main (e ∷ es) path → HasEntryFor main es path
 behind main e es path other (entry, (zero, below, is), same) = absurd (other (ap (λ x. path_of main x.0) is ∙ same))
 behind main e es path other (entry, (suc k, below, is), same) = (entry, (k, omega arith, is), same)
 
-not_before : {R : Type 0} (main : List ℕ) (e : Entry R) (before : List (Entry R)) (path : List ℕ) → path_of main e.0 ≢ path
-    → ((x : Entry R) → Contains before x → path_of main x.0 ≢ path) → (x : Entry R) → Contains (e ∷ before) x
+not_before : {R : Type 0} (main : List ℕ) (e : EntryWith R) (before : List (EntryWith R)) (path : List ℕ) → path_of main e.0 ≢ path
+    → ((x : EntryWith R) → Contains before x → path_of main x.0 ≢ path) → (x : EntryWith R) → Contains (e ∷ before) x
     → path_of main x.0 ≢ path
 not_before main e before path other others x (zero, below, is) = subst (λ y. path_of main y.0 ≢ path) is other
 not_before main e before path other others x (suc k, below, is) = others x (k, omega arith, is)
 
-found_later : {R : Type 0} (main : List ℕ) (e : Entry R) (es : List (Entry R)) (path : List ℕ) → path_of main e.0 ≢ path
+found_later : {R : Type 0} (main : List ℕ) (e : EntryWith R) (es : List (EntryWith R)) (path : List ℕ) → path_of main e.0 ≢ path
     → Found main es path → Found main (e ∷ es) path
 found_later main e es path other (entry, rest, at) = (
   entry,
@@ -39,11 +39,11 @@ found_later main e es path other (entry, rest, at) = (
   },
 )
 
-found_now : {R : Type 0} (main : List ℕ) (e : Entry R) (es : List (Entry R)) (path : List ℕ) → path_of main e.0 ≡ path → Found main (e ∷ es) path
+found_now : {R : Type 0} (main : List ℕ) (e : EntryWith R) (es : List (EntryWith R)) (path : List ℕ) → path_of main e.0 ≡ path → Found main (e ∷ es) path
 found_now main e es path is = (e, es, record { before = []; parts = refl; path_is = is; others = λ x h. absurd (omega (arith, h.1)) })
 
 -- A listed path has a first entry.
-first_at : {R : Type 0} (main : List ℕ) (entries : List (Entry R)) (path : List ℕ) → HasEntryFor main entries path → Found main entries path
+first_at : {R : Type 0} (main : List ℕ) (entries : List (EntryWith R)) (path : List ℕ) → HasEntryFor main entries path → Found main entries path
 first_at main [] path (entry, there, same) = absurd (omega (arith, there.1))
 first_at main (e ∷ es) path listed = elim (cases_Bool (bytes_eq (path_of main e.0) path)) [
   | inl is ↦ found_now main e es path ((bytes_eq-Decides (path_of main e.0) path).0 is)
@@ -52,11 +52,11 @@ first_at main (e ∷ es) path listed = elim (cases_Bool (bytes_eq (path_of main 
 ]
 
 -- Edges lead to that entry.
-pub reached_entry : {R : Type 0} {main path : List ℕ} (edges : List Edge) (entries : List (Entry R))
-    → ((entry : Entry R) → Contains entries entry → ¬ (¬ (IsReached (among edges) entry.0)))
+pub reached_entry : {R : Type 0} {main path : List ℕ} (edges : List Edge) (entries : List (EntryWith R))
+    → ((entry : EntryWith R) → Contains entries entry → ¬ (¬ (IsReached (among edges) entry.0)))
     → ¬ ((s : Step) × IsEntryOf main entries path s × IsReached (among edges) s) → ¬ (HasEntryFor main entries path)
 reached_entry {R} {main} {path} edges entries reached none listed =
     let (entry, rest, at) = first_at main entries path listed in
     reached entry
-    (subst (λ (es : List (Entry R)). Contains es entry) (sym at.parts) (Contains-append_right at.before (entry ∷ rest) entry (0, omega arith, refl)))
+    (subst (λ (es : List (EntryWith R)). Contains es entry) (sym at.parts) (Contains-append_right at.before (entry ∷ rest) entry (0, omega arith, refl)))
     (λ is. none (entry.0, (entry, rest, at, refl), is))

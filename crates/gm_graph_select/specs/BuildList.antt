@@ -13,8 +13,8 @@ use Rattle.gm_graph_select.specs.Graph.{Edges, IsEdgeEnd}
 use Rattle.gm_graph_select.specs.Order.{IsAscending}
 
 -- the entries of rows: a module of the build list, and what replaces it
-abbrev pub entries_of_rows : {R : Type 0} → List (Row R) → List (Step × Option R)
-entries_of_rows rows = map (λ row. (row.step, row.right)) rows
+abbrev pub entries_in : {R : Type 0} → List (Row R) → List (Step × Option R)
+entries_in rows = map (λ row. (row.step, row.right)) rows
 
 -- The path is not the main module's, an edge leads to the vertex, and none leads to a greater version of the path.
 pub record IsSelected (main : List ℕ) (edges : Edges) (x : ModuleVersion) : Type 0 where

@@ -6,7 +6,7 @@
 ghost use Rattle.std.specs.Prelude.{◌≡◌, ◌++◌, ◌∷◌, ◌<◌, [], IfNone, IfOk, IfSome, IsErrOf, OnOk, length};
 ghost use Rattle.gm_name.specs.ModuleVersion.{module_at};
 ghost use Rattle.gm_graph_select.specs.Graph.{among};
-ghost use Rattle.gm_graph_select.specs.BuildList.{IsEntryOf, HasEntryFor, entries_of_rows};
+ghost use Rattle.gm_graph_select.specs.BuildList.{IsEntryOf, HasEntryFor, entries_in};
 ghost use Rattle.gm_graph_select.specs.Chains.{IsChain, IsReached};
 ghost use Rattle.gm_graph_select.specs.Private.Numbering.{IsGraph};
 ghost use Rattle.gm_graph_select.specs.Private.Searching.{IsTracedTo};
@@ -44,8 +44,8 @@ impl From<AllocError> for ChainFault {
 
 /// The step that the rows have for a path: the main module or a vertex.
 fn entry_of<'a, R>(main: &ModPath, rows: &'a [Row<R>], path: &ModPath) -> Option<&'a Step>
-    ensures some { IfSome result (λ step. IsEntryOf main.now (entries_of_rows rows.now) path.now step.now) }
-    ensures none { IfNone result (¬ (HasEntryFor main.now (entries_of_rows rows.now) path.now)) }
+    ensures some { IfSome result (λ step. IsEntryOf main.now (entries_in rows.now) path.now step.now) }
+    ensures none { IfNone result (¬ (HasEntryFor main.now (entries_in rows.now) path.now)) }
 {
     match row_at(main, rows, path) {
         Some((row, _)) => Some(&row.step),
@@ -121,10 +121,10 @@ impl Graph {
         rows: &[Row<R>],
         path: &ModPath,
     ) -> Result<Vec<Step>, ChainFault>
-        ensures chain { IfOk result (λ steps. (s : Step) × IsEntryOf main.now (entries_of_rows rows.now) path.now s
+        ensures chain { IfOk result (λ steps. (s : Step) × IsEntryOf main.now (entries_in rows.now) path.now s
             × IsChain (among self.now.edges) s steps.items) }
         ensures not_listed { IsErrOf result ChainFault.NotListed
-            → ¬ ((s : Step) × IsEntryOf main.now (entries_of_rows rows.now) path.now s
+            → ¬ ((s : Step) × IsEntryOf main.now (entries_in rows.now) path.now s
             × IsReached (among self.now.edges) s) }
     {
         let Some(entry) = entry_of(main, rows, path) else {

@@ -5,7 +5,7 @@
 
 ghost use Rattle.std.specs.Prelude.{◌≡◌, IfNone, IfOk, IfSome, OnErr};
 ghost use Rattle.std.specs.Iterator.{YieldsFirstRef, item_count};
-ghost use Rattle.gm_graph_select.specs.BuildList.{IsAt, HasEntryFor, IsRestAfter, entries_of_rows, path_of};
+ghost use Rattle.gm_graph_select.specs.BuildList.{IsAt, HasEntryFor, IsRestAfter, entries_in, path_of};
 
 use crate::step::Step;
 use gm_name::ModPath;
@@ -86,9 +86,9 @@ pub(crate) fn row_at<'a, R>(
     path: &ModPath,
 ) -> Option<(&'a Row<R>, Rows<'a, R>)>
     ensures some { IfSome result (λ found.
-        IsAt main.now (entries_of_rows rows.now) path.now
-        (found.0.now.step, found.0.now.right) (entries_of_rows found.1)) }
-    ensures none { IfNone result (¬ (HasEntryFor main.now (entries_of_rows rows.now) path.now)) }
+        IsAt main.now (entries_in rows.now) path.now
+        (found.0.now.step, found.0.now.right) (entries_in found.1)) }
+    ensures none { IfNone result (¬ (HasEntryFor main.now (entries_in rows.now) path.now)) }
 {
     let mut rest = Rows::all(rows);
     'rows: while let Some(row) = rest.next() {
@@ -110,8 +110,8 @@ pub fn rest_after<'a, R>(
     path: &ModPath,
 ) -> Result<Rows<'a, R>, NotListed>
     ensures rest { IfOk result (λ left.
-        IsRestAfter main.now (entries_of_rows rows.now) path.now (entries_of_rows left)) }
-    ensures not_listed { OnErr result (¬ (HasEntryFor main.now (entries_of_rows rows.now) path.now)) }
+        IsRestAfter main.now (entries_in rows.now) path.now (entries_in left)) }
+    ensures not_listed { OnErr result (¬ (HasEntryFor main.now (entries_in rows.now) path.now)) }
 {
     match row_at(main, rows, path) {
         Some((_, rest)) => Ok(rest),

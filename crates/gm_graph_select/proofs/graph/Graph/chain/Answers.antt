@@ -1,6 +1,6 @@
 use Rattle.std.proofs.Common.{subst}
 use Rattle.gm_graph_select.specs.declared.step.Step.{Step}
-use Rattle.gm_graph_select.specs.BuildList.{entries_of_rows}
+use Rattle.gm_graph_select.specs.BuildList.{entries_in}
 use Rattle.gm_graph_select.specs.Chains.{IsReached}
 use Rattle.gm_graph_select.specs.Graph.{among}
 use Rattle.gm_graph_select.proofs.RestRows.{entry_listed, one_entry}
@@ -8,10 +8,10 @@ use Rattle.gm_graph_select.proofs.graph.Graph.chain.Goals as goal
 
 pub returns-in_default-clause-not_listed : goal.returns-in_default-clause-not_listed
 returns-in_default-clause-not_listed g c = λ e (s, entry, reached).
-    c.in_default.ensures.none (entry_listed c.args.main.now (entries_of_rows c.args.rows.now) c.args.path.now s entry)
+    c.in_default.ensures.none (entry_listed c.args.main.now (entries_in c.args.rows.now) c.args.path.now s entry)
 
 pub returns-in_default-2-clause-not_listed : goal.returns-in_default-2-clause-not_listed
 returns-in_default-2-clause-not_listed g c = λ e (s, entry, reached).
-    let same = one_entry c.args.main.now (entries_of_rows c.args.rows.now) c.args.path.now s c.in-Some.entry.now entry c.in-Some.ensures.some in
+    let same = one_entry c.args.main.now (entries_in c.args.rows.now) c.args.path.now s c.in-Some.entry.now entry c.in-Some.ensures.some in
     let none = rw c.in_default-2.is at c.in_ok-steps.ensures.none in
     none (subst (λ (t : Step). IsReached (among c.args.self.now.edges) t) same reached)
