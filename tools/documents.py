@@ -10,7 +10,7 @@ import sys
 
 import script
 from script import Tally, read
-from sources import code_of, functions, items_of
+from sources import code_of, exports, functions, items_of, public_items
 
 # Names of the toolchain and of its crates that documents have and no source imports.
 ELSEWHERE = set("""
@@ -112,8 +112,8 @@ class Sources:
             self.modules[it].add(crate)
         text = code_of(pathlib.Path(path))
         if module == "lib":
-            for found in re.finditer(r"(?m)^pub (?:use (?:\w+::)*([^;:]+);|mod (?!laws)(\w+))", text):
-                self.passed_on[crate] |= set(re.findall(r"\w+", found[1] or found[2]))
+            modules = {it.name for it in public_items(pathlib.Path(path)) if it.kind == "mod"}
+            self.passed_on[crate] |= exports(pathlib.Path(path)).keys() | modules - {"laws"}
         self.tests.update(re.findall(r"(?m)^ *#\[test\]\n(?: *#\[.*\n)* *(?:pub )?fn (\w+)", text))
         self.inner.update(re.findall(r"(\w+):", text), re.findall(r"\blet (?:mut )?(\w+)", text))
         for name in re.findall(r"(?m)^ *(?:pub\S* )?(?:struct|enum|trait|type|const|static|mod) (\w+)", text):

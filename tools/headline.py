@@ -241,18 +241,17 @@ def linked(source):
 
 
 @functools.cache
-def exports(crate):
+def offered(crate):
     """The names that a crate exports, and its public modules."""
     root = CRATES / crate / "src/lib.rt"
-    text = root.read_text() if root.exists() else ""
-    used = " ".join(re.findall(r"(?m)^pub use [^;]*;", text))
-    names = set(re.findall(r"\w+", used)) | set(re.findall(r"(?m)^pub (?:struct|enum|trait|type|fn) (\w+)", text))
-    return names, set(re.findall(r"(?m)^pub mod (\w+);", text))
+    public = sources.public_items(root) if root.exists() else []
+    modules = {it.name for it in public if it.kind == "mod"}
+    return {it.name for it in public} - modules | (sources.exports(root).keys() if public else set()), modules
 
 
 def is_private(leaf):
     """Whether the name is of a type that its crate doesn't export."""
-    return bool(leaf.owner) and leaf.owner[1] not in exports(leaf.owner[0])[0]
+    return bool(leaf.owner) and leaf.owner[1] not in offered(leaf.owner[0])[0]
 
 
 def exported():
@@ -260,7 +259,7 @@ def exported():
     in its clauses mean."""
     for path in sources.files("src/**/*.rt"):
         crate, module, text = path.parts[1], "/".join(path.parts[3:]).removesuffix(".rt"), path.read_text()
-        names, modules = exports(crate)
+        names, modules = offered(crate)
         for function, block in functions(text) if crate != PAGE else ():
             is_public = function.visibility == "pub"
             if block:

@@ -5,7 +5,7 @@ import re
 import sys
 
 import script
-from sources import CRATES, crates, files, items_of, with_below
+from sources import CRATES, crates, exports, files, items_of, public_items, with_below
 
 PAGE = pathlib.Path("docs/lib/CRATES.md")
 INTRODUCTION = """\
@@ -22,7 +22,6 @@ crate has. `tools/map.sh` generates this page.
 |---|---|---|
 """
 MOST_WORDS = 15  # of what a crate is for
-EXPORT = re.compile(r"pub use ((?:\w+::)+)(\{[^{}]*\}|\w+(?: as \w+)?);")
 
 
 def sentence(path):
@@ -34,11 +33,6 @@ def sentence(path):
     if not text:
         sys.exit(f"map: {path} has no comment at its head")
     return re.match(r"(?:.*?[.!?][\"')]*(?= |$)|.*)", text)[0].replace("|", "\\|")
-
-
-def declared_in(path):
-    """The public items of a module."""
-    return [it for it in items_of(path.read_text()) if it.visibility == "pub"]
 
 
 class Library:
@@ -68,27 +62,22 @@ class Library:
     def read_items(self, module, prefix):
         """Takes in what a module declares and exports; the prefix is its name on the page, with `::` at the end."""
         path = self.folder / f"{module}.rt"
-        for one in declared_in(path):
+        for one in public_items(path):
             if one.kind == "mod":
                 self.read_items(one.name if module == "lib" else f"{module}/{one.name}", f"{prefix}{one.name}::")
             elif one.kind != "use":
                 self.put(one.kind, prefix, one.name, self.calls.get(one.name))
-        for one in (it for it in declared_in(path) if it.kind == "use"):
-            export = EXPORT.fullmatch(one.text)
-            if not export:
-                sys.exit(f"map: {path} has a `pub use` in a form that tools/map.sh doesn't read")
-            origin = export[1]
-            for old, new in re.findall(r"(\w+)(?: as (\w+))?", export[2]):
-                if origin.startswith("crate::"):
-                    kind = self.kind_of(origin.split("::")[1:-1], old)
-                    self.put(kind, prefix, new or old, self.calls.get(old))
-                else:
-                    self.passed_on.append(f"`{new}` (`{origin}{old}`)" if new else f"`{origin}{old}`")
+        for own, (*origin, name) in exports(path).items():
+            if origin[:1] == ["crate"]:
+                self.put(self.kind_of(origin[1:], name), prefix, own, self.calls.get(name))
+            else:
+                whole = "::".join([*origin, name])
+                self.passed_on.append(f"`{whole}`" if own == name else f"`{own}` (`{whole}`)")
 
     def kind_of(self, module, name):
         """Whether a name that a module declares is a function, a type, .."""
         path = self.folder / f"{'/'.join(module)}.rt"
-        declared = {it.name: it.kind for it in (declared_in(path) if path.exists() else ()) if it.kind != "use"}
+        declared = {it.name: it.kind for it in (public_items(path) if path.exists() else ()) if it.kind != "use"}
         if name not in declared:
             sys.exit(f"map: {self.crate} exports {name}, which {path} doesn't declare")
         return declared[name]

@@ -4,11 +4,10 @@ import re
 import sys
 
 import script
-from sources import CRATES, PAGE, code_of, definitions, files, items_of, names_in, plain, scope_of
+from sources import CRATES, PAGE, code_of, definitions, files, items_of, paths_of, plain, scope_of
 
 NAME = r"[^\s(){}\[\],;.λ⟦⟧|\"]+"
 PATH = re.compile(rf"{NAME}(?:\.{NAME})*")
-RUST_USE = re.compile(r"(?ms)^ *(?:pub(?:\(crate\))? )?use ([^;{]+?)(?:::\{([^;]*)\})?(?: as (\w+))?;")
 # forms that the rest of this file doesn't follow, which nothing uses
 UNREAD = {
     "a `use` of all names": r"^ *(?:pub |ghost )*use [^;\n]*[.:]\*",
@@ -42,11 +41,7 @@ class Source:
         self.items = list(items_of(self.text))
         outer = "\n".join(it.text for it in self.items if it.kind == "use")
         self.scope = scope_of(outer)
-        self.uses = {}
-        for path_, group, other in (it.groups() for it in RUST_USE.finditer(outer)):
-            parts = tuple(path_.replace(" ", "").split("::"))
-            for name, own in names_in(group) if group else [(None, other or parts[-1])]:
-                self.uses[own] = parts + (tuple(name.split("::")) if name else ())
+        self.uses = paths_of(outer)
 
     def named(self, name):
         """The items of this name that aren't blocks of a type."""

@@ -1,9 +1,10 @@
 """Reads the sources of the crates for other scripts: what a comment, a `use`, a definition and an item of the code is.
 
     files, crates, with_below    which sources and crates there are
-    scope_of                     what the names mean that a text imports
+    scope_of, paths_of           what the names mean that a text imports, of definitions and of the code
     definitions, plain           what an .antt file declares; its text without comments and strings
     items_of, functions, code_of    the items of a .rt file and its functions; its text without comments
+    public_items, exports        its public items, and what it exports of other modules
 
 It relies on the layout of `rt fmt`: an item ends with the first line at its margin that ends with `}` or `;`, or before
 the next item; a definition ends before a blank line that no indented line follows, with comments directly above it.
@@ -19,6 +20,8 @@ CRATES = pathlib.Path("crates")
 PAGE = "page"  # the crate whose definitions are copies of others
 # a `use` of either language: the words before it, the path, the names in braces, another name of a module
 USE = re.compile(r"(?m)^ *((?:unfoldable |pub |ghost )*)use ([\w.]+?)(?:\.\{([^}]*)\}| as (\w+))?;?$")
+# one of the code: its path, the names in braces, another name
+PATHS = re.compile(r"(?ms)^ *(?:pub(?:\(crate\))? )?use ([^;{]+?)(?:::\{([^;]*)\})?(?: as (\w+))?;")
 # the begin of what a file of definitions declares: the words before its name, its kind, the name
 HEAD = re.compile(r"((?:(?:abbrev|unfoldable|opaque|pub) )*)(?:(record|data) )?([^\s:(){}]+)")
 # an item at a margin: its visibility, its kind, its name; what an `impl` is of: a trait, a type
@@ -51,6 +54,23 @@ def with_below(crate):
     return [it for it in crates() if it in found]
 
 
+def names_in(group):
+    """The names of a group of a `use`, each with the one that it has in the file."""
+    for entry in filter(None, (it.strip() for it in group.split(","))):
+        name, _, own = entry.partition(" as ")
+        yield name, own or name
+
+
+def paths_of(text):
+    """The path of each name of the code that the `use` items of a text import, by the name that it has there."""
+    found = {}
+    for path, group, other in PATHS.findall(text):
+        parts = tuple(path.replace(" ", "").split("::"))
+        for name, own in names_in(group) if group else [("", other or parts[-1])]:
+            found[own] = (*parts, *filter(None, name.split("::")))
+    return found
+
+
 # ---- files of definitions
 
 
@@ -63,13 +83,6 @@ def plain(text):
 def code_of(path):
     """The text of a source without comments; its lines have the same numbers."""
     return re.sub(r"(?m)//.*$", "", path.read_text(encoding="utf-8"))
-
-
-def names_in(group):
-    """The names of a group of a `use`, each with the one that it has in the file."""
-    for entry in filter(None, (it.strip() for it in group.split(","))):
-        name, _, own = entry.partition(" as ")
-        yield name, own or name
 
 
 def scope_of(text, words=""):
@@ -175,6 +188,16 @@ def items_of(text, indent="", line=1):
         if block := one.kind == "impl" and IMPL.match(own):
             one.trait, one.name = block[1] or "", block[2]
         yield one
+
+
+def public_items(path):
+    """The public items of a module."""
+    return [it for it in items_of(code_of(path)) if it.visibility == "pub"]
+
+
+def exports(path):
+    """The path of each name that a module exports by `pub use`."""
+    return paths_of("\n".join(it.text for it in public_items(path) if it.kind == "use"))
 
 
 def functions(text):
