@@ -10,7 +10,7 @@ import sys
 
 import script
 from script import Tally, read
-from sources import code_of, exports, functions, items_of, public_items
+from sources import USE, code_of, exports, functions, items_of, names_in, public_items
 
 # Names of the toolchain and of its crates that documents have and no source imports.
 ELSEWHERE = set("""
@@ -93,8 +93,8 @@ class Sources:
             crate = path.split("/")[1] if path.startswith("crates/") else ""
             if path.endswith((".rt", ".antt")):
                 names = self.inner if "/proofs/" in path else self.imported
-                for found in re.finditer(r"(?m)^\s*(?:ghost )?use Rattle[^{\n]*\{([^}]*)\}", read(path)):
-                    names.update(re.findall(r"[^\s,]+", found[1]))
+                for _, module, group, _ in USE.findall(read(path)):
+                    names.update(it for pair in names_in(group) for it in pair if module.startswith("Rattle"))
             if path.endswith(".rt"):
                 self.read_code(crate, path)
             elif path.endswith(".antt") and crate:
