@@ -79,12 +79,6 @@ def plain(text):
     return re.sub(r"(?m)(^|\s)--.*$", r"\1", re.sub(r'"(?:\\.|[^"\\\n])*"', '""', text))
 
 
-@functools.cache
-def code_of(path):
-    """The text of a source without comments; its lines have the same numbers."""
-    return re.sub(r"(?m)//.*$", "", path.read_text(encoding="utf-8"))
-
-
 def scope_of(text, words=""):
     """What each name means that the `use` lines import, or those with these words before `use`: the path of a module
     and a name of it, or, for a module itself, None."""
@@ -134,6 +128,12 @@ def definitions(path):
 # ---- the code
 
 
+@functools.cache
+def code_of(path):
+    """The text of a source without comments; its lines have the same numbers."""
+    return re.sub(r"(?m)//.*$", "", path.read_text(encoding="utf-8"))
+
+
 @dataclasses.dataclass
 class Item:
     """An item of a source, or of a block of it: of an `impl` the name is the type's, and it may have a trait."""
@@ -166,10 +166,6 @@ class Item:
         """The text of each clause, after the comments above it, by its name."""
         contract = re.sub(rf"(?m)^{self.indent}(?:    |[{{}}].*\Z)", "", self.contract.removesuffix(";"))
         return {it[1] or "": it[0].rstrip() for it in CLAUSE.finditer(contract)}
-
-    def body(self):
-        """What stands after the contract."""
-        return self.text.removeprefix(self.head)
 
     def inner(self):
         """The items of a block."""
