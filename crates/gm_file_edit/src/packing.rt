@@ -8,8 +8,8 @@ ghost use Rattle.std.specs.Prelude.{◌≡◌, ◌+◌, ◌∷◌, ◌++◌, ◌
 ghost use Rattle.std.specs.List.{list_any};
 ghost use Rattle.gm_syntax.specs.Layout.{is_blank_line};
 ghost use Rattle.gm_syntax.specs.LineViews.{line_of, plain};
-ghost use Rattle.gm_file_edit.specs.Fates.{empties, fate_by, is_in_gone, kept_lines, remaining, widened_from};
-ghost use Rattle.gm_file_edit.specs.Private.Marks.{closes_bare, fates_of, line_at, opens_bare};
+ghost use Rattle.gm_file_edit.specs.Fates.{empties, fate_by, kept_lines, remaining, widened_from};
+ghost use Rattle.gm_file_edit.specs.Private.Marks.{block_at, closes_bare, fates_of, is_behind_gone, line_at, opens_bare};
 
 use crate::keyed_lines::KeyedLines;
 use crate::keys::Key;
@@ -18,21 +18,15 @@ use gm_syntax::Line;
 
 /// Where a line is.
 #[derive(Clone, Copy)]
-pub(crate) struct Place {
-    /// Whether the open block goes, if a block is open.
-    block: Option<bool>,
-    /// Whether the nearest line before it that has no mark closes a block that goes.
-    behind_gone: bool,
-}
-
-/// Whether a block is open that goes.
-fn is_in_gone(block: Option<bool>) -> bool
-    ensures { result ≡ is_in_gone block }
-{
-    match block {
-        None => false,
-        Some(goes) => goes,
-    }
+pub(crate) enum Place {
+    /// Outside blocks.
+    Outside,
+    /// Outside blocks, and the nearest line before it that has no mark closes a block that goes.
+    BehindGone,
+    /// In a block that stays.
+    InKept,
+    /// In a block that goes.
+    InGone,
 }
 
 /// Whether the line at an index is blank.
@@ -78,45 +72,35 @@ fn empties(lines: &KeyedLines, marks: &[bool], from: usize) -> bool
 fn after_line(place: Place, lines: &KeyedLines, marks: &[bool], n: usize) -> (bool, Place)
     requires len { length marks.now ≡ length lines.now }
     requires in_range { n < length lines.now }
-    ensures { widened_from place.block place.behind_gone
+    ensures { widened_from (block_at place) (is_behind_gone place)
         (Some (line_at lines.now n) ∷ fates_of (drop (n + 1) marks.now) (drop (n + 1) lines.now))
-        ≡ fate_by result.0 (line_at lines.now n) ∷ widened_from result.1.block result.1.behind_gone
+        ≡ fate_by result.0 (line_at lines.now n) ∷ widened_from (block_at result.1) (is_behind_gone result.1)
         (fates_of (drop (n + 1) marks.now) (drop (n + 1) lines.now)) }
 {
     match lines.key(n) {
-        Key::Blank => {
-            let goes = is_in_gone(place.block) || place.behind_gone;
-            let next = Place {
-                block: place.block,
-                behind_gone: false,
-            };
-            (goes, next)
-        }
-        Key::Open(_) => {
-            let goes = place.block.is_none()
-                && opens_bare(lines.line(n))
-                && empties(lines, marks, n + 1);
-            let next = Place {
-                block: Some(goes),
-                behind_gone: false,
-            };
-            (goes, next)
-        }
-        Key::Close => {
-            let goes = is_in_gone(place.block);
-            let next = Place {
-                block: None,
-                behind_gone: goes,
-            };
-            (goes, next)
-        }
-        Key::Comment | Key::Entry(_) => {
-            let next = Place {
-                block: place.block,
-                behind_gone: false,
-            };
-            (false, next)
-        }
+        Key::Blank => match place {
+            Place::BehindGone => (true, Place::Outside),
+            Place::InGone => (true, Place::InGone),
+            Place::Outside | Place::InKept => (false, place),
+        },
+        Key::Open(_) => match place {
+            Place::Outside | Place::BehindGone => {
+                if opens_bare(lines.line(n)) && empties(lines, marks, n + 1) {
+                    (true, Place::InGone)
+                } else {
+                    (false, Place::InKept)
+                }
+            }
+            Place::InKept | Place::InGone => (false, Place::InKept),
+        },
+        Key::Close => match place {
+            Place::InGone => (true, Place::BehindGone),
+            Place::Outside | Place::BehindGone | Place::InKept => (false, Place::Outside),
+        },
+        Key::Comment | Key::Entry(_) => match place {
+            Place::BehindGone => (false, Place::Outside),
+            Place::Outside | Place::InKept | Place::InGone => (false, place),
+        },
     }
 }
 
@@ -126,10 +110,7 @@ fn widen(lines: &KeyedLines, marks: &mut Vec<bool>)
     ensures len { length marks.new.items ≡ length lines.now }
     ensures marks { fates_of marks.new.items lines.now ≡ widened_from None false (fates_of marks.old.items lines.now) }
 {
-    let mut place = Place {
-        block: None,
-        behind_gone: false,
-    };
+    let mut place = Place::Outside;
     for n in 0..lines.len() {
         if !marks[n] {
             let (goes, next) = after_line(place, lines, marks.as_slice(), n);

@@ -1,11 +1,13 @@
 -- How contracts view the marks of lines. No public contract cites it.
-use Rattle.std.specs.Prelude.{◌≡◌, ◌≤◌, ℕ, Bool, false, List, length, insert, map, Option, is_none, slice_index_or}
+use Rattle.std.specs.Prelude.{◌≡◌, ◌≤◌, ℕ, Bool, true, false, List, length, insert, map, Option, Some, None, is_none, slice_index_or}
 use Rattle.std.specs.List.{zip}
 use Rattle.gm_syntax.specs.Tokens.{Placed}
 use Rattle.gm_syntax.specs.Document.{Line, Blank, Open, Close}
 use Rattle.gm_file.specs.declared.verb.Verb.{Verb}
 use Rattle.gm_file.specs.Directives.{Directive, main_verb, with_blocks_from}
 use Rattle.gm_file_edit.specs.declared.adding.Spot.{Spot}
+use Rattle.gm_file_edit.specs.declared.packing.Place.{Place}
+use Rattle.gm_file_edit.specs.declared.packing.Place.TheVariants as place
 use Rattle.gm_file_edit.specs.Edited.{with_addition}
 use Rattle.gm_file_edit.specs.Fates.{Fate, fate_by}
 use Rattle.gm_file_edit.specs.Holding.{directive_at, passes}
@@ -38,3 +40,15 @@ pub record IsAdditionSpot (own : Verb) (lines : List (Line Placed)) (spot : Spot
   pub in_range : spot.before ≤ length lines
   pub adds : (verb : List ℕ) (arguments : List Placed) → main_verb verb ≡ own
       → insert lines spot.before (entry_at spot.inside verb arguments) ≡ with_addition verb arguments lines
+
+-- whether the block goes that is open at a place, if one is
+abbrev pub block_at : Place → Option Bool
+block_at place.Outside = None
+block_at place.BehindGone = None
+block_at place.InKept = Some false
+block_at place.InGone = Some true
+
+-- whether a place is behind a block that goes
+abbrev pub is_behind_gone : Place → Bool
+is_behind_gone place.BehindGone = true
+is_behind_gone _ = false
