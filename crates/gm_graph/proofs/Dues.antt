@@ -8,8 +8,12 @@ use Rattle.gm_graph.specs.declared.cache.load_fault.LoadFault.{LoadFault}
 use Rattle.gm_file.specs.Main.{Main}
 use Rattle.gm_graph.specs.Reading.{file_of, is_askable}
 use Rattle.gm_graph.specs.Refusals.{refused_names, refused_in}
-use Rattle.gm_graph.specs.Run.{KeepsSayings, run_of}
+use Rattle.gm_graph.specs.Run.{AskedInTurn, KeepsSayings, nothing, run_of}
 use Rattle.gm_graph.proofs.Sayings.{says_more}
+
+-- Nothing was asked for.
+pub none_in_turn : (needs : (Name → Option Reply) → Name → Type 0) (pairs : List (Name × Reply)) → pairs ≡ [] → AskedInTurn needs pairs
+none_in_turn needs pairs e = rw e nothing
 
 -- Nothing was asked for, or only the file of this vertex: `AsksFor` of the pairs of two stores.
 abbrev pub AddsFile : Main → List (Name × Reply) → List (Name × Reply) → ModuleVersion → Type 0

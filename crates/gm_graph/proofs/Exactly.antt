@@ -25,7 +25,7 @@ use Rattle.gm_graph.proofs.RunLemmas.{answered_any, keeps_agree, names_equivalen
 use Rattle.gm_graph.proofs.Rounds.{takes_first}
 use Rattle.gm_graph.proofs.Sayings.{says_more}
 
-names_push : (pairs : List (Name × Reply)) (n : Name) (r : Reply) → names_in (pairs ++ (n, r) ∷ []) ≡ names_in pairs ++ n ∷ []
+pub names_push : (pairs : List (Name × Reply)) (n : Name) (r : Reply) → names_in (pairs ++ (n, r) ∷ []) ≡ names_in pairs ++ n ∷ []
 names_push pairs n r = map_push (λ (pair : Name × Reply). pair.0) pairs (n, r)
 
 asked_once : (needs : (Name → Option Reply) → Name → Type 0) {pairs : List (Name × Reply)} → AskedInTurn needs pairs → IsDistinct same_name (names_in pairs)

@@ -15,7 +15,7 @@ use Rattle.gm_graph.specs.declared.findings.Findings.{Findings}
 use Rattle.gm_graph.specs.declared.worklist.Worklist.{Worklist}
 use Rattle.gm_graph.specs.Private.Cached.{ArePartsOf, module_numbered}
 use Rattle.gm_graph.specs.Private.Findings.{WasVisited, place_at}
-use Rattle.gm_graph.specs.Private.Gathering.{AreFaultsOf, AreFilePlaces, HasFaultOf, has_file, gathered_sources, steps_by}
+use Rattle.gm_graph.specs.Private.Gathering.{AreFaultsOf, AreFilePlaces, HasFaultOf, fault, has_file, gathered_sources, steps_by}
 use Rattle.gm_graph.specs.Run.{AreFaults, IsEdge, IsFault, IsOpened, Requires, Run, Says}
 use Rattle.gm_graph.specs.Private.Summaries.{own_spans}
 use Rattle.gm_graph.specs.Private.Visiting.{IsOpenedIn}
@@ -26,7 +26,6 @@ use Rattle.gm_graph_select.specs.declared.step.Step.TheVariants.{Main as FromMai
 use Rattle.gm_graph_select.specs.Adjacency.{StepEdges, edges_of, left_by, list_at, sources_of as steps_left, step_edges, step_with}
 use Rattle.gm_graph_select.specs.Graph.{edge}
 use Rattle.gm_graph.proofs.Gathered.{each_source, file_source, lists_by, main_source, noted_has, source_there, used_list}
-use Rattle.gm_graph.proofs.Mapped.{fault}
 use Rattle.gm_graph.proofs.RunLemmas.{value_of}
 use Rattle.gm_graph.proofs.SharedLists.{own_there}
 use Rattle.gm_graph_select.proofs.RankedLists.{edges_each, edges_only, from_mapped, in_mapped}

@@ -19,11 +19,7 @@ use Rattle.gm_graph.specs.declared.cache.class.Class.{Class}
 use Rattle.gm_graph.specs.declared.fault.Fault.{Fault}
 use Rattle.gm_graph.specs.declared.findings.NumberedFault.{NumberedFault}
 use Rattle.gm_graph.specs.Private.Findings.{numbered}
-use Rattle.gm_graph.specs.Private.Gathering.{AreFaultsOf, HasFaultOf}
-
--- a vertex and its fault
-abbrev pub fault : ModuleVersion → Class → Fault
-fault x class = record { vertex = x; class = class }
+use Rattle.gm_graph.specs.Private.Gathering.{AreFaultsOf, HasFaultOf, fault}
 
 abbrev entry_fault : ModuleVersion × Class → Fault
 entry_fault e = fault e.0 e.1

@@ -7,7 +7,7 @@ ghost use Rattle.std.specs.Prelude.{◌≡◌, ◌↔◌, ◌⊎◌, ◌<◌, �
 ghost use Rattle.std.specs.BTreeMap as tree;
 ghost use Rattle.gm_name.specs.ModuleVersion.{ModuleVersion, module_at, pair_cmp};
 ghost use Rattle.gm_graph.specs.Private.Findings.{place_at};
-ghost use Rattle.gm_graph.specs.Private.Gathering.{AreFaultsOf, AreFilePlaces, HasFaultOf, has_file, source_at, gathered_sources, span_after, spans_of, steps_by};
+ghost use Rattle.gm_graph.specs.Private.Gathering.{AreFaultsOf, AreFilePlaces, HasFaultOf, fault, has_file, source_at, gathered_sources, span_after, spans_of, steps_by};
 ghost use Rattle.gm_graph.specs.Private.Summaries.{AreListsInOrder, AreSpansInOrder};
 ghost use Rattle.gm_graph_select.specs.Adjacency.{edges_of, sources_of as steps_left};
 ghost use Rattle.gm_graph_select.specs.declared.step.Step.TheVariants.{Of};
@@ -188,8 +188,7 @@ fn faults_by_vertex(
 
 /// The faults of a map, in the order of their vertices.
 fn fault_entries(alloc: Global, faults: BTreeMap<ModVer, Class>) -> Result<Vec<Fault>, AllocError>
-    ensures faults { IfOk result (λ list. list.items
-        ≡ map (λ entry. record { vertex = entry.0; class = entry.1 }) faults.entries) }
+    ensures faults { IfOk result (λ list. list.items ≡ map (λ entry. fault entry.0 entry.1) faults.entries) }
     ensures ordered { OnOk result (tree.IsOrdered pair_cmp faults) }
 {
     let mut list = Vec::new(alloc);

@@ -66,6 +66,10 @@ AreFilePlaces parts places = (number place : ℕ) → place_at places number ≡
 
 -- ---- the faults
 
+-- a vertex and its fault
+abbrev pub fault : ModuleVersion → Class → Fault
+fault x class = record { vertex = x; class = class }
+
 -- One of the faults is this one of this vertex.
 abbrev pub HasFaultOf : List ModuleVersion → List NumberedFault → ModuleVersion → Class → Type 0
 HasFaultOf modules faults x class =
@@ -76,4 +80,4 @@ pub record AreFaultsOf (modules : List ModuleVersion) (faults : List NumberedFau
   pub ascending : AllPairs (λ (a b : Fault). pair_cmp a.vertex b.vertex ≡ Less) list
   pub only : (one : Fault) → Contains list one → HasFaultOf modules faults one.vertex one.class
   pub each : (number : ℕ) (class : Class) → Contains faults (numbered number class)
-      → (other : Class) × Contains list (record { vertex = module_at modules number; class = other })
+      → (other : Class) × Contains list (fault (module_at modules number) other)

@@ -1,5 +1,5 @@
 use Rattle.std.proofs.Common.{◌≡◌, ◌++◌, map}
-use Rattle.gm_graph.proofs.Mapped.{fault}
+use Rattle.gm_graph.specs.Private.Gathering.{fault}
 use Rattle.gm_graph.proofs.gathering.fault_entries.Given as goal
 
 abbrev pub invariant-loop-vertex : goal.invariant-loop-vertex
