@@ -218,7 +218,8 @@ module _ (parts : CacheParts) (places : List (Option ℕ)) (are : AreFilePlaces 
   lists = lists_by parts places
 
   pub lists_apart : AreSpansApart 0 (spans_of parts.first parts.files.items (has_file places)) (length parts.numbers.items)
-  lists_apart = (omega arith, omega arith, spans_apart (has_file places) 0 parts.first (own_spans parts.files.items) (length parts.numbers.items) parts.in_order)
+  lists_apart =
+      (omega arith, omega arith, spans_apart (has_file places) 0 parts.first (own_spans parts.files.items) (length parts.numbers.items) parts.in_order)
 
   pub steps_once : IsDistinct (same_step parts.modules.items) (steps_by parts places)
   steps_once = sources_once parts.modules.items parts.distinct lists places (λ k place e. (are k place e).0)

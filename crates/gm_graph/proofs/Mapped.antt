@@ -90,5 +90,5 @@ module _ (modules : List ModuleVersion) (old new : tree.BTreeMap ModuleVersion C
   each_more each = rw is
       (All-push (HasEntry modules new) before one
       (All-weaker (HasEntry modules old) (HasEntry modules new)
-      (λ f some. rw (got (module_at modules f.number)) (some_still (pair_eq v (module_at modules f.number)) (tree.get pair_cmp old (module_at modules f.number)) some)) before each)
+      (λ f some. let x = module_at modules f.number in rw (got x) (some_still (pair_eq v x) (tree.get pair_cmp old x) some)) before each)
       (rw (← at, got v, pair-self v)))

@@ -19,8 +19,8 @@ use Rattle.gm_graph.specs.Turns.{turn}
 use Rattle.gm_graph.specs.Private.Turns.{Visits}
 use Rattle.gm_graph.specs.Private.Worklists.{IsWorklist, turns_of}
 
--- The numbers in the worklist are those of a cache's modules, what a vertex requires whose file is marked as followed has
--- turns at full depth, and each finding is what the run found.
+-- The numbers in the worklist are those of a cache's modules, what a vertex requires has turns at full depth if its
+-- file is marked as followed, and each finding is what the run found.
 pub record IsReady (cache : Cache) (run : Run) (worklist : Worklist) (marks : Followed) (findings : Findings)
     : Type 0 where
   pub worklist_is : IsWorklist (table_in cache) worklist
@@ -28,8 +28,8 @@ pub record IsReady (cache : Cache) (run : Run) (worklist : Worklist) (marks : Fo
       × ((y : ModuleVersion) → Requires run x y → Contains (turns_of (table_in cache) worklist) (turn y Deep))
   pub found : AreFindings cache run findings
 
--- What the visit of this turn adds was added, and its vertex and no other one was visited. `marks` says which files were
--- followed.
+-- What the visit of this turn adds was added, and its vertex was visited and no other one more. `marks` says which
+-- files were followed.
 pub record AddsTurn (cache : Cache) (run : Run) (before after : Worklist) (marks : Followed) (old new : Findings)
     (one : NumberedTurn) : Type 0 where
   pub ready : IsReady cache run after marks new

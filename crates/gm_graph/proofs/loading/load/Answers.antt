@@ -31,9 +31,6 @@ returns-in_err-assemble-clause-asks g c = rw (c.in_ok-cache.ensures.main, c.in_o
 pub returns-clause-asks : goal.returns-clause-asks
 returns-clause-asks g c = rw (c.in_ok-cache.ensures.main, c.in_ok-cache.ensures.sums) at c.visit_all.ensures.asks.asks
 
-pub returns-clause-refused : goal.returns-clause-refused
-returns-clause-refused g c = c.in_ok-findings.ensures.asks.refused
-
 pub returns-in_err-worklist-clause-too_many : goal.returns-in_err-worklist-clause-too_many
 returns-in_err-worklist-clause-too_many g c = λ e.
     too_many_first _ _ _ c.requires (c.in_err-worklist.ensures.too_many (ap Err (sym (rw e at c.from_residual-in_err-worklist.ensures.1))))

@@ -40,9 +40,6 @@ turns-preserved g c =
 pub returns-clause-opened : goal.returns-clause-opened
 returns-clause-opened g c = last_step c.turns.invariant.state c.turns.invariant.ready.found (omega arith)
 
-pub returns-clause-asks : goal.returns-clause-asks
-returns-clause-asks g c = c.turns.invariant.asks
-
 pub visit-requires : goal.visit-requires
 visit-requires g c =
     let state = c.turns.invariant.state in
