@@ -15,7 +15,7 @@ use Rattle.gm_graph.specs.Private.CacheVisits.{Continues, HasVisited, IsVisit}
 use Rattle.gm_graph.specs.Run.{KeepsSayings}
 use Rattle.gm_graph.specs.Turns.{turn}
 use Rattle.gm_graph.proofs.Growing.{number_stays}
-use Rattle.gm_graph.proofs.Keeping.{knows_still, main_same, same_run}
+use Rattle.gm_graph.proofs.Keeping.{knows_still, same_run}
 
 -- ---- a cache that knows the file, and one with one more turn
 
@@ -23,7 +23,7 @@ module _ (old mid new : Cache) (lent : LentSame old mid) (numbered_by : BeginsWi
     (holds : HoldsSame mid new) (modules : table_in new ≡ table_in mid) where
   pub continues_both : Continues old new
   continues_both = record {
-    main = main_same mid new holds ∙ ap main_of lent.main;
+    main = ap main_of (holds.main ∙ lent.main);
     sums = holds.sums ∙ lent.sums;
     numbered = (numbered_by.0, modules ∙ numbered_by.1);
   }

@@ -79,9 +79,6 @@ sound_still old new earlier later main files stay keeps x place sound =
 
 -- ---- a cache that holds the same
 
-pub main_same : (old new : Cache) → HoldsSame old new → main_in new ≡ main_in old
-main_same old new same = ap main_of same.main
-
 -- A cache that holds the same knows the same.
 pub knows_still : {old new : Cache} (pairs : List (Name × Reply)) → HoldsSame old new → Knows old pairs → Knows new pairs
 knows_still pairs same knows = record {
@@ -121,15 +118,15 @@ pub holds_noted : (old new : Cache) → new.main.now ≡ old.main.now → sums_i
 holds_noted old new main sums others modules =
     holds_listed old new main sums (same_files others) ([], rw others.files (sym (append-nil old.files.files.items))) modules
 
+-- So does one with the same files.
+pub holds_beside : (old new : Cache) → new.main.now ≡ old.main.now → sums_in new ≡ sums_in old → new.files ≡ old.files
+    → new.modules ≡ old.modules → HoldsSame old new
+holds_beside old new main sums files modules = holds_listed old new main sums (λ name. ap (λ kept. kept_at kept name) files)
+    ([], ap (λ kept. kept.files.items) files ∙ sym (append-nil old.files.files.items)) modules
+
 -- The same cache holds the same.
 pub holds_itself : {cache : Cache} → HoldsSame cache cache
-holds_itself {cache} = record {
-  main = refl;
-  sums = refl;
-  held = λ name. refl;
-  numbered = ([], sym (append-nil (table_in cache)));
-  sound = λ run x place sound. sound;
-}
+holds_itself {cache} = holds_beside cache cache refl refl refl refl
 
 pub holds_after : {old mid new : Cache} → HoldsSame old mid → HoldsSame mid new → HoldsSame old new
 holds_after {old} {mid} {new} one two = record {
@@ -154,13 +151,6 @@ known_same {old} {new} {pairs} same knows is = record {
   numbered = same.numbered;
   sound = sound_same old new pairs same;
 }
-
--- So does a cache that differs in what was refused alone.
-pub holds_failed : {old mid new : Cache} → HoldsSame old mid → new.main.now ≡ mid.main.now → sums_in new ≡ sums_in mid
-    → new.files ≡ mid.files → new.modules ≡ mid.modules → HoldsSame old new
-holds_failed {mid = mid} {new = new} same main sums files modules = holds_after same
-    (holds_listed mid new main sums (λ name. ap (λ kept. kept_at kept name) files)
-    ([], ap (λ kept. kept.files.items) files ∙ sym (append-nil mid.files.files.items)) modules)
 
 -- ---- refusals
 

@@ -79,12 +79,7 @@ lent_within cache (Some place) =
 -- ---- what a visit gets
 
 module _ (cache : Cache) (pairs : List (Name × Reply)) (number : ℕ) (d : Depth) where
-  -- What is said of a vertex gives the place of its requirements.
-  pub lender_said : (says : Said) → IsSaid cache (run_in cache pairs) (module_numbered cache number) d says
-      → IsLender cache (run_in cache pairs) (module_numbered cache number) (file_said says)
-  lender_said (said.Fault class) is = (class, is)
-  lender_said (said.Sound file leads) is = is.0
-
+  -- What is said of a vertex gives a place of a file.
   pub place_said : (says : Said) → IsSaid cache (run_in cache pairs) (module_numbered cache number) d says
       → IfSome (file_said says) (λ place. place < file_count cache)
   place_said (said.Fault class) is = tt

@@ -6,7 +6,7 @@ use Rattle.gm_graph.specs.Cached.{main_in, summary_at, sums_in, table_in}
 use Rattle.gm_graph.specs.Private.Cached.{module_numbered}
 use Rattle.gm_graph.specs.Reading.{file_of, is_askable}
 use Rattle.gm_graph.proofs.Growing.{number_below, number_stays}
-use Rattle.gm_graph.proofs.Keeping.{any_err, holds_after, holds_failed, holds_itself, holds_listed, holds_noted, known_same}
+use Rattle.gm_graph.proofs.Keeping.{any_err, holds_after, holds_beside, holds_itself, holds_listed, holds_noted, known_same}
 use Rattle.gm_graph.proofs.OwnFiles.{added_there, has_file, has_noted, has_placed, new_file, noted_again, nothing_kept, placed_still, replacing_at}
 use Rattle.gm_graph.proofs.PuttingPlaces.{same_files}
 use Rattle.gm_graph.proofs.SharedLists.{listed_push}
@@ -115,7 +115,7 @@ note-requires g c =
 -- ---- refusals
 
 pub returns-in-Err-clause-err : goal.returns-in-Err-clause-err
-returns-in-Err-clause-err g c = holds_failed c.read_file.ensures.holds refl refl refl refl
+returns-in-Err-clause-err g c = holds_after c.read_file.ensures.holds (holds_beside c.read_file.new.self _ refl refl refl refl)
 
 -- ---- the file was asked for
 

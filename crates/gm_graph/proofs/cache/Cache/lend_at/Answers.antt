@@ -1,5 +1,5 @@
-use Rattle.std.proofs.Common.{[], append-nil, refl, sym}
-use Rattle.gm_graph.proofs.Keeping.{holds_listed}
+use Rattle.std.proofs.Common.{refl}
+use Rattle.gm_graph.proofs.Keeping.{holds_beside}
 use Rattle.gm_graph.proofs.Lending.{lent_within}
 use Rattle.gm_graph.proofs.cache.Cache.lend_at.Goals as goal
 
@@ -14,7 +14,7 @@ returns c =
         λ _. tt,
         record {
           turns = c.and-self.ensures;
-          holds = holds_listed cache _ refl refl (λ _. refl) ([], sym (append-nil cache.files.files.items)) refl;
+          holds = holds_beside cache _ refl refl refl refl;
           modules = refl;
           files = refl;
         },

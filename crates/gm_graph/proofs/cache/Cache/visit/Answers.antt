@@ -1,4 +1,4 @@
-use Rattle.std.proofs.Common.{◌∙◌, ◌++◌, ◌∷◌, [], ℕ, List, Option, ap, append-nil, length, refl, sym}
+use Rattle.std.proofs.Common.{◌∙◌, ◌++◌, ◌∷◌, [], ℕ, List, Option, ap, length, refl}
 use Rattle.gm_name.specs.ModuleVersion.{ModuleVersion}
 use Rattle.gm_name_table.specs.Listed.{NumberedList, modules_of}
 use Rattle.gm_graph.specs.declared.cache.depth.Turn.{Turn}
@@ -10,7 +10,7 @@ use Rattle.gm_graph.specs.Summaries.{at_span}
 use Rattle.gm_graph.specs.Turns.{turn}
 use Rattle.gm_graph.proofs.AskedFile.{asks_for}
 use Rattle.gm_graph.proofs.Caching.{continues_both, has_visited, visit_still}
-use Rattle.gm_graph.proofs.Keeping.{holds_listed, says_still}
+use Rattle.gm_graph.proofs.Keeping.{holds_itself, says_still}
 use Rattle.gm_graph.proofs.Lending.{lends_over, place_said, visit_got}
 use Rattle.gm_graph.proofs.cache.Cache.visit.Goals as goal
 
@@ -54,7 +54,7 @@ returns g c =
       record {
         lends = lends_over old mid before.asked after.asked (module_numbered mid number) d c.of.result made.knows
             (continues_both old mid mid known.lent made.numbered
-            (holds_listed mid mid refl refl (λ _. refl) ([], sym (append-nil mid.files.files.items)) refl) refl)
+            holds_itself refl)
             stays made.sound c.module.ensures.distinct got;
         asks = c.in_ok-place.ensures.asks;
         after = tt;
