@@ -23,7 +23,9 @@ use Rattle.gm_graph.specs.declared.cache.Cache.{Cache}
 use Rattle.gm_file.specs.Main.{Main, without_excluded}
 use Rattle.gm_graph.specs.Reading.{file_of}
 use Rattle.gm_graph.specs.declared.cache.summary.ListSpan.{ListSpan}
-use Rattle.gm_graph.specs.Summaries.{IsKept, IsWithinList, at_span, listed_span, summary_reading}
+use Rattle.gm_graph.specs.Summaries.{at_span, listed_span, summary_reading}
+use Rattle.gm_graph.specs.Private.Summaries.{IsWithinList}
+use Rattle.gm_graph.proofs.Spans.{IsKept, span_within}
 use Rattle.gm_graph.specs.Cached.{AreRequirements, IsSound, KeepsSound, Knows, file_count, its_requirements, main_in, no_requirements, run_in, summary_at, table_in}
 use Rattle.gm_graph.specs.Private.Cached.{HasFileAt, IsLender, kept_file, module_numbered, span_at}
 use Rattle.gm_graph.specs.Private.CacheVisits.{Continues, IsSaid, IsVisit, LendsOver, file_said, visit_of}
@@ -32,7 +34,6 @@ use Rattle.gm_graph.specs.Private.Held.{lent_table}
 use Rattle.gm_graph.specs.Run.{FileSays, KeepsSayings, Says}
 use Rattle.gm_graph.proofs.Holding.{held_says, held_sound}
 use Rattle.gm_graph.proofs.SharedLists.{found_own, kept_listed, kept_named}
-use Rattle.gm_graph.proofs.Spans.{span_within}
 
 -- What is kept at the place of a vertex's file is what the file says.
 pub kept_says : (cache : Cache) (pairs : List (Name × Reply)) (x : ModuleVersion) (place : ℕ) (one : Kept) → Knows cache pairs → HasFileAt cache x place

@@ -10,8 +10,8 @@ use Rattle.gm_graph.specs.declared.cache.summary.Kept.{Kept}
 use Rattle.gm_graph.specs.declared.cache.summary.Kept.TheVariants.{Valid, Faulty}
 use Rattle.gm_graph.specs.declared.cache.summary.ListSpan.{ListSpan}
 use Rattle.gm_file.specs.Main.{Main, is_excluded}
-use Rattle.gm_graph.specs.Summaries.{IsKept, IsSummary, IsWithinList, at_span, summary_reading}
-use Rattle.gm_graph.specs.Private.Summaries.{span_found}
+use Rattle.gm_graph.specs.Summaries.{at_span, summary_reading}
+use Rattle.gm_graph.specs.Private.Summaries.{IsSummary, IsWithinList, span_found}
 use Rattle.gm_graph.proofs.Excluding.{all_others}
 
 longer : (old new : List ModuleVersion) → BeginsWith old new → length old ≤ length new
@@ -26,7 +26,12 @@ span_still old new span begins is =
     rw (begins.1, drop-append-le span.start old begins.0 (omega (arith, is.order, is.within)))
     (take-append-le (span.end - span.start) (drop span.start old) begins.0 (omega (arith, is.order, is.within, length-drop span.start old)))
 
--- What is kept of a file stays the same.
+-- What is kept of a file is a summary of it, or a fault.
+abbrev pub IsKept : Main → List ModuleVersion → Kept → Type 0
+IsKept main modules (Valid summary) = IsSummary main modules summary
+IsKept main modules (Faulty class) = ⊤
+
+-- It stays the same.
 pub kept_still : (main : Main) (old new : List ModuleVersion) (one : Kept) → BeginsWith old new → IsKept main old one → IsKept main new one
 kept_still main old new (Valid summary) begins is = record {
   all_within = within_still old new summary.all begins is.all_within;

@@ -1,5 +1,5 @@
 -- What is kept of the files that were read.
-use Rattle.std.specs.Prelude.{◌≡◌, ◌≤◌, ℕ, List, ⊤, None, Option, Result, Ok, Err, Some, length, slice_get}
+use Rattle.std.specs.Prelude.{ℕ, List, ⊤, None, Option, Result, Ok, Err, Some, slice_get}
 use Rattle.std.specs.Option.{option_and_then}
 use Rattle.gm_name.specs.ModuleVersion.{ModuleVersion}
 use Rattle.gm_name_table.specs.Listed.{part}
@@ -11,9 +11,7 @@ use Rattle.gm_graph.specs.declared.cache.reading.FileReading.TheVariants as read
 use Rattle.gm_graph.specs.declared.cache.summary.Kept.{Kept}
 use Rattle.gm_graph.specs.declared.cache.summary.Kept.TheVariants.{Valid, Faulty}
 use Rattle.gm_graph.specs.declared.cache.summary.ListSpan.{ListSpan}
-use Rattle.gm_graph.specs.declared.cache.summary.Summary.{Summary}
 use Rattle.gm_store.specs.Asked.{Reply}
-use Rattle.gm_file.specs.Main.{Main, without_excluded}
 use Rattle.gm_graph.specs.Reading.{AreRetractedBy}
 
 -- what an answer says, as a reading
@@ -31,11 +29,6 @@ RetractsBy reply (read.Faulty class) = ⊤
 -- the modules of a span of the list
 abbrev pub at_span : List ModuleVersion → ListSpan → List ModuleVersion
 at_span modules span = part span.start span.end modules
-
--- A span is within the list.
-pub record IsWithinList (modules : List ModuleVersion) (span : ListSpan) : Type 0 where
-  pub order : span.start ≤ span.end
-  pub within : span.end ≤ length modules
 
 -- ---- what is kept of a file
 
@@ -62,13 +55,3 @@ own_span_at files place = option_and_then own_span (slice_get files place)
 abbrev pub summary_reading : List ModuleVersion → Kept → Result Dependency Class
 summary_reading modules (Valid summary) = Ok (with_requirements summary.file (at_span modules summary.all))
 summary_reading modules (Faulty class) = Err class
-
--- A summary has the requirements of its file, without the excluded ones, and both are in the list.
-pub record IsSummary (main : Main) (modules : List ModuleVersion) (summary : Summary) : Type 0 where
-  pub all_within : IsWithinList modules summary.all
-  pub kept_within : IsWithinList modules summary.kept
-  pub without : at_span modules summary.kept ≡ without_excluded main (at_span modules summary.all)
-
-abbrev pub IsKept : Main → List ModuleVersion → Kept → Type 0
-IsKept main modules (Valid summary) = IsSummary main modules summary
-IsKept main modules (Faulty class) = ⊤

@@ -6,7 +6,7 @@ use Rattle.gm_name.specs.ModuleVersion.{ModuleVersion}
 use Rattle.gm_name_table.specs.Listed.{Appends, NumberedList, part}
 use Rattle.gm_file.specs.Fields.{Dependency}
 use Rattle.gm_file.specs.Listed.{with_requirements}
-use Rattle.gm_file.specs.Main.{Main}
+use Rattle.gm_file.specs.Main.{Main, without_excluded}
 use Rattle.gm_graph.specs.declared.cache.class.Class.{Class}
 use Rattle.gm_graph.specs.declared.cache.list_index.SameList.{SameList}
 use Rattle.gm_graph.specs.declared.cache.reading.ListedReading.{ListedReading}
@@ -15,7 +15,12 @@ use Rattle.gm_graph.specs.declared.cache.summary.Kept.{Kept}
 use Rattle.gm_graph.specs.declared.cache.summary.Kept.TheVariants.{Valid, Faulty}
 use Rattle.gm_graph.specs.declared.cache.summary.ListSpan.{ListSpan}
 use Rattle.gm_graph.specs.declared.cache.summary.Summary.{Summary}
-use Rattle.gm_graph.specs.Summaries.{IsSummary, IsWithinList, listed_span, own_span, own_span_at}
+use Rattle.gm_graph.specs.Summaries.{at_span, listed_span, own_span, own_span_at}
+
+-- A span is within the list.
+pub record IsWithinList (modules : List ModuleVersion) (span : ListSpan) : Type 0 where
+  pub order : span.start ≤ span.end
+  pub within : span.end ≤ length modules
 
 -- what an answer says, as a reading, with the requirements that it put into the list of modules
 abbrev pub listed_reading : List ModuleVersion → ListedReading → Result Dependency Class
@@ -67,19 +72,25 @@ order_is_fact from (None ∷ spans) to = order_is_fact from spans to
 abbrev pub AreListsInOrder : ℕ → List Kept → ℕ → Type 0
 AreListsInOrder from files to = AreSpansInOrder from (own_spans files) to
 
+-- A summary has the requirements of its file, without the excluded ones, and both are in the list.
+pub record IsSummary (main : Main) (modules : List ModuleVersion) (summary : Summary) : Type 0 where
+  pub all_within : IsWithinList modules summary.all
+  pub kept_within : IsWithinList modules summary.kept
+  pub without : at_span modules summary.kept ≡ without_excluded main (at_span modules summary.all)
+
 -- The requirements of a file are in the list of modules, and the list that it shares is that of one of these files.
-abbrev pub IsListed : Main → List ModuleVersion → List Kept → Summary → Type 0
-IsListed main modules files summary = IsSummary main modules summary
+abbrev pub HasLists : Main → List ModuleVersion → List Kept → Summary → Type 0
+HasLists main modules files summary = IsSummary main modules summary
     × ((place : ℕ) → summary.same_as ≡ Some place → own_span_at files place ≡ Some summary.kept)
 
 -- The same of what is kept of a file, which may be a fault, and of all files.
-abbrev pub IsListedIfValid : Main → List ModuleVersion → List Kept → Kept → Type 0
-IsListedIfValid main modules files (Valid summary) = IsListed main modules files summary
-IsListedIfValid main modules files (Faulty class) = ⊤
+abbrev pub HasListsIfValid : Main → List ModuleVersion → List Kept → Kept → Type 0
+HasListsIfValid main modules files (Valid summary) = HasLists main modules files summary
+HasListsIfValid main modules files (Faulty class) = ⊤
 
-abbrev pub AreListed : Main → List ModuleVersion → List Kept → Type 0
-AreListed main modules files = (place : ℕ) (summary : Summary) → slice_get files place ≡ Some (Valid summary)
-    → IsListed main modules files summary
+abbrev pub HaveLists : Main → List ModuleVersion → List Kept → Type 0
+HaveLists main modules files = (place : ℕ) (summary : Summary) → slice_get files place ≡ Some (Valid summary)
+    → HasLists main modules files summary
 
 -- The requirements of each file are in the list of modules.
 abbrev pub AreWithinList : List ModuleVersion → List Kept → Type 0

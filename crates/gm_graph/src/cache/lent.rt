@@ -1,7 +1,7 @@
 //! The requirements that a cache returns.
 
 ghost use Rattle.gm_name_table.specs.Listed.{modules_of};
-ghost use Rattle.gm_graph.specs.Summaries.{IsWithinList};
+ghost use Rattle.gm_graph.specs.Private.Summaries.{IsWithinList};
 
 use crate::cache::summary::ListSpan;
 use gm_name::ModVer;

@@ -10,8 +10,8 @@ ghost use Rattle.gm_name_table.specs.Listed.{Appends, modules_of};
 ghost use Rattle.gm_file.specs.Listed.{with_requirements};
 ghost use Rattle.gm_file.specs.Main.{is_excluded, without_excluded, main_of};
 ghost use Rattle.gm_graph.specs.Private.Turns.{leads_on};
-ghost use Rattle.gm_graph.specs.Summaries.{IsSummary, at_span, own_span};
-ghost use Rattle.gm_graph.specs.Private.Summaries.{Grows, nowhere, same_list, span_found};
+ghost use Rattle.gm_graph.specs.Summaries.{at_span, own_span};
+ghost use Rattle.gm_graph.specs.Private.Summaries.{Grows, IsSummary, nowhere, same_list, span_found};
 
 use crate::cache::class::Class;
 use crate::cache::depth::Depth;

@@ -3,7 +3,7 @@ use Rattle.std.specs.Prelude.{Ok}
 use Rattle.gm_name_table.specs.Listed.{modules_of}
 use Rattle.gm_file.specs.Listed.{with_requirements}
 use Rattle.gm_file.specs.Main.{main_of}
-use Rattle.gm_graph.specs.Summaries.{IsSummary}
+use Rattle.gm_graph.specs.Private.Summaries.{IsSummary}
 use Rattle.gm_graph.proofs.SharedLists.{all_within, cut_front, cut_grows, cut_same, front, same_listed}
 use Rattle.gm_graph.proofs.cache.shared_summary.Goals as goal
 
