@@ -63,7 +63,8 @@ removed lines n view are cut keys_cut = (
 )
 
 -- another line at an index, and its key
-pub replaced : (lines : List declared.Line) {new : List declared.Line} {keys changed : List Key} {seen : List (Line Placed)} (at : ℕ) (line : declared.Line) {key : Key}
+pub replaced : (lines : List declared.Line) {new : List declared.Line} {keys changed : List Key} {seen : List (Line Placed)}
+    (at : ℕ) (line : declared.Line) {key : Key}
     → line_views lines ≡ seen → keys ≡ map key_of (line_views lines) → key ≡ key_of (line_of line)
     → new ≡ set lines at line → changed ≡ set keys at key
     → (line_views new ≡ set seen at (line_of line)) × (changed ≡ map key_of (line_views new))

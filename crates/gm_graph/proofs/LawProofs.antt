@@ -21,7 +21,8 @@ rows_are_required run asked loaded is x right there = (lawful.row_selected is.ro
 pub rows_satisfy : RowsSatisfyRequirements
 rows_satisfy run asked loaded is from y to other =
     let same : AreSame (among loaded.edges) (IsEdge run) = λ s z. is.edges.each (edge s z) in
-    lawful.rows_satisfy _ _ loaded.edges loaded.rows (same_build_list (IsEdge run) (among loaded.edges) (same_back _ _ same) is.rows) y (from, (same from y).1 to) other
+    lawful.rows_satisfy _ _ loaded.edges loaded.rows (same_build_list (IsEdge run) (among loaded.edges) (same_back _ _ same) is.rows)
+    y (from, (same from y).1 to) other
 
 module _ (run : Run) (unpruned : is_pruned_by run.main.go ≡ false) where
   deep_reached : {x : ModuleVersion} → IsDeep run x → IsTransitivelyRequired run x

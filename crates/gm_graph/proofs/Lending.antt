@@ -58,7 +58,8 @@ pub list_is : (cache : Cache) (pairs : List (Name × Reply)) (x : ModuleVersion)
     → at_span (modules_of cache.modules) at.span ≡ without_excluded (main_in cache) file.requirements
 list_is cache pairs x place file knows at says =
     lent_one (main_in cache) (modules_of cache.modules) (summary_at cache (file_of (main_in cache) x)) file at.span
-    (λ one. kept_named (main_in cache) (modules_of cache.modules) cache.files (file_of (main_in cache) x) one cache.listed) at.listed (held_sound cache pairs knows x file says)
+    (λ one. kept_named (main_in cache) (modules_of cache.modules) cache.files (file_of (main_in cache) x) one cache.listed)
+    at.listed (held_sound cache pairs knows x file says)
 
 -- The requirements returned from the place of a vertex's file, or from none if the vertex has a fault, are its
 -- requirements.

@@ -8,6 +8,7 @@ ghost use Rattle.std.specs.BTreeMap as tree;
 ghost use Rattle.gm_name.specs.ModuleVersion.{ModuleVersion, module_at, pair_cmp};
 ghost use Rattle.gm_graph.specs.Private.Findings.{place_at};
 ghost use Rattle.gm_graph.specs.Private.Gathering.{AreFaultsOf, AreFilePlaces, HasFaultOf, fault, has_file, source_at, gathered_sources, span_after, spans_of, steps_by};
+ghost use Rattle.gm_graph.specs.Places.{place_limit};
 ghost use Rattle.gm_graph.specs.Private.Summaries.{AreListsInOrder, AreSpansInOrder};
 ghost use Rattle.gm_graph_select.specs.Adjacency.{edges_of, sources_of as steps_left};
 ghost use Rattle.gm_graph_select.specs.declared.step.Step.TheVariants.{Of};
@@ -79,7 +80,7 @@ fn used_files(alloc: Global, count: usize, places: &[Option<u32>]) -> Result<Vec
 
 /// Where the list of a file is, if this is its own list and a vertex has that: otherwise an empty span at this place.
 fn span_after(end: u32, is_used: bool, own: Option<ListSpan>) -> Span
-    requires { AreSpansInOrder end (own ∷ []) 4294967295 }
+    requires { AreSpansInOrder end (own ∷ []) place_limit }
     ensures { result ≡ span_after end is_used own }
 {
     match own {
@@ -99,7 +100,7 @@ fn span_list(
     files: &[Kept],
     used: &[bool],
 ) -> Result<Vec<Span>, AllocError>
-    requires order { AreListsInOrder first files.now 4294967295 }
+    requires order { AreListsInOrder first files.now place_limit }
     requires used { length used.now ≡ length files.now }
     ensures { IfOk result (λ spans. spans.items
         ≡ spans_of first files.now (λ place. slice_index_or used.now place false)) }

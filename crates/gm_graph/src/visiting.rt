@@ -9,6 +9,7 @@ ghost use Rattle.gm_graph.specs.Private.CacheVisits.{IsVisit, required_by, table
 ghost use Rattle.gm_graph.specs.Refusals.{refused_in};
 ghost use Rattle.gm_graph.specs.Private.Worklists.{IsWorklist, turns_of};
 ghost use Rattle.gm_graph.specs.Private.Followed.{followed_at};
+ghost use Rattle.gm_graph.specs.Places.{place_limit};
 ghost use Rattle.gm_graph.specs.Run.{Run, Says};
 ghost use Rattle.gm_graph.specs.Turns.{turn};
 ghost use Rattle.gm_graph.specs.Private.Turns.{OverflowsWith};
@@ -85,7 +86,7 @@ pub(crate) fn visit<F: Asks>(
     requires ready { IsReady cache.old (run_in cache.old (F.state files.old).asked) worklist.old followed.old
         findings.old }
     requires below { one.number < length (table_in cache.old) }
-    requires few { file_count cache.old < 4294967295 }
+    requires few { file_count cache.old < place_limit }
     ensures visited { OnOk result (IsTurnVisited cache.old cache.new (F.state files.old).asked (F.state files.new).asked
         worklist.old worklist.new followed.new findings.old findings.new one) }
     ensures too_many { result ≡ Err LoadFault.TooMany → OverflowsAt (run_in cache.old (F.state files.new).asked)

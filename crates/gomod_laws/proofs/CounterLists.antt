@@ -105,7 +105,8 @@ module _ (run : Given) (main : Main) (table : Option Sums) (rows : List Entry) (
   rows_are known proper e =
       let begins : list_text main.path (main_entry ∷ map (entry_of (replacement_in main)) are.selected) ≡ list_text (codes "m") (main_entry ∷ known) =
       ap (list_text main.path) (sym are.entries_are) ∙ e in
-      let own = own_path main.path (list_text main.path (map (entry_of (replacement_in main)) are.selected)) (list_text (codes "m") known) main_is_path begins in (
+      let own = own_path main.path (list_text main.path (map (entry_of (replacement_in main)) are.selected))
+      (list_text (codes "m") known) main_is_path begins in (
         own,
         text_says_rows main.path main_is_path rows (main_entry ∷ known) rows_proper proper
             (e ∙ ap (λ (m : List ℕ). list_text m (main_entry ∷ known)) (sym own)),

@@ -145,7 +145,8 @@ run_has_proper_faults run main table faults read are one there =
 
 pub run_has_proper_rows : RunHasProperRows
 run_has_proper_rows run main table rows read are row there =
-    elim (member_cases main_entry row (map (entry_of (replacement_in main)) are.selected) (subst (λ (es : List Entry). Contains es row) are.entries_are there)) [
+    elim (member_cases main_entry row (map (entry_of (replacement_in main)) are.selected)
+    (subst (λ (es : List Entry). Contains es row) are.entries_are there)) [
       | inl same ↦ subst IsProperRow same refl
       | inr later ↦ (let (x, inside, is) = from_mapped (entry_of (replacement_in main)) are.selected row later in
           let end = ((are.each x).0 inside).is_end in

@@ -6,6 +6,7 @@ ghost use Rattle.std.specs.Prelude.{◌<◌};
 ghost use Rattle.gm_store.specs.Asked.{name_of};
 ghost use Rattle.gm_store.specs.Memory.{pairs_of};
 ghost use Rattle.gm_graph.specs.Cached.{Knows, KnowsLender, file_count};
+ghost use Rattle.gm_graph.specs.Places.{place_limit};
 
 use super::{File, OUT_OF_MEMORY, assert_same, main_file, path, store_of, version};
 use gm_file::MainFile;
@@ -108,7 +109,7 @@ fn asked_counts(
     vertex: &ModVer,
 ) -> (usize, usize)
     requires knows { Knows cache.old (pairs_of store.old) }
-    requires few { file_count cache.old < 4294967295 }
+    requires few { file_count cache.old < place_limit }
 {
     match cache.known(store, vertex).expect(rt, OUT_OF_MEMORY) {
         Known::Fault(_) => lent_counts(rt, cache, vertex, None),

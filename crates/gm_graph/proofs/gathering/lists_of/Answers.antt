@@ -3,13 +3,14 @@ use Rattle.std.proofs.Common.{◌∙◌, ap, arith, length}
 use Rattle.gm_graph.specs.Private.Gathering.{spans_of}
 use Rattle.gm_graph.specs.Private.Summaries.{own_spans}
 use Rattle.gm_graph.proofs.Ordered.{order_longer}
+use Rattle.gm_graph.specs.Places.{place_limit}
 use Rattle.gm_graph.proofs.gathering.lists_of.Goals as goal
 
 pub span_list-requires-clause-order : goal.span_list-requires-clause-order
 span_list-requires-clause-order c =
     let parts = c.args.parts.now in
     rw c.deref-2.ensures.value
-    (order_longer parts.first (own_spans parts.files.items) (length parts.numbers.items) 4294967295 (omega arith) parts.in_order)
+    (order_longer parts.first (own_spans parts.files.items) (length parts.numbers.items) place_limit (omega arith) parts.in_order)
 
 pub returns-clause-spans : goal.returns-clause-spans
 returns-clause-spans c =

@@ -4,10 +4,11 @@ use Rattle.gm_graph.specs.Summaries.{own_span}
 use Rattle.gm_graph.specs.Private.Summaries.{own_spans}
 use Rattle.gm_graph.proofs.Gathered.{from_place, span_more}
 use Rattle.gm_graph.proofs.Ordered.{order_ends, order_first, order_rest}
+use Rattle.gm_graph.specs.Places.{place_limit}
 use Rattle.gm_graph.proofs.gathering.span_list.Goals as goal
 
 pub overflow_cast-end : goal.overflow_cast-end
-overflow_cast-end c = let ends = order_ends c.args.first (own_spans c.args.files.now) 4294967295 c.requires.order in omega arith
+overflow_cast-end c = let ends = order_ends c.args.first (own_spans c.args.files.now) place_limit c.requires.order in omega arith
 
 pub span_after-span-requires : goal.span_after-span-requires
 span_after-span-requires c =
@@ -15,7 +16,7 @@ span_after-span-requires c =
     let kept = c.kept-item.result in
     let k = c.loop-kept.kept-index in
     rw c.own_span.ensures
-    (order_first c.loop-kept.end (own_span kept) (own_spans (drop (k + 1) files)) 4294967295
+    (order_first c.loop-kept.end (own_span kept) (own_spans (drop (k + 1) files)) place_limit
     (rw (from_place files k kept c.loop-kept-test.true c.kept-item.is) at c.loop-kept.invariant.order))
 
 pub loop-kept-preserved : goal.loop-kept-preserved
@@ -30,7 +31,7 @@ loop-kept-preserved c =
     let is = rw c.own_span.ensures at c.span_after-span.ensures in
     record {
       at = omega (arith, held.at);
-      order = rw is (order_rest c.loop-kept.end _ (own_span kept) rest 4294967295 (rw front at held.order));
+      order = rw is (order_rest c.loop-kept.end _ (own_span kept) rest place_limit (rw front at held.order));
       spans = span_more used c.loop-kept.place c.loop-kept.end (own_span kept) rest c.loop-kept.spans.items is c.in_ok-push-2.ensures.items
           (rw front at held.spans);
     }

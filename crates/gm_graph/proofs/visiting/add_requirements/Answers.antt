@@ -42,7 +42,8 @@ returns-clause-adds c = λ cache run ready below is.
       ready = record {
         worklist_is = here.worklist_is;
         followed = followed_more cache run _ _ marks c.if-leads.followed _ one.depth required is here.adds.extends ready.followed here.files here.followed;
-        found = file_noted c.args.findings.now more one.number required.file noted.put noted.others c.note_file.ensures.faults cache run ready.found below sound;
+        found = file_noted c.args.findings.now more one.number required.file noted.put noted.others c.note_file.ensures.faults cache run
+            ready.found below sound;
       };
       follows = record { said = Ok says.file; says = says.says; adds = rw⁻¹ (says.leads, says.modules) here.adds };
       finds = file_finds c.args.findings.now more one.number required.file noted.put noted.others c.note_file.ensures.faults;

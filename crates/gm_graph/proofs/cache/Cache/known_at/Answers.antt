@@ -65,7 +65,8 @@ invariant_of-self-in-Ok g c =
           (λ all. AreListsInOrder mid.first all (length mid.modules.numbers)) mid.in_order c.in-Ok.ensures.order;
       listed = has_added files c.add.new.self.files.items kept c.add.ensures.files
           (HaveLists (main_in mid) (modules_of mid.modules)) mid.listed
-          (listed_push (main_in mid) (modules_of mid.modules) files kept mid.listed (rw (c.read_file.ensures.files, c.read_file.ensures.lent.main) c.in-Ok.ensures.listed));
+          (listed_push (main_in mid) (modules_of mid.modules) files kept mid.listed
+          (rw (c.read_file.ensures.files, c.read_file.ensures.lent.main) c.in-Ok.ensures.listed));
     }
 
 -- ---- memory ran out before anything was asked for

@@ -37,7 +37,8 @@ returns g c =
     let after = g.F.Asks.state c.known_at.new.files in
     let stays = says_still old mid before after (module_numbered old number) known.lent
     (asks_for {failed = []} (main_in old) (module_numbered old number) c.in_ok-place.ensures.asks) in
-    let got : IsVisit mid (run_in mid after.asked) (module_numbered mid number) d c.of.result = rw c.of.ensures (visit_got mid after.asked number d c.said-said.result c.lend_at-list.result made.knows
+    let got : IsVisit mid (run_in mid after.asked) (module_numbered mid number) d c.of.result =
+    rw c.of.ensures (visit_got mid after.asked number d c.said-said.result c.lend_at-list.result made.knows
     (c.said-said.ensures after.asked made.knows)
     (c.lend_at-list.ensures.modules ∙ ap (λ (p : Option ℕ). at_span (modules_of mid.modules) (span_at mid p)) c.file.ensures)
     c.lend_at-list.ensures.table) in

@@ -31,7 +31,8 @@ pub returns-clause-notes : goal.returns-clause-notes
 returns-clause-notes c = λ main modules is.
     notes_put _ c.args.place c.some-noted.result is
     (λ other. rw c.put_replacing.ensures.places (c.in_ok-note.ensures.notes other))
-    (rw c.note.ensures.others.replacing at c.put_replacing.ensures.puts) c.some-noted.ensures (names_are _ c.with-self.ensures (c.put_replacing.ensures.names ∙ c.note.ensures.others.names))
+    (rw c.note.ensures.others.replacing at c.put_replacing.ensures.puts) c.some-noted.ensures
+    (names_are _ c.with-self.ensures (c.put_replacing.ensures.names ∙ c.note.ensures.others.names))
 
 -- ---- memory ran out
 
