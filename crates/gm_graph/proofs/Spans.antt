@@ -1,5 +1,6 @@
 -- Spans of a list of modules that grew at its end.
 use Rattle.std.proofs.Common.{◌≡◌, ◌∙◌, ◌≤◌, ◌-◌, ℕ, List, Option, Some, None, arith, ap, drop, false, length, length-append, refl}
+use Rattle.std.specs.Prelude.{⊤}
 use Rattle.std.proofs.lemmas.List.{drop-append-le, length-drop, take-append-le}
 use Rattle.std.specs.List.{list_any}
 use Rattle.std.specs.Option.{option_map}
