@@ -1,4 +1,4 @@
-//! What a command of a case runs over, and what it ends with.
+//! The runs of cases: what they run over, their outcomes, and which are right.
 //!
 //! `Folders` makes a store in memory of the files of a case, which stands for the proxy folders of the command line.
 //! `CaseRuntime` is the runtime of the program over the real files in one folder: the words of the command line and
@@ -10,8 +10,6 @@
 //! with the case, `check_found` what it did over a store in memory, `InMemory`. `CutFile` and `Output` say what is
 //! right over a file that is cut off and an output that is full, `report_of` and `fails_after` over a file that can't
 //! be opened.
-//!
-//! Nothing here depends on what the commands do.
 #![tactic(auto)]
 
 mod case_runtime;
