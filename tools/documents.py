@@ -410,9 +410,10 @@ def is_shallow():
 def keep_lengths(tally):
     """Whether each budget holds."""
     for budget, *patterns in (it.split() for it in BUDGETS.strip().split("\n")):
+        gone = [it for it in patterns if not glob.glob(it)]
         count = sum(map(words_of, {name for it in patterns for name in glob.glob(it)}))
-        what = f"{' '.join(patterns)}: {count:,} words, {int(budget):,} are allowed, and at least one"
-        tally.tell("budgets", all(map(glob.glob, patterns)) and count <= int(budget), what)
+        what = f"there is no file {', '.join(gone)}" if gone else f"{count:,} words, {int(budget):,} are allowed"
+        tally.tell("budgets", not gone and count <= int(budget), f"{' '.join(patterns)}: {what}")
 
 
 def words_in(lines):

@@ -205,9 +205,9 @@ install_files() {
 FILES
 }
 
-# Begins a benchmark with its arguments: it sets `small` if there is --small, `gomod` to the
-# program, `work` to a folder that is removed at the end, and how many runs there are of each command. bench/tables.py
-# names another program and another number of runs.
+# Begins a benchmark with its arguments: it sets `small` if there is --small, `gomod` to the program, `work` to a folder
+# that is removed at the end, and how many runs there are of each command. bench/tables.py names another program and
+# another number of runs.
 begin_benchmark() {
   begin_script "$@"
   small='' runs=${BENCH_RUNS:-3}

@@ -25,6 +25,8 @@ PASTED = r"README\.md|docs/use/\w+\.md"
 PROGRAM_SECTION = r"(?ms)^## A whole program\n.*?(?=^## |\Z)"
 PROGRAM_LINES = 40
 PROGRAM_SOURCE = "crates/library_example/src/main.rt"
+# How the text before a piece of code ends, with the crate that has it.
+CRATE_NAMED = r"\bFrom (\w+):\Z"
 
 
 def blocks(lines):
@@ -177,14 +179,19 @@ class Documents:
             self.tally.tell("lines without a prompt", not re.search(r"\S\s+# ", line), message)
 
     def compare_code(self, name, text):
-        """Whether each piece of code is in a source of a crate, and the whole program that of library_example."""
-        sources = {file: read(file) for file in glob.glob("crates/*/src/**/*.rt", recursive=True)}
+        """Whether each piece of code is in a source of the crate that is named before it, and the whole program is that
+        of library_example. A piece that follows another at once is of the same crate."""
+        crate, ends = "", 0
         for found in re.finditer(r"(?ms)^```rust\n(.*?)^```$", text):
-            is_program = found[1].startswith("//!")
-            is_right = any(found[1] in source for file, source in sources.items() if is_program == (file == PROGRAM_SOURCE))
+            before, ends = text[ends:found.start()].strip(), found.end()
+            if before:
+                named = re.search(CRATE_NAMED, before)
+                crate = named[1] if named else ""
+            place = PROGRAM_SOURCE if found[1].startswith("//!") else crate and f"crates/{crate}/src/**/*.rt"
+            is_right = any(found[1] in read(it) for it in glob.glob(place, recursive=True))
+            wrong = f"this code is not in {place}" if place else "no `From CRATE:` stands before this code"
             number = text.count("\n", 0, found.start()) + 1
-            place = PROGRAM_SOURCE if is_program else "a source of a crate"
-            self.tally.tell("pieces of code", is_right, f"{name}:{number}: this code is not in {place}")
+            self.tally.tell("pieces of code", is_right, f"{name}:{number}: {wrong}")
 
     def follow_links(self, name, text):
         """Whether each link to a file, or to a heading of one, leads there."""

@@ -13,10 +13,11 @@
 # folder with the files of the repository, which they have to leave as it was, and with bin/ on the PATH. A block is
 # skipped if it, or a script that it runs, calls curl, dot, git, jq or vim and there is no such command.
 #
-# It also compares the pieces of code of docs/lib/LIBRARY.md, fenced as rust, with the sources of the crates. The one
-# that is a whole program is that of crates/library_example; it compiles and runs it in a fresh folder, by the commands
-# beside it. It tests that each link of a document to a file of the repository, or to a heading of one, leads there, and
-# that in README.md and docs/use no comment follows a command, since zsh takes one that is typed for words.
+# It also compares the pieces of code of docs/lib/LIBRARY.md, fenced as rust, with the sources of the crate that is
+# named before them (`From CRATE:`). The one that is a whole program is that of crates/library_example; it compiles and
+# runs it in a fresh folder, by the commands beside it. It tests that each link of a document to a file of the
+# repository, or to a heading of one, leads there, and that in README.md and docs/use no comment follows a command,
+# since zsh takes one that is typed for words.
 #
 # Of a release the documents and the files of the examples are in share/doc/gomod, and no code is compared.
 #

@@ -75,11 +75,12 @@ class Trial:
         self.program, self.runs, self.wrong = program, 0, 0
 
     def judge(self, what, got, is_right):
-        """Counts a run, and prints it if it is wrong."""
+        """Counts a run, and prints it if it is wrong, each part of what came cut to 300 characters."""
         self.runs += 1
         if not is_right:
             self.wrong += 1
-            print(f"{what}\n  {str(got)[:300]}", flush=True)
+            parts = got if isinstance(got, (list, tuple)) else [got]
+            print(what, *(f"  {str(it)[:300]}" for it in parts), sep="\n", flush=True)
 
 
 def checksum(text):
