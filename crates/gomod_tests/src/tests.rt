@@ -1,9 +1,10 @@
-//! Tests of readers, writers, stores, documents and graphs. The worked examples of the program are cases of the crate
-//! `run_cases`.
+//! Tests of readers, writers, stores, documents and graphs, and of how faults are shown. The worked examples of the
+//! program are cases of the crate `run_cases`.
 //!
 //! The tests run with ample memory. A test that runs out of it anyway ends, and says that this is the reason.
 
 mod documents;
+mod faults;
 mod graphs;
 mod opened_files;
 mod readers;

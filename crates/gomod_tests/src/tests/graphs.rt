@@ -1,5 +1,5 @@
-//! What no command prints of a module graph: the turns by which it is loaded, and what a cache of files that is asked by
-//! name lends to those who walk a graph of their own.
+//! What no command prints of a module graph: the turns by which it is loaded, and what a cache of files that is asked
+//! by name lends to those who walk a graph of their own.
 
 ghost use Rattle.std.specs.Option.{option_map};
 ghost use Rattle.std.specs.Prelude.{◌<◌};
@@ -19,12 +19,15 @@ use std::process::Abort;
 /// The main file, which is pruned. It requires a pruned module, and one without pruning that leads to that one again.
 const MAIN: &str = "module m.io\ngo 1.17\nrequire a.io v1.0.0\nrequire b.io v1.0.0\n";
 
+/// A main file that is not pruned. It requires a pruned module.
+const UNPRUNED_MAIN: &str = "module m.io\nrequire a.io v1.0.0\n";
+
 /// The files of the other modules.
 const FILES: &'static [File] = &[
     (
         "a.io",
         "v1.0.0",
-        "module a.io\ngo 1.17\nrequire c.io v1.0.0\n",
+        "module a.io\ngo 1.17\nrequire c.io v1.0.0\nrequire e.io v1.0.0\n",
     ),
     ("b.io", "v1.0.0", "module b.io\nrequire a.io v1.0.0\n"),
     (
@@ -33,15 +36,18 @@ const FILES: &'static [File] = &[
         "module c.io\ngo 1.17\nrequire d.io v1.0.0\n",
     ),
     ("d.io", "v1.0.0", "module d.io\n"),
+    ("e.io", "v1.0.0", "module e.io\n"),
 ];
 
-/// For which module paths requirements are read, and to which depth.
+/// For which module paths requirements are read from the pruned main file on, and to which depth. From the other main
+/// file on they are read for the same paths at full depth, and for none at the top.
 const TURNS: &'static [(&'static str, Depth)] = &[
     ("a.io", Depth::Top),
     ("b.io", Depth::Top),
     ("a.io", Depth::Deep),
     ("c.io", Depth::Deep),
     ("d.io", Depth::Deep),
+    ("e.io", Depth::Deep),
 ];
 
 /// Whether one of these turns takes a module to this depth.
@@ -135,14 +141,19 @@ fn counts_of(rt: &impl Abort, alloc: Global, main: &MainFile<'_>, number: &str) 
     required_counts(rt, alloc, main, &pair.expect(rt, number))
 }
 
-// One test for both, since what owns a main file is proved through all its fields.
+/// Compares how many turns are taken from a main file on, and what a cache lends beside it, with what is wanted.
+// Both in one function, since what owns a main file is proved through all its fields.
+fn assert_counts(rt: &impl Abort, alloc: Global, text: &str, turns: (usize, usize)) {
+    let main = main_file(rt, alloc, text);
+    assert_same(rt, text, &turn_counts(rt, alloc, &main), &turns);
+    let known = counts_of(rt, alloc, &main, "v1.0.0");
+    assert_same(rt, "a module with a file", &known, &(2, 2));
+    let missing = counts_of(rt, alloc, &main, "v1.1.0");
+    assert_same(rt, "a module without one", &missing, &(0, 0));
+}
+
 #[test]
 fn turns_are_taken_and_a_cache_lends_by_name(rt: HostRuntime) {
-    let main = main_file(&rt, rt.alloc(), MAIN);
-    let turns = turn_counts(&rt, rt.alloc(), &main);
-    assert_same(&rt, "turns", &turns, &(5, 5));
-    let known = counts_of(&rt, rt.alloc(), &main, "v1.0.0");
-    assert_same(&rt, "a module with a file", &known, &(1, 1));
-    let missing = counts_of(&rt, rt.alloc(), &main, "v1.1.0");
-    assert_same(&rt, "a module without one", &missing, &(0, 0));
+    assert_counts(&rt, rt.alloc(), MAIN, (6, 6));
+    assert_counts(&rt, rt.alloc(), UNPRUNED_MAIN, (4, 4));
 }
