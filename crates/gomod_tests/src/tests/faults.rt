@@ -1,6 +1,7 @@
 //! Faults as a program that uses the libraries shows them. No command prints these words.
 
 use super::{OUT_OF_MEMORY, assert_same};
+use gm_file_edit::EditFault;
 use gm_graph::Class;
 use gm_syntax::{Doc, SyntaxFault};
 use std::alloc::Global;
@@ -22,5 +23,11 @@ fn syntax_fault(rt: &impl Abort, alloc: Global, text: &str) -> SyntaxFault {
 fn faults_are_shown(rt: HostRuntime) {
     let open = syntax_fault(&rt, rt.alloc(), "module example.com/hello\nrequire (\n");
     assert_shown(&rt, rt.alloc(), open, "line 2: a block that isn't closed");
+    assert_shown(
+        &rt,
+        rt.alloc(),
+        EditFault::Misfit,
+        "the version doesn't fit the path",
+    );
     assert_shown(&rt, rt.alloc(), Class::Missing, "missing");
 }
