@@ -6,10 +6,10 @@
 ghost use Rattle.gm_file.specs.Directives.{Right};
 ghost use Rattle.gm_graph_select.specs.Laws.{EntriesAreReached, MainIsFirst, OneBuildList, OneRest, PagesExist, PagesJoin, RowsAreEnds, RowsSatisfy, SomeBuildList};
 
-/// The rows of a loaded graph are a build list: there is exactly one for its edges (Go Modules Reference, "Minimal version
-/// selection"), with one rest after each path and with pages that join to it. Its first row is the main module, and edges
-/// lead to every row if each edge leaves a step that edges lead to.
-pub fn loaded_rows_are_a_build_list()
+/// A list of edges has exactly one build list (Go Modules Reference, "Minimal version selection"). Its rows are ends of
+/// edges, and satisfy each edge; it has one rest after each path, and pages that join to it. Its entry of the main module's
+/// path is the main module. Edges lead to every row if each edge leaves a step that edges lead to.
+pub fn a_loaded_graph_has_one_build_list()
     ensures ends { RowsAreEnds Right }
     ensures satisfy { RowsSatisfy Right }
     ensures unique { OneBuildList Right }

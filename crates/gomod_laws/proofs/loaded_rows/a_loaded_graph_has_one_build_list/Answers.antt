@@ -1,6 +1,6 @@
 use Rattle.gm_graph_select.proofs.Inserting.{some_build_list}
 use Rattle.gm_graph_select.proofs.Lawful as lawful
-use Rattle.gomod_laws.proofs.loaded_rows.loaded_rows_are_a_build_list.Goals as goal
+use Rattle.gomod_laws.proofs.loaded_rows.a_loaded_graph_has_one_build_list.Goals as goal
 
 pub returns-clause-ends : goal.returns-clause-ends
 returns-clause-ends c = lawful.rows_are_ends
