@@ -5,19 +5,17 @@
 ghost use Rattle.std.specs.Prelude.{◌≡◌, ◌++◌, IfOk, IfSome, Some, map, option_map, true};
 ghost use Rattle.std.specs.String.{string_bytes};
 ghost use Rattle.gomod_words.specs.Private.Items.{words_in};
-ghost use Rattle.gomod_words.specs.Private.Rows.{is_over_file};
-ghost use Rattle.gomod_words.specs.Private.Tips.{IsShown, IsTipOf, is_mod, is_note, is_on_path, is_versions, is_word, stands_for, without_name, without_versions};
-ghost use Rattle.gomod_words.specs.declared.table.CommandName.TheVariants.{Fmt};
+ghost use Rattle.gomod_words.specs.Private.Tips.{IsShown, IsTipOf, is_note, is_versions, stands_for, without_name, without_versions};
 ghost use Rattle.gomod_words.specs.Typed.{left_text, typed_words};
 ghost use Rattle.gomod_words.specs.Usage.{ShowsLine, is_line_or_memory, usage_of};
 
-use crate::dashed::{begins_with_dash, without_dashes};
+use crate::dashed::begins_with_dash;
 use crate::help::usage_of;
-use crate::items::{Item, items, push_all_words, word_in};
+use crate::items::{Item, items, option_in, plain_word, push_all_words};
 use crate::lines::shown;
-use crate::placed::{Placed, has, has_cache_alone, has_operation, place_all};
+use crate::placed::{Placed, has, has_operation, has_other_list, place_all};
 use crate::refusal::{Refusal, refusal_in};
-use crate::rows::{Row, Slot, Target, is_edit_of_go, is_on_path, is_over_file, row_of, target_of};
+use crate::rows::{Slot, Target, is_edit_of_go, is_on_path, is_over_file, is_unknown, target_of};
 use crate::table::{CommandName, command_row};
 use crate::typed::{followed, push_left};
 use crate::usage::{UsageFault, line};
@@ -96,15 +94,15 @@ fn copied(alloc: Global, text: Option<&str>) -> Tip {
 
 /// Whether words that are refused with an error of this kind can be put right by what else they say.
 fn leads_on(kind: ErrorKind) -> bool {
-    match kind {
-        ErrorKind::UnknownArgument => true,
-        ErrorKind::InvalidValue => true,
-        ErrorKind::InvalidSubcommand => true,
-        ErrorKind::MissingRequiredArgument => true,
-        ErrorKind::TooManyValues => true,
-        ErrorKind::ArgumentConflict => true,
-        _ => false,
-    }
+    matches!(
+        kind,
+        ErrorKind::UnknownArgument
+            | ErrorKind::InvalidValue
+            | ErrorKind::InvalidSubcommand
+            | ErrorKind::MissingRequiredArgument
+            | ErrorKind::TooManyValues
+            | ErrorKind::ArgumentConflict
+    )
 }
 
 /// What to type instead of these words. If the parser names something similar to a word, that goes before an option
@@ -133,54 +131,19 @@ fn target_in(alloc: Global, name: &str) -> Result<Target, AllocError> {
 
 /// The word in the place of a command: the first that is no option, after `mod`, or the first option.
 fn command_in<'a>(items: &[Item<'a>]) -> &'a str {
-    let mut name = None;
+    let mut name = match items {
+        [Item::Word(word) | Item::Pair(word, _), ..] => *word,
+        _ => "",
+    };
     for item in items {
-        name = named(name, *item);
+        if let Some(word) = plain_word(*item) {
+            name = word;
+            if word != "mod" {
+                return word;
+            }
+        }
     }
-    match name {
-        Some(name) => name,
-        None => match items {
-            [item, ..] => word_in(*item),
-            _ => "",
-        },
-    }
-}
-
-/// The command, by what was taken for it before an item.
-fn named<'a>(name: Option<&'a str>, item: Item<'a>) -> Option<&'a str> {
-    if is_open(name) && is_word(item) {
-        Some(word_in(item))
-    } else {
-        name
-    }
-}
-
-/// Whether the next word is the command.
-fn is_open(name: Option<&str>) -> bool {
-    match name {
-        Some(name) => name == "mod",
-        None => true,
-    }
-}
-
-/// Whether an item is a word that is no option.
-fn is_word(item: Item<'_>) -> bool
-    ensures { result ≡ is_word item.entry }
-{
-    match item {
-        Item::Word(word) => !begins_with_dash(word),
-        _ => false,
-    }
-}
-
-/// Whether an item is the word `mod`.
-fn is_mod(item: Item<'_>) -> bool
-    ensures { result ≡ is_mod item.entry }
-{
-    match item {
-        Item::Word(word) => word == "mod",
-        _ => false,
-    }
+    name
 }
 
 /// The items without the command, and without `mod` before it.
@@ -190,10 +153,9 @@ fn without_name<'a>(alloc: Global, items: &[Item<'a>]) -> Result<Vec<Item<'a>>, 
     let mut rest = Vec::new(alloc);
     let mut is_open = true;
     for item in items {
-        if is_open && is_word(*item) {
-            is_open = is_mod(*item);
-        } else {
-            rest.push(*item)?;
+        match plain_word(*item) {
+            Some(word) if is_open => is_open = word == "mod",
+            _ => rest.push(*item)?,
         }
     }
     Ok(rest)
@@ -226,21 +188,23 @@ fn ours_tip(alloc: Global, command: CommandName, has_similar: bool, rest: &[Item
 
 /// What to type for `edit`.
 fn edit_tip(alloc: Global, rest: &[Item<'_>]) -> Tip {
-    if rest.iter().any(|item| is_edit_of_go(*item)) {
-        go_tip(alloc, "go mod edit", ABOUT_EDIT, rest)
-    } else {
-        command_tip(alloc, CommandName::Edit, rest)
+    for item in rest {
+        if is_edit_of_go(*item) {
+            return go_tip(alloc, "go mod edit", ABOUT_EDIT, rest);
+        }
     }
+    command_tip(alloc, CommandName::Edit, rest)
 }
 
 /// What to type for `list`: `go list -m -versions` lists versions.
 fn list_tip(alloc: Global, rest: &[Item<'_>]) -> Tip {
-    if rest.iter().any(|item| is_versions(*item)) {
-        let rest = without_versions(alloc, rest)?;
-        command_tip(alloc, CommandName::Versions, rest.as_slice())
+    let others = without_versions(alloc, rest)?;
+    let command = if others.len() == rest.len() {
+        CommandName::List
     } else {
-        command_tip(alloc, CommandName::List, rest)
-    }
+        CommandName::Versions
+    };
+    command_tip(alloc, command, others.as_slice())
 }
 
 /// Whether the item is the option `-versions`.
@@ -248,8 +212,11 @@ fn is_versions(item: Item<'_>) -> bool
     ensures { result ≡ is_versions item.entry }
 {
     match item {
-        Item::Word(word) => begins_with_dash(word) && without_dashes(word) == "versions",
-        _ => false,
+        Item::Word(word) => match option_in(word) {
+            Some(option) => option == "versions",
+            None => false,
+        },
+        Item::Pair(_, _) => false,
     }
 }
 
@@ -268,15 +235,12 @@ fn without_versions<'a>(alloc: Global, items: &[Item<'a>]) -> Result<Vec<Item<'a
 
 /// Whether the items of this command have an option that is not known.
 fn has_unknown(command: CommandName, rest: &[Item<'_>]) -> bool {
-    rest.iter().any(|item| is_unknown(command, *item))
-}
-
-/// Whether the item is an option that is not known.
-fn is_unknown(command: CommandName, item: Item<'_>) -> bool {
-    match row_of(command, item) {
-        Row::Unknown => true,
-        _ => false,
+    for item in rest {
+        if is_unknown(command, *item) {
+            return true;
+        }
     }
+    false
 }
 
 /// What to type for `fmt` of a file that was named without a command.
@@ -300,14 +264,15 @@ fn go_tip(alloc: Global, command: &str, about: &str, rest: &[Item<'_>]) -> Tip
 
 /// What to type for the version: of gomod, or of the programs that the words name.
 fn version_tip(alloc: Global, name: &str, rest: &[Item<'_>]) -> Tip {
-    match rest {
-        [] => copied(alloc, Some("gomod --version")),
-        [_] => if begins_with_dash(name) {
-            copied(alloc, Some("gomod --version"))
-        } else {
-            go_tip(alloc, "go version", ABOUT_GO, rest)
-        },
-        _ => go_tip(alloc, "go version", ABOUT_GO, rest),
+    let is_ours = match rest {
+        [] => true,
+        [_] => begins_with_dash(name),
+        _ => false,
+    };
+    if is_ours {
+        copied(alloc, Some("gomod --version"))
+    } else {
+        go_tip(alloc, "go version", ABOUT_GO, rest)
     }
 }
 
@@ -323,10 +288,7 @@ fn help_tip(alloc: Global, rest: &[Item<'_>]) -> Tip {
 
 /// The command of gomod that an item names, if it names one.
 fn command_of(item: Item<'_>) -> Option<CommandName> {
-    if !is_word(item) {
-        return None;
-    }
-    match target_of(word_in(item)) {
+    match target_of(plain_word(item)?) {
         Target::Ours(command) => Some(command),
         _ => None,
     }
@@ -350,106 +312,87 @@ fn with_left(alloc: Global, text: &str, rest: &[Item<'_>]) -> Tip
 }
 
 /// A command of gomod with what it takes of these items.
+#[tactic(auto, using(crate::proofs::TipLemmas::of_items))]
 fn command_tip(alloc: Global, command: CommandName, items: &[Item<'_>]) -> Tip
     ensures { IfOk result (λ tip. IfSome tip (λ text. IsTipOf command items.now (string_bytes text))) }
 {
-    if is_over_file(command) {
-        over_file(alloc, command, items)
-    } else if is_on_path(command) {
-        over_path(alloc, command, items)
-    } else {
-        over_graph(alloc, command, "", items)
-    }
+    let name = name_for(alloc, command, items)?;
+    let placed = place_all(alloc, name, items)?;
+    placed_tip(alloc, command, name, placed.as_slice())
 }
 
-/// A command over one file: `edit` if there is an operation, otherwise `fmt`. Both take the same.
-#[tactic(auto, using(crate::proofs::TipLemmas::of_items))]
-fn over_file(alloc: Global, command: CommandName, items: &[Item<'_>]) -> Tip
-    requires { is_over_file command ≡ true }
-    ensures { IfOk result (λ tip. IfSome tip (λ text. IsTipOf command items.now (string_bytes text))) }
+/// The command that is shown for this one with these items.
+fn name_for(
+    alloc: Global,
+    command: CommandName,
+    items: &[Item<'_>],
+) -> Result<CommandName, AllocError>
+    ensures { IfOk result (λ name. stands_for command name ≡ true) }
 {
-    let placed = place_all(alloc, CommandName::Fmt, items)?;
-    file_line(alloc, command, placed.as_slice())
+    let placed = place_all(alloc, command, items)?;
+    Ok(name_by(command, placed.as_slice()))
 }
 
-/// The tip for items of this command over one file that are placed.
-#[tactic(auto, using(crate::proofs::TipLemmas::shown_for))]
-fn file_line(alloc: Global, command: CommandName, placed: &[Placed<'_>]) -> Tip
-    requires { is_over_file command ≡ true }
-    ensures { IfOk result (λ tip. IfSome tip (λ text. IsShown command placed.now (string_bytes text))) }
-{
-    let name = file_command(command, has_operation(placed));
-    let note = about_operation(command, has_operation(placed) || has(placed, Slot::Print));
-    shown(alloc, name, note, "", placed)
-}
-
-/// The command over one file that is shown for this one, with operations or without.
-#[tactic(auto, using(crate::proofs::TipLemmas::stands_over_file))]
-fn file_command(command: CommandName, has_operation: bool) -> CommandName
-    requires { is_over_file command ≡ true }
+/// The command that is shown for this one with items that are placed: `edit` if there is an operation, otherwise `fmt`,
+/// and the list of modules if none is named.
+fn name_by(command: CommandName, placed: &[Placed<'_>]) -> CommandName
     ensures { stands_for command result ≡ true }
 {
-    if has_operation {
-        CommandName::Edit
-    } else {
-        CommandName::Fmt
+    match command {
+        CommandName::Fmt | CommandName::Edit => if has_operation(placed) {
+            CommandName::Edit
+        } else {
+            CommandName::Fmt
+        },
+        CommandName::Chain | CommandName::Versions => if has(placed, Slot::Operand) {
+            command
+        } else {
+            CommandName::List
+        },
+        _ => command,
     }
+}
+
+/// The tip for a command that is shown as the one with this name, for items that are placed.
+fn placed_tip(alloc: Global, command: CommandName, name: CommandName, placed: &[Placed<'_>]) -> Tip
+    ensures { IfOk result (λ tip. IfSome tip (λ text. IsShown name placed.now (string_bytes text))) }
+{
+    let before = if is_over_file(name) {
+        about_operation(command, placed)
+    } else {
+        about_folder(placed)
+    };
+    shown(alloc, name, before, about_path(command, name), placed)
 }
 
 /// What is said of `fmt` in the place of this command.
-fn about_operation(command: CommandName, says_what: bool) -> &'static str
+fn about_operation(command: CommandName, placed: &[Placed<'_>]) -> &'static str
     ensures { is_note result.now ≡ true }
 {
-    match command {
-        CommandName::Edit => if says_what { "" } else { ABOUT_OPERATION },
-        _ => "",
-    }
-}
-
-/// A command on one module, or the list of modules if none is named.
-#[tactic(auto, using(crate::proofs::TipLemmas::of_items, crate::proofs::TipLemmas::listed))]
-fn over_path(alloc: Global, command: CommandName, items: &[Item<'_>]) -> Tip
-    requires { is_on_path command ≡ true }
-    ensures { IfOk result (λ tip. IfSome tip (λ text. IsTipOf command items.now (string_bytes text))) }
-{
-    let placed = place_all(alloc, command, items)?;
-    if has(placed.as_slice(), Slot::Operand) {
-        graph_line(alloc, command, "", placed.as_slice())
+    if matches!(command, CommandName::Fmt) || has_operation(placed) || has(placed, Slot::Print) {
+        ""
     } else {
-        over_graph(alloc, CommandName::List, ABOUT_PATH, items)
+        ABOUT_OPERATION
     }
-}
-
-/// A command over proxy folders, and this after it.
-#[tactic(auto, using(crate::proofs::TipLemmas::of_items))]
-fn over_graph(alloc: Global, command: CommandName, about: &'static str, items: &[Item<'_>]) -> Tip
-    requires { is_note about.now ≡ true }
-    ensures { IfOk result (λ tip. IfSome tip (λ text. IsTipOf command items.now (string_bytes text))) }
-{
-    let placed = place_all(alloc, command, items)?;
-    graph_line(alloc, command, about, placed.as_slice())
-}
-
-/// The tip for items of a command over proxy folders that are placed, and this after it.
-#[tactic(auto, using(crate::proofs::TipLemmas::shown_itself))]
-fn graph_line(
-    alloc: Global,
-    command: CommandName,
-    about: &'static str,
-    placed: &[Placed<'_>],
-) -> Tip
-    requires { is_note about.now ≡ true }
-    ensures { IfOk result (λ tip. IfSome tip (λ text. IsShown command placed.now (string_bytes text))) }
-{
-    shown(alloc, command, about_folder(placed), about, placed)
 }
 
 /// What is said of the proxy folders.
 fn about_folder(placed: &[Placed<'_>]) -> &'static str
     ensures { is_note result.now ≡ true }
 {
-    if has_cache_alone(placed) {
+    if has_other_list(placed) {
+        ""
+    } else {
         ABOUT_CACHE
+    }
+}
+
+/// What is said of the list of modules in the place of this command.
+fn about_path(command: CommandName, name: CommandName) -> &'static str
+    ensures { is_note result.now ≡ true }
+{
+    if is_on_path(command) && !is_on_path(name) {
+        ABOUT_PATH
     } else {
         ""
     }

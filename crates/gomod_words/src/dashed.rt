@@ -5,15 +5,13 @@ ghost use Rattle.std.specs.Prelude.{◌≡◌, ◌∷◌, ◌++◌, ℕ, IfOk, I
 ghost use Rattle.std.specs.List.{find, flat_map};
 ghost use Rattle.std.specs.Option.{option_copied};
 ghost use Rattle.std.specs.String.{string_bytes};
-ghost use Rattle.clap.specs.Lexer.{strip_byte, without_minus};
+ghost use Rattle.clap.specs.Lexer.{without_minus};
 ghost use Rattle.gomod_words.specs.Typed.{typed_words};
 ghost use Rattle.gomod_words.specs.Usage.{IsLineOf, dashed_message, dashed_text, edit_message, words_after};
 ghost use Rattle.gomod_words.specs.Private.Items.{waiting};
-ghost use Rattle.gm_operation.specs.Operations.{has_byte};
 ghost use Rattle.gomod_words.specs.Dashed.{begins_with_dash, dashed_in, edit_words, free_from, is_file, is_free, is_operation, is_operation_name, joined_from, joined_words, left_from, omitted_words, names_operation, names_value, operation_in, operations_in, takes_value, without_dashes};
 
 use crate::help::usage_of;
-use crate::items::name_before;
 use crate::lines::push_texts;
 use crate::table::{EDIT, has_value, option_named};
 use crate::typed::{followed, push_left};
@@ -28,18 +26,11 @@ pub(crate) fn begins_with_dash(word: &str) -> bool
     matches!(word.as_bytes(), [b'-', _, ..])
 }
 
-/// What follows a first dash.
-fn strip_dash(word: &str) -> Option<&str>
-    ensures { option_copied result ≡ strip_byte 45 word.now }
-{
-    word.strip_prefix('-')
-}
-
 /// The word without a first dash.
 fn without_dash(word: &str) -> &str
     ensures { result.now ≡ without_minus word.now }
 {
-    match strip_dash(word) {
+    match word.strip_prefix('-') {
         Some(rest) => rest,
         None => word,
     }
@@ -59,18 +50,14 @@ pub(crate) fn names_operation(name: &str) -> bool
     OperationKind::named(name).is_some()
 }
 
-/// Whether a text contains `=`.
-fn has_equals(text: &[u8]) -> bool
-    ensures { result ≡ has_byte 61 text.now }
-{
-    text.iter().any(|b| *b == b'=')
-}
-
 /// Whether a text begins with the name of an operation and `=`.
 fn is_operation(text: &str) -> bool
     ensures { result ≡ is_operation text.now }
 {
-    has_equals(text.as_bytes()) && names_operation(name_before(text))
+    match text.split_once('=') {
+        Some((name, _)) => names_operation(name),
+        None => false,
+    }
 }
 
 /// The operation that a word is, with one dash or two in front or with none.
@@ -85,7 +72,12 @@ pub(crate) fn operation_in(word: &str) -> Option<&str>
 fn first_with_dash<'a>(words: &[&'a str]) -> Option<&'a str>
     ensures { option_copied result ≡ find begins_with_dash (map (λ word. word.now) words.now) }
 {
-    words.iter().copied().find(|word| begins_with_dash(*word))
+    for word in words {
+        if begins_with_dash(word) {
+            return Some(*word);
+        }
+    }
+    None
 }
 
 /// The operation that the words of a command line have with a dash in front, or `None` if the parser is to read them.

@@ -1,11 +1,11 @@
 //! The words of a command line as they were meant: options, each with its value, and other words.
 
 ghost use Rattle.std.specs.Prelude.{◌≡◌, ◌∷◌, ◌++◌, IfOk, [], OnOk, map};
-ghost use Rattle.std.specs.List.{before_first};
+ghost use Rattle.std.specs.List.{after_first, before_first};
 ghost use Rattle.std.specs.Option.{option_copied};
-ghost use Rattle.gomod_words.specs.Private.Items.{is_equals, not_empty, option_in, option_name, option_value, value_after, waiting, words_in, item_words};
+ghost use Rattle.gomod_words.specs.Private.Items.{is_equals, item_words, only_word, option_in, option_name, option_value, plain_word, waiting, words_in};
 
-use crate::dashed::{self, begins_with_dash, names_operation, without_dashes};
+use crate::dashed::{begins_with_dash, names_operation, names_value, without_dashes};
 use crate::names::is_among;
 use std::alloc::{AllocError, Global};
 
@@ -18,16 +18,32 @@ pub(crate) enum Item<'a> {
     Pair(&'a str, &'a str),
 }
 
-/// The first word of an item.
-pub(crate) fn word_in<'a>(item: Item<'a>) -> &'a str {
+/// The word, unless it is two.
+pub(crate) fn only_word<'a>(item: Item<'a>) -> Option<&'a str>
+    ensures { option_copied result ≡ only_word item.entry }
+{
     match item {
-        Item::Word(word) => word,
-        Item::Pair(option, _) => option,
+        Item::Word(word) => Some(word),
+        Item::Pair(_, _) => None,
+    }
+}
+
+/// The word, unless it is an option.
+pub(crate) fn plain_word<'a>(item: Item<'a>) -> Option<&'a str>
+    ensures { option_copied result ≡ plain_word item.entry }
+{
+    match item {
+        Item::Word(word) => if begins_with_dash(word) {
+            None
+        } else {
+            Some(word)
+        },
+        Item::Pair(_, _) => None,
     }
 }
 
 /// The option that a word is, without its dashes.
-fn option_in(word: &str) -> Option<&str>
+pub(crate) fn option_in(word: &str) -> Option<&str>
     ensures { option_copied result ≡ option_in word.now }
 {
     if begins_with_dash(word) {
@@ -47,21 +63,14 @@ pub(crate) fn name_before(option: &str) -> &str
     }
 }
 
-/// The value in the word of an option, if it is not empty.
-fn value_after(option: &str) -> Option<&str>
-    ensures { option_copied result ≡ value_after option.now }
+/// The value in the word of an option that is written without its dashes.
+fn value_after(option: &str) -> &str
+    ensures { result.now ≡ after_first is_equals option.now }
 {
     match option.split_once('=') {
-        Some((_, value)) => not_empty(value),
-        None => None,
+        Some((_, value)) => value,
+        None => "",
     }
-}
-
-/// The text, unless it is empty.
-fn not_empty(text: &str) -> Option<&str>
-    ensures { option_copied result ≡ not_empty text.now }
-{
-    if text.is_empty() { None } else { Some(text) }
 }
 
 /// The name of an option, without its dashes. Another word has none.
@@ -74,13 +83,16 @@ pub(crate) fn name_in<'a>(item: Item<'a>) -> Option<&'a str>
     }
 }
 
-/// The value of an option, if it is not empty.
-pub(crate) fn value_in<'a>(item: Item<'a>) -> Option<&'a str>
-    ensures { option_copied result ≡ option_value item.entry }
+/// The value of an option, which is empty if it has none.
+pub(crate) fn value_in<'a>(item: Item<'a>) -> &'a str
+    ensures { result.now ≡ option_value item.entry }
 {
     match item {
-        Item::Word(word) => value_after(option_in(word)?),
-        Item::Pair(_, value) => not_empty(value),
+        Item::Word(word) => match option_in(word) {
+            Some(option) => value_after(option),
+            None => "",
+        },
+        Item::Pair(_, value) => value,
     }
 }
 
@@ -158,17 +170,15 @@ fn push_item<'a>(
 
 /// Whether a word is an option, of gomod or of go, that takes the next word as its value.
 fn takes_value(word: &str) -> bool {
-    begins_with_dash(word) && names_value(without_dashes(word))
-}
-
-/// Whether this is the name of an option that takes a value.
-fn names_value(name: &str) -> bool {
+    let Some(name) = option_in(word) else {
+        return false;
+    };
     is_among(
         name,
         &[
             "C", "color", "f", "format", "modfile", "o", "output", "reuse", "tags",
         ],
-    ) || dashed::names_value(name)
+    ) || names_value(name)
         || names_operation(name)
         || names_operation_of_go(name)
 }

@@ -8,5 +8,10 @@ ghost use Rattle.std.specs.Str.{bytes_eq};
 pub(crate) fn is_among(name: &str, names: &[&str]) -> bool
     ensures { result ≡ list_any (λ each. bytes_eq name.now each.now) names.now }
 {
-    names.iter().any(|each| name == *each)
+    for each in names {
+        if name == *each {
+            return true;
+        }
+    }
+    false
 }

@@ -1,17 +1,21 @@
 //! What becomes of each item of a command line that is meant for another one: an item is a part of the command line that
 //! is shown instead, or it is left out.
 
-ghost use Rattle.std.specs.Prelude.{◌≡◌, ◌∷◌, ◌++◌, All, IfOk, [], OnOk, map};
-ghost use Rattle.std.specs.List.{list_any};
+ghost use Rattle.std.specs.Prelude.{◌≡◌, ◌++◌, All, IfOk, [], OnOk, map};
+ghost use Rattle.std.specs.Option.{option_map_or};
 ghost use Rattle.std.specs.String.{string_bytes};
-ghost use Rattle.gomod_words.specs.Private.Placed.{asks_for_json, grouped, is_of, omitted_by, operation_text, operations_by, placed_operations, option_words, part_words, release_words, undashed, words_by};
+ghost use Rattle.gomod_words.specs.Private.Items.{item_words};
+ghost use Rattle.gomod_words.specs.Private.Placed.{grouped, json_text, operation_text, option_words, placed_operations, usual, words_by, placed_words};
 ghost use Rattle.gomod_words.specs.Private.Rows.{Becomes, is_over_file};
 
 use crate::dashed::{in_one_word, operation_in, without_dashes};
-use crate::items::{Item, push_words};
-use crate::rows::{CACHE, Row, Slot, row_of};
-use crate::table::{CommandName, OptionName, typed_option};
+use crate::items::{Item, push_words, value_in};
+use crate::rows::{CACHE, Row, Slot, is_over_file, row_of};
+use crate::table::{CommandName, OptionName, has_value, typed_option};
 use std::alloc::{AllocError, Global};
+
+/// What is said of JSON.
+const ABOUT_JSON: &str = "\n       for JSON see docs/use/RECIPES.md, which makes it of the rows";
 
 /// An item with what becomes of it.
 #[derive(Clone, Copy)]
@@ -68,27 +72,23 @@ pub(crate) fn place_all<'a>(
     Ok(placed)
 }
 
-/// What all items of a command say together.
+/// What all items of a command say together. Its first operand is the file.
 fn whole_of(command: CommandName, items: &[Item<'_>]) -> Whole {
-    Whole {
-        is_input: names_input(command, items),
-        has_folders: items.iter().any(|item| is_list(row_of(command, *item))),
-    }
-}
-
-/// Whether the first operand of a command is the name of standard input.
-fn names_input(command: CommandName, items: &[Item<'_>]) -> bool {
+    let mut file = None;
+    let mut has_folders = false;
     for item in items {
-        if let Row::Part(Slot::Operand, file) = row_of(command, *item) {
-            return file == "-";
+        match row_of(command, *item) {
+            Row::Part(Slot::Operand, text) => file = Some(file.unwrap_or(text)),
+            Row::Part(Slot::Given(OptionName::Proxy), _) => if !value_in(*item).is_empty() {
+                has_folders = true;
+            },
+            _ => {}
         }
     }
-    false
-}
-
-/// Whether this is a list of proxy folders.
-fn is_list(row: Row<'_>) -> bool {
-    matches!(row, Row::Part(Slot::Proxy, _))
+    Whole {
+        is_input: file == Some("-"),
+        has_folders,
+    }
 }
 
 /// What becomes of an item after those that have filled these slots. A part that there is already is left out, and so
@@ -102,7 +102,7 @@ fn settled<'a>(
     ensures { IfOk result (λ row. Becomes (is_over_file command) item.entry row) }
 {
     let row = row_of(command, item);
-    match slot_of(row) {
+    match slot_of(Placed { item, row }) {
         Some(slot) => if is_free(seen.as_slice(), whole, slot) {
             seen.push(slot)?;
             Ok(row)
@@ -116,22 +116,26 @@ fn settled<'a>(
 /// Whether there is a place for this slot, after those that are filled: each once, so that few are looked at, however many
 /// items there are.
 fn is_free(seen: &[Slot], whole: Whole, slot: Slot) -> bool {
-    !is_void(whole, slot) && !seen.iter().any(|filled| *filled == slot)
-}
-
-/// Whether all items together leave nothing for this slot.
-fn is_void(whole: Whole, slot: Slot) -> bool {
+    for filled in seen {
+        if *filled == slot {
+            return false;
+        }
+    }
     match slot {
-        Slot::Output => whole.is_input,
-        Slot::Cache => whole.has_folders,
-        _ => false,
+        Slot::Output => !whole.is_input,
+        Slot::Given(OptionName::Proxy) => !whole.has_folders,
+        _ => true,
     }
 }
 
 /// The slot that this fills, if it fills one. There may be many lists of proxy folders. JSON is asked for once.
-fn slot_of(row: Row<'_>) -> Option<Slot> {
-    match row {
-        Row::Part(Slot::Proxy, _) => None,
+fn slot_of(each: Placed<'_>) -> Option<Slot> {
+    match each.row {
+        Row::Part(Slot::Given(OptionName::Proxy), _) => if value_in(each.item).is_empty() {
+            Some(Slot::Given(OptionName::Proxy))
+        } else {
+            None
+        },
         Row::Part(Slot::Format, _) => Some(Slot::Json),
         Row::Part(slot, _) => Some(slot),
         Row::Release(_, _) => Some(Slot::Operand),
@@ -141,154 +145,78 @@ fn slot_of(row: Row<'_>) -> Option<Slot> {
 
 /// Whether there is a part of this slot.
 pub(crate) fn has(placed: &[Placed<'_>], slot: Slot) -> bool {
-    placed.iter().any(|each| slot_of(each.row) == Some(slot))
-}
-
-/// Whether something asks for JSON.
-pub(crate) fn has_json(placed: &[Placed<'_>]) -> bool
-    ensures { result ≡ list_any (λ each. asks_for_json each.row) placed.now }
-{
-    placed.iter().any(|each| asks_for_json(each.row))
-}
-
-/// Whether this asks for JSON.
-fn asks_for_json(row: Row<'_>) -> bool
-    ensures { result ≡ asks_for_json row.entry }
-{
-    match row {
-        Row::Part(Slot::Json, _) => true,
-        Row::Part(Slot::Format, _) => true,
-        _ => false,
+    for each in placed {
+        if let Some(filled) = slot_of(*each) {
+            if filled == slot {
+                return true;
+            }
+        }
     }
-}
-
-/// Whether the only proxy folder is the module cache of the go command.
-pub(crate) fn has_cache_alone(placed: &[Placed<'_>]) -> bool {
-    !placed.iter().any(|each| names_other(each.row))
-}
-
-/// Whether this is a list of proxy folders other than the module cache of the go command.
-fn names_other(row: Row<'_>) -> bool {
-    match row {
-        Row::Part(Slot::Proxy, folders) => folders != CACHE,
-        _ => false,
-    }
+    false
 }
 
 /// Whether there is an operation.
 pub(crate) fn has_operation(placed: &[Placed<'_>]) -> bool {
-    placed.iter().any(|each| is_operation(each.row))
-}
-
-/// Whether this is an operation.
-fn is_operation(row: Row<'_>) -> bool {
-    matches!(row, Row::Operation)
-}
-
-/// Appends a word.
-fn push_word<'a>(words: &mut Vec<&'a str>, word: &'a str) -> Result<(), AllocError>
-    ensures { OnOk result (map (λ word. word.now) words.new.items
-        ≡ map (λ word. word.now) words.old.items ++ (word.now ∷ [])) }
-{
-    words.push(word)?;
-    Ok(())
-}
-
-/// Appends an option and its value.
-fn push_pair<'a>(words: &mut Vec<&'a str>, name: &'a str, value: &'a str) -> Result<(), AllocError>
-    ensures { OnOk result (map (λ word. word.now) words.new.items
-        ≡ map (λ word. word.now) words.old.items ++ (name.now ∷ value.now ∷ [])) }
-{
-    words.extend_from_slice(&[name, value])?;
-    Ok(())
-}
-
-/// Appends a part that is an option.
-fn push_option<'a>(words: &mut Vec<&'a str>, slot: Slot, text: &'a str) -> Result<(), AllocError>
-    ensures { OnOk result (map (λ word. word.now) words.new.items
-        ≡ map (λ word. word.now) words.old.items ++ option_words slot text.now) }
-{
-    match slot {
-        Slot::Main => push_pair(words, typed_option(OptionName::Mod), text),
-        Slot::Sums => push_pair(words, typed_option(OptionName::Sum), text),
-        Slot::After => push_pair(words, typed_option(OptionName::After), text),
-        Slot::Limit => push_pair(words, typed_option(OptionName::Limit), text),
-        Slot::Retracted => push_word(words, typed_option(OptionName::Retracted)),
-        _ => Ok(()),
+    for each in placed {
+        if matches!(each.row, Row::Operation) {
+            return true;
+        }
     }
+    false
 }
 
-/// Whether a part of this slot is a word of this group.
-fn is_of(group: Group, slot: Slot) -> bool
-    ensures { result ≡ is_of group slot }
-{
-    match group {
-        Group::Operands => matches!(slot, Slot::Operand),
-        Group::Lists => matches!(slot, Slot::Proxy | Slot::Cache),
-        Group::Folders => matches!(slot, Slot::Folder),
-        Group::Outputs => matches!(slot, Slot::Output),
-        _ => false,
+/// Whether there is a list of proxy folders other than the module cache of the go command.
+pub(crate) fn has_other_list(placed: &[Placed<'_>]) -> bool {
+    for each in placed {
+        if let Row::Part(Slot::Given(OptionName::Proxy), folders) = each.row {
+            if folders != CACHE {
+                return true;
+            }
+        }
     }
+    false
 }
 
-/// Appends the words of this group that a part with this text has.
-fn push_part<'a>(
-    words: &mut Vec<&'a str>,
-    group: Group,
-    slot: Slot,
-    text: &'a str,
-) -> Result<(), AllocError>
-    ensures { OnOk result (map (λ word. word.now) words.new.items
-        ≡ map (λ word. word.now) words.old.items ++ part_words group slot text.now) }
+/// What is said of JSON, if something asks for it.
+pub(crate) fn json_text(placed: &[Placed<'_>]) -> &'static str
+    ensures { result.now ≡ json_text placed.now }
 {
-    match group {
-        Group::Options => push_option(words, slot, text),
-        _ => if is_of(group, slot) {
-            push_word(words, text)
+    for each in placed {
+        if matches!(each.row, Row::Part(Slot::Json | Slot::Format, _)) {
+            return ABOUT_JSON;
+        }
+    }
+    ""
+}
+
+/// The words that an option of gomod with this text is typed as. The lists of proxy folders are typed as one.
+fn option_words<'a>(option: OptionName, text: &'a str) -> Option<Item<'a>>
+    ensures { option_map_or item_words result [] ≡ option_words option text.now }
+{
+    match option {
+        OptionName::Proxy => None,
+        _ => if has_value(option) {
+            Some(Item::Pair(typed_option(option), text))
         } else {
-            Ok(())
+            Some(Item::Word(typed_option(option)))
         },
     }
 }
 
-/// Appends the words of this group that PATH and a version have.
-fn push_release<'a>(
-    words: &mut Vec<&'a str>,
-    group: Group,
-    path: &'a str,
-    version: &'a str,
-) -> Result<(), AllocError>
-    ensures { OnOk result (map (λ word. word.now) words.new.items
-        ≡ map (λ word. word.now) words.old.items ++ release_words group path.now version.now) }
+/// The words of this group that there are of an item.
+fn words_by<'a>(group: Group, each: Placed<'a>) -> Option<Item<'a>>
+    ensures { option_map_or item_words result [] ≡ words_by group each.entry.item each.entry.row }
 {
-    match group {
-        Group::Operands => push_word(words, path),
-        Group::Left => push_word(words, version),
-        _ => Ok(()),
-    }
-}
-
-/// Appends the words of this group that an item has which is left out.
-fn push_left<'a>(words: &mut Vec<&'a str>, group: Group, item: Item<'a>) -> Result<(), AllocError>
-    ensures { OnOk result (map (λ word. word.now) words.new.items
-        ≡ map (λ word. word.now) words.old.items ++ omitted_by group item.entry) }
-{
-    match group {
-        Group::Left => push_words(words, item),
-        _ => Ok(()),
-    }
-}
-
-/// Appends the words of this group that there are of an item.
-fn push_of<'a>(words: &mut Vec<&'a str>, group: Group, each: Placed<'a>) -> Result<(), AllocError>
-    ensures { OnOk result (map (λ word. word.now) words.new.items
-        ≡ map (λ word. word.now) words.old.items ++ words_by group each.entry.item each.entry.row) }
-{
-    match each.row {
-        Row::Part(slot, text) => push_part(words, group, slot, text),
-        Row::Release(path, version) => push_release(words, group, path, version),
-        Row::Operation => Ok(()),
-        Row::LeftOut | Row::Unknown => push_left(words, group, each.item),
+    match (group, each.row) {
+        (Group::Operands, Row::Part(Slot::Operand, text)) => Some(Item::Word(text)),
+        (Group::Operands, Row::Release(path, _)) => Some(Item::Word(path)),
+        (Group::Lists, Row::Part(Slot::Given(OptionName::Proxy), text)) => Some(Item::Word(text)),
+        (Group::Options, Row::Part(Slot::Given(option), text)) => option_words(option, text),
+        (Group::Folders, Row::Part(Slot::Folder, text)) => Some(Item::Word(text)),
+        (Group::Outputs, Row::Part(Slot::Output, text)) => Some(Item::Word(text)),
+        (Group::Left, Row::Release(_, version)) => Some(Item::Word(version)),
+        (Group::Left, Row::LeftOut) => Some(each.item),
+        _ => None,
     }
 }
 
@@ -299,35 +227,47 @@ fn push_group<'a>(
     placed: &[Placed<'a>],
 ) -> Result<(), AllocError>
     ensures { OnOk result (map (λ word. word.now) words.new.items
-        ≡ map (λ word. word.now) words.old.items ++ grouped group placed.now) }
+        ≡ map (λ word. word.now) words.old.items ++ placed_words group placed.now) }
 {
     for each in placed {
-        push_of(words, group, *each)?;
+        if let Some(item) = words_by(group, *each) {
+            push_words(words, item)?;
+        }
     }
     Ok(())
 }
 
-/// The words of this group.
+/// The words of this group that a command has if no item has any: FILE of a command over one file, and the proxy folder
+/// of another command.
+fn usual<'a>(command: CommandName, group: Group) -> &'static [&'a str]
+    ensures { map (λ word. word.now) result.now ≡ usual command group }
+{
+    match group {
+        Group::Operands => if is_over_file(command) {
+            &["go.mod"]
+        } else {
+            &[]
+        },
+        Group::Lists => if is_over_file(command) { &[] } else { &[CACHE] },
+        _ => &[],
+    }
+}
+
+/// The words of this group, for this command.
 pub(crate) fn grouped<'a>(
     alloc: Global,
+    command: CommandName,
     group: Group,
     placed: &[Placed<'a>],
 ) -> Result<Vec<&'a str>, AllocError>
-    ensures { IfOk result (λ words. map (λ word. word.now) words.items ≡ grouped group placed.now) }
+    ensures { IfOk result (λ words. map (λ word. word.now) words.items ≡ grouped command group placed.now) }
 {
     let mut words = Vec::new(alloc);
     push_group(&mut words, group, placed)?;
-    Ok(words)
-}
-
-/// The operation that a word is, without a dash, or the word.
-fn undashed(word: &str) -> &str
-    ensures { result.now ≡ undashed word.now }
-{
-    match operation_in(word) {
-        Some(operation) => operation,
-        None => word,
+    if words.is_empty() {
+        words.extend_from_slice(usual(command, group))?;
     }
+    Ok(words)
 }
 
 /// The operation that an item is, in one word without a dash.
@@ -335,32 +275,9 @@ fn operation_text(alloc: Global, item: Item<'_>) -> Result<String, AllocError>
     ensures { IfOk result (λ text. string_bytes text ≡ operation_text item.entry) }
 {
     match item {
-        Item::Word(word) => copied(alloc, undashed(word)),
+        Item::Word(word) => Ok(String::from_str(alloc, operation_in(word).unwrap_or(word))?),
         Item::Pair(option, value) => in_one_word(alloc, without_dashes(option), value),
     }
-}
-
-/// A copy of a text.
-fn copied(alloc: Global, text: &str) -> Result<String, AllocError>
-    ensures { IfOk result (λ copy. string_bytes copy ≡ text.now) }
-{
-    Ok(String::from_str(alloc, text)?)
-}
-
-/// Appends the operation that an item is, if it becomes one.
-fn push_operation(
-    alloc: Global,
-    texts: &mut Vec<String>,
-    each: Placed<'_>,
-) -> Result<(), AllocError>
-    ensures { OnOk result (map string_bytes texts.new.items
-        ≡ map string_bytes texts.old.items ++ operations_by each.entry.item each.entry.row) }
-{
-    match each.row {
-        Row::Operation => texts.push(operation_text(alloc, each.item)?)?,
-        _ => {}
-    }
-    Ok(())
 }
 
 /// Appends the operations, each in one word.
@@ -373,7 +290,9 @@ pub(crate) fn push_operations(
         ≡ map string_bytes texts.old.items ++ placed_operations placed.now) }
 {
     for each in placed {
-        push_operation(alloc, texts, *each)?;
+        if matches!(each.row, Row::Operation) {
+            texts.push(operation_text(alloc, each.item)?)?;
+        }
     }
     Ok(())
 }

@@ -75,13 +75,13 @@ fn without_suffix<'t>(text: &'t str, suffix: &str) -> &'t str {
 /// The message before its tips and what they name, where this mark ends the one and begins the others. If a word has a
 /// mark in it, nothing tells where the message ends, and there is this short one.
 fn split_at_tip<'t>(front: &'t str, short: &'t str, mark: &str, words: &[&str]) -> Refusal<'t> {
-    if words.iter().any(|word| word.contains(mark)) {
+    if is_within(mark, words) {
         return bare(short);
     }
     match front.split_once(mark) {
         Some((_, tips)) => Refusal {
             message: without_suffix(without_suffix(front, tips), TIP),
-            similar: if has_line_end(words) {
+            similar: if is_within("\n", words) {
                 None
             } else {
                 similar_in(tips)
@@ -91,9 +91,14 @@ fn split_at_tip<'t>(front: &'t str, short: &'t str, mark: &str, words: &[&str]) 
     }
 }
 
-/// Whether a word has a line end.
-fn has_line_end(words: &[&str]) -> bool {
-    words.iter().any(|word| word.contains('\n'))
+/// Whether a word has this text in it.
+fn is_within(text: &str, words: &[&str]) -> bool {
+    for word in words {
+        if word.contains(text) {
+            return true;
+        }
+    }
+    false
 }
 
 /// The first of the parser's tips, if it names something similar.

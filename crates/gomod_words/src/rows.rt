@@ -2,13 +2,12 @@
 
 ghost use Rattle.std.specs.Prelude.{◌≡◌, IfSome, Some, false, true};
 ghost use Rattle.std.specs.Option.{option_copied};
-ghost use Rattle.gomod_words.specs.Private.Placed.{part_option, typed_option};
-ghost use Rattle.gomod_words.specs.Private.Rows.{Becomes, IsRelease, by_value, fits, flag_text, is_off, is_operation_item, is_over_file, json_in, only_word, operates, option_slot, other_slot, part_text, slot_named, slot_of};
-ghost use Rattle.gomod_words.specs.Private.Tips.{is_on_path};
+ghost use Rattle.gomod_words.specs.Private.Rows.{Becomes, IsRelease, fits, flag_text, is_on_path, is_operation_item, is_over_file, operates, other_slot, part_text, slot_of, value_or};
+ghost use Rattle.gomod_words.specs.Private.Items.{only_word};
 ghost use Rattle.gomod_words.specs.declared.rows.Slot.TheVariants.{Operand};
 
 use crate::dashed::{begins_with_dash, is_operation_name, operation_in};
-use crate::items::{Item, name_in, names_operation_of_go, value_in};
+use crate::items::{Item, name_in, names_operation_of_go, only_word, value_in};
 use crate::names::is_among;
 use crate::query::limit_in;
 use crate::table::{CommandName, OptionName, command_named, option_named};
@@ -32,39 +31,17 @@ pub(crate) enum Target {
     Unknown,
 }
 
-/// What a word in the place of a command asks for, in small letters.
-pub(crate) fn target_of(name: &str) -> Target {
-    match command_named(name) {
-        Some(command) => Target::Ours(command),
-        None => target_like(name),
-    }
-}
-
-/// What a word that names no command of gomod asks for.
-fn target_like(name: &str) -> Target {
-    if is_among(name, &["get", "add"]) {
-        Target::Get
-    } else if is_among(name, &["version", "-version", "-v"]) {
-        Target::Version
-    } else if is_among(name, &["help", "mod", "", "--"]) {
-        Target::Help
-    } else if is_among(name, &["ls", "all", "-m"]) {
-        Target::Ours(CommandName::List)
-    } else {
-        target_of_others(name)
-    }
-}
-
-/// What a command of another tool, or of go, asks for.
-fn target_of_others(name: &str) -> Target {
-    match name {
-        "format" => Target::Ours(CommandName::Fmt),
-        "tree" => Target::Ours(CommandName::Graph),
-        "why" => Target::Ours(CommandName::Chain),
-        "update" | "upgrade" => Target::Go("go get -u"),
-        _ => target_of_go(name),
-    }
-}
+/// What other words than the names of commands ask for.
+const TARGETS: [(&[&str], Target); 8] = [
+    (&["get", "add"], Target::Get),
+    (&["version", "-version", "-v"], Target::Version),
+    (&["help", "mod", "", "--"], Target::Help),
+    (&["ls", "all", "-m"], Target::Ours(CommandName::List)),
+    (&["format"], Target::Ours(CommandName::Fmt)),
+    (&["tree"], Target::Ours(CommandName::Graph)),
+    (&["why"], Target::Ours(CommandName::Chain)),
+    (&["update", "upgrade"], Target::Go("go get -u")),
+];
 
 /// The commands of go that gomod does not have.
 const GO_COMMANDS: [&str; 16] = [
@@ -86,11 +63,31 @@ const GO_COMMANDS: [&str; 16] = [
     "go work",
 ];
 
-/// The command of go with this name that gomod does not have, or `fmt` of the file with this name.
+/// What a word in the place of a command asks for, in small letters.
+pub(crate) fn target_of(name: &str) -> Target {
+    if let Some(command) = command_named(name) {
+        return Target::Ours(command);
+    }
+    for (names, target) in &TARGETS {
+        if is_among(name, names) {
+            return *target;
+        }
+    }
+    target_of_go(name)
+}
+
+/// The command of go with this name that gomod does not have, or `fmt` of the file with this name, if it may be a go.mod
+/// file.
 fn target_of_go(name: &str) -> Target {
-    match GO_COMMANDS.iter().find(|command| is_last(command, name)) {
-        Some(command) => Target::Go(command),
-        None => target_of_file(name),
+    for command in &GO_COMMANDS {
+        if is_last(command, name) {
+            return Target::Go(command);
+        }
+    }
+    if name.ends_with(".mod") && !begins_with_dash(name) {
+        Target::File
+    } else {
+        Target::Unknown
     }
 }
 
@@ -102,30 +99,13 @@ fn is_last(command: &str, word: &str) -> bool {
     }
 }
 
-/// `fmt` of the file with this name, if it may be a go.mod file.
-fn target_of_file(name: &str) -> Target {
-    if name.ends_with(".mod") && !begins_with_dash(name) {
-        Target::File
-    } else {
-        Target::Unknown
-    }
-}
-
 /// A part of a command line.
 #[derive(Clone, Copy, PartialEq, Eq)]
 pub(crate) enum Slot {
     /// FILE or PATH.
     Operand,
-    /// `--mod`.
-    Main,
-    /// `--sum`.
-    Sums,
-    /// `--after`.
-    After,
-    /// `--limit`.
-    Limit,
-    /// `--retracted`.
-    Retracted,
+    /// An option of gomod. Without a value `--proxy` is the module cache of the go command.
+    Given(OptionName),
     /// The folder to go to first.
     Folder,
     /// What is done with the output: it is kept in the file, or compared with it.
@@ -136,10 +116,6 @@ pub(crate) enum Slot {
     Json,
     /// JSON is asked for as a format.
     Format,
-    /// A list of proxy folders.
-    Proxy,
-    /// The module cache of the go command, if `--proxy` names no folder.
-    Cache,
 }
 
 /// What becomes of an option with its value, or of another word.
@@ -153,8 +129,6 @@ pub(crate) enum Row<'a> {
     Operation,
     /// There is nothing like it.
     LeftOut,
-    /// It is not known.
-    Unknown,
 }
 
 /// The proxy folder that is named if the words name none: the module cache of the go command, in its usual place.
@@ -165,24 +139,11 @@ pub(crate) fn row_of<'a>(command: CommandName, item: Item<'a>) -> Row<'a>
     ensures { Becomes (is_over_file command) item.entry result }
 {
     if operates(command, item) {
-        Row::Operation
-    } else {
-        part_of(command, item)
+        return Row::Operation;
     }
-}
-
-/// What becomes of an item that is no operation of this command.
-fn part_of<'a>(command: CommandName, item: Item<'a>) -> Row<'a>
-    requires { operates (is_over_file command) item ≡ false }
-    ensures { Becomes (is_over_file command) item.entry result }
-{
     match slot_for(command, item) {
         Some(slot) => taken(command, slot, item),
-        None => if is_known(item) {
-            Row::LeftOut
-        } else {
-            Row::Unknown
-        },
+        None => Row::LeftOut,
     }
 }
 
@@ -203,20 +164,14 @@ fn slot_for(command: CommandName, item: Item<'_>) -> Option<Slot>
 pub(crate) fn is_over_file(command: CommandName) -> bool
     ensures { result ≡ is_over_file command }
 {
-    match command {
-        CommandName::Fmt | CommandName::Edit => true,
-        _ => false,
-    }
+    matches!(command, CommandName::Fmt | CommandName::Edit)
 }
 
 /// Whether a command is on one module.
 pub(crate) fn is_on_path(command: CommandName) -> bool
     ensures { result ≡ is_on_path command }
 {
-    match command {
-        CommandName::Chain | CommandName::Versions => true,
-        _ => false,
-    }
+    matches!(command, CommandName::Chain | CommandName::Versions)
 }
 
 /// Whether an item is an operation, which has its value if it is an option, and the command takes it.
@@ -225,7 +180,7 @@ fn operates(command: CommandName, item: Item<'_>) -> bool
 {
     is_over_file(command)
         && is_operation_item(item)
-        && (name_in(item).is_none() || value_in(item).is_some())
+        && (name_in(item).is_none() || !value_in(item).is_empty())
 }
 
 /// Whether an item is an operation, with a dash or without.
@@ -242,34 +197,12 @@ fn is_operation_item(item: Item<'_>) -> bool
 fn slot_in(item: Item<'_>) -> Option<Slot>
     ensures { result ≡ slot_of item.entry }
 {
-    match name_in(item) {
-        Some(name) => Some(by_value(slot_named(name)?, value_in(item))),
-        None => Some(Slot::Operand),
-    }
-}
-
-/// The part of a command line that an option with this name is.
-fn slot_named(name: &str) -> Option<Slot>
-    ensures { result ≡ slot_named name.now }
-{
+    let Some(name) = name_in(item) else {
+        return Some(Slot::Operand);
+    };
     match option_named(name) {
-        Some(option) => Some(option_slot(option)),
+        Some(option) => Some(Slot::Given(option)),
         None => other_slot(name),
-    }
-}
-
-/// The part of a command line that an option of gomod is. A tip has it as that option.
-fn option_slot(option: OptionName) -> Slot
-    ensures slot { result ≡ option_slot option }
-    ensures typed { part_option result ≡ Some (typed_option option) }
-{
-    match option {
-        OptionName::Proxy => Slot::Proxy,
-        OptionName::Mod => Slot::Main,
-        OptionName::Sum => Slot::Sums,
-        OptionName::After => Slot::After,
-        OptionName::Limit => Slot::Limit,
-        OptionName::Retracted => Slot::Retracted,
     }
 }
 
@@ -279,7 +212,7 @@ fn other_slot(name: &str) -> Option<Slot>
     ensures { result ≡ other_slot name.now }
 {
     if name == "modfile" {
-        Some(Slot::Main)
+        Some(Slot::Given(OptionName::Mod))
     } else if name == "C" {
         Some(Slot::Folder)
     } else if is_among(
@@ -298,82 +231,28 @@ fn other_slot(name: &str) -> Option<Slot>
     }
 }
 
-/// The part that an option with this value is.
-fn by_value(slot: Slot, value: Option<&str>) -> Slot
-    ensures { result ≡ by_value (option_copied value.entry) slot }
-{
-    match slot {
-        Slot::Proxy => if value.is_some() {
-            Slot::Proxy
-        } else {
-            Slot::Cache
-        },
-        _ => slot,
-    }
-}
-
 /// Whether a command has this part.
 fn takes(command: CommandName, slot: Slot) -> bool
     ensures { result ≡ true → fits (is_over_file command) slot ≡ true }
 {
-    match command {
-        CommandName::Fmt | CommandName::Edit => is_of_file(slot),
-        CommandName::Graph => is_of_graph(slot),
-        CommandName::List => is_of_list(slot),
-        CommandName::Chain => is_of_chain(slot),
-        CommandName::Versions => is_of_versions(slot),
+    match slot {
+        Slot::Given(option) => takes_option(command, option),
+        Slot::Operand => !matches!(command, CommandName::Graph | CommandName::List),
+        Slot::Folder => true,
+        Slot::Output | Slot::Print => is_over_file(command),
+        Slot::Json => !is_over_file(command),
+        Slot::Format => !is_over_file(command) && !matches!(command, CommandName::Versions),
     }
 }
 
-/// Whether each command over one file has this part.
-fn is_of_file(slot: Slot) -> bool
-    ensures { result ≡ true → fits true slot ≡ true }
-{
-    match slot {
-        Slot::Operand | Slot::Folder | Slot::Output | Slot::Print => true,
-        _ => false,
-    }
-}
-
-/// Whether `list` has this part.
-fn is_of_list(slot: Slot) -> bool
-    ensures { result ≡ true → fits false slot ≡ true }
-{
-    match slot {
-        Slot::After | Slot::Limit => true,
-        _ => is_of_graph(slot),
-    }
-}
-
-/// Whether `chain` has this part.
-fn is_of_chain(slot: Slot) -> bool
-    ensures { result ≡ true → fits false slot ≡ true }
-{
-    match slot {
-        Slot::Operand => true,
-        _ => is_of_graph(slot),
-    }
-}
-
-/// Whether each command over a module graph has this part.
-fn is_of_graph(slot: Slot) -> bool
-    ensures { result ≡ true → fits false slot ≡ true }
-{
-    match slot {
-        Slot::Main | Slot::Sums | Slot::Folder | Slot::Json | Slot::Format => true,
-        Slot::Proxy | Slot::Cache => true,
-        _ => false,
-    }
-}
-
-/// Whether `versions` has this part.
-fn is_of_versions(slot: Slot) -> bool
-    ensures { result ≡ true → fits false slot ≡ true }
-{
-    match slot {
-        Slot::Operand | Slot::Retracted | Slot::Folder | Slot::Json => true,
-        Slot::Proxy | Slot::Cache => true,
-        _ => false,
+/// Whether a command has this option.
+fn takes_option(command: CommandName, option: OptionName) -> bool {
+    match option {
+        OptionName::Proxy => !is_over_file(command),
+        OptionName::Mod | OptionName::Sum => !is_over_file(command)
+            && !matches!(command, CommandName::Versions),
+        OptionName::After | OptionName::Limit => matches!(command, CommandName::List),
+        OptionName::Retracted => matches!(command, CommandName::Versions),
     }
 }
 
@@ -404,35 +283,29 @@ fn part_row<'a>(command: CommandName, slot: Slot, item: Item<'a>, text: &'a str)
     requires fits { fits (is_over_file command) slot ≡ true }
     ensures { Becomes (is_over_file command) item.entry result }
 {
-    match release_in(command, slot, text) {
-        Some((path, version)) => Row::Release(path, version),
-        None => Row::Part(slot, text),
-    }
-}
-
-/// PATH and a version, if the part with this text is both.
-fn release_in<'a>(command: CommandName, slot: Slot, text: &'a str) -> Option<(&'a str, &'a str)>
-    ensures file { IfSome result (λ parts. is_over_file command ≡ false) }
-    ensures slot { IfSome result (λ parts. slot ≡ Operand) }
-    ensures parts { IfSome result (λ parts. IsRelease text.now parts.0.now parts.1.now) }
-{
     match slot {
         Slot::Operand => if is_over_file(command) {
-            None
+            Row::Part(slot, text)
         } else {
-            at_version(text)
+            path_row(item, text)
         },
-        _ => None,
+        _ => Row::Part(slot, text),
     }
 }
 
-/// A text in two, before its first `@`.
-fn at_version(text: &str) -> Option<(&str, &str)>
-    ensures { IfSome result (λ parts. IsRelease text.now parts.0.now parts.1.now) }
+/// What becomes of an item that is PATH, with a version if it has an `@`.
+fn path_row<'a>(item: Item<'a>, text: &'a str) -> Row<'a>
+    requires other { operates false item ≡ false }
+    requires slot { slot_of item ≡ Some Operand }
+    requires text { only_word item ≡ Some text.now }
+    ensures { Becomes false item.entry result }
 {
     match text.find('@') {
-        Some(at) => Some(text.split_at(at)),
-        None => None,
+        Some(at) => {
+            let (path, version) = text.split_at(at);
+            Row::Release(path, version)
+        }
+        None => Row::Part(Slot::Operand, text),
     }
 }
 
@@ -441,13 +314,33 @@ fn text_in<'a>(slot: Slot, item: Item<'a>) -> Option<&'a str>
     ensures { option_copied result ≡ part_text slot item.entry }
 {
     match slot {
-        Slot::Main => Some(value_in(item).unwrap_or("go.mod")),
-        Slot::Sums => Some(value_in(item).unwrap_or("go.sum")),
-        Slot::After | Slot::Limit | Slot::Folder | Slot::Proxy => value_in(item),
-        Slot::Format => json_in(value_in(item)?),
-        Slot::Cache => Some(CACHE),
         Slot::Operand => only_word(item),
+        Slot::Given(OptionName::Mod) => value_or("go.mod", value_in(item)),
+        Slot::Given(OptionName::Sum) => value_or("go.sum", value_in(item)),
+        Slot::Given(OptionName::Proxy) => value_or(CACHE, value_in(item)),
+        Slot::Given(OptionName::After | OptionName::Limit) | Slot::Folder => value_or(
+            "",
+            value_in(item),
+        ),
+        Slot::Format => if value_in(item) == "json" {
+            Some("json")
+        } else {
+            None
+        },
         _ => flag_text(item),
+    }
+}
+
+/// The value, or this one if it is empty, unless both are.
+fn value_or<'a>(usual: &'a str, value: &'a str) -> Option<&'a str>
+    ensures { option_copied result ≡ value_or usual.now value.now }
+{
+    if !value.is_empty() {
+        Some(value)
+    } else if !usual.is_empty() {
+        Some(usual)
+    } else {
+        None
     }
 }
 
@@ -455,68 +348,32 @@ fn text_in<'a>(slot: Slot, item: Item<'a>) -> Option<&'a str>
 fn flag_text<'a>(item: Item<'a>) -> Option<&'a str>
     ensures { option_copied result ≡ flag_text item.entry }
 {
-    match value_in(item) {
-        Some(value) => if is_off(value) { None } else { only_word(item) },
-        None => only_word(item),
+    if is_among(value_in(item), &["0", "f", "F", "false", "False", "FALSE"]) {
+        None
+    } else {
+        only_word(item)
     }
 }
 
-/// Whether a flag asks for nothing by this value.
-fn is_off(value: &str) -> bool
-    ensures { result ≡ is_off value.now }
-{
-    is_among(value, &["0", "f", "F", "false", "False", "FALSE"])
-}
-
-/// The word, unless it is two.
-fn only_word<'a>(item: Item<'a>) -> Option<&'a str>
-    ensures { option_copied result ≡ only_word item.entry }
-{
-    match item {
-        Item::Word(word) => Some(word),
-        Item::Pair(_, _) => None,
-    }
-}
-
-/// The value of an option that says how rows are written, if it asks for JSON.
-fn json_in(value: &str) -> Option<&str>
-    ensures { option_copied result ≡ json_in value.now }
-{
-    if value == "json" { Some(value) } else { None }
-}
-
-/// Whether a command takes this text of an item for this part.
+/// Whether a command takes this text of an item for this part. Values of go's `-mod` say what may be changed.
 fn is_valid(slot: Slot, item: Item<'_>, text: &str) -> bool {
     match slot {
-        Slot::Limit => limit_in(text).is_some(),
-        Slot::Main => !is_mode(item, text),
+        Slot::Given(OptionName::Limit) => limit_in(text).is_some(),
+        Slot::Given(OptionName::Mod) => !(name_in(item) == Some("mod")
+            && is_among(text, &["mod", "readonly", "vendor"])),
         _ => true,
     }
 }
 
-/// Whether this is a value of go's `-mod`, which says what may be changed.
-fn is_mode(item: Item<'_>, text: &str) -> bool {
-    match name_in(item) {
-        Some(name) => {
-            matches!(option_named(name), Some(OptionName::Mod))
-                && matches!(text, "mod" | "readonly" | "vendor")
-        }
-        None => false,
-    }
-}
-
-/// Whether an item is known, if a command does not take it: options of gomod and of go are, and other words.
-fn is_known(item: Item<'_>) -> bool {
-    match name_in(item) {
-        Some(name) => names_known(name),
-        None => true,
-    }
-}
-
-/// Whether this is the name of an option of gomod or of go.
-fn names_known(name: &str) -> bool {
-    option_named(name).is_some()
-        || is_among(
+/// Whether an item is an option that neither gomod nor go is known to have.
+pub(crate) fn is_unknown(command: CommandName, item: Item<'_>) -> bool {
+    let Some(name) = name_in(item) else {
+        return false;
+    };
+    !operates(command, item)
+        && slot_for(command, item).is_none()
+        && option_named(name).is_none()
+        && !is_among(
             name,
             &[
                 "modfile", "json", "m", "versions", "u", "f", "v", "x", "vendor", "deps", "test",

@@ -70,7 +70,7 @@ pub(crate) fn command_named(name: &str) -> Option<CommandName>
 }
 
 /// An option of the program.
-#[derive(Clone, Copy)]
+#[derive(Clone, Copy, PartialEq, Eq)]
 pub(crate) enum OptionName {
     /// `--proxy DIR`.
     Proxy,

@@ -2,7 +2,7 @@
 use Rattle.std.specs.Prelude.{◌==◌, ◌∷◌, ℕ, Bool, List, [], None, Option, Some, if◌then◌else◌}
 use Rattle.std.specs.Borrow.{Bor}
 use Rattle.std.specs.List.{after_first, before_first, flat_map}
-use Rattle.std.specs.Option.{option_and_then, option_map, option_map_or}
+use Rattle.std.specs.Option.{option_map, option_map_or}
 use Rattle.clap.specs.Walk.{Text}
 use Rattle.gomod_words.specs.Dashed.{begins_with_dash, without_dashes}
 use Rattle.gomod_words.specs.declared.items.Item.{Item}
@@ -21,18 +21,19 @@ words_in items = flat_map item_words items
 abbrev pub waiting : Option (Bor Text) → List Text
 waiting option = option_map_or (λ word. word.now ∷ []) option []
 
--- the text, unless it is empty
-abbrev pub not_empty : Text → Option Text
-not_empty [] = None
-not_empty (first ∷ rest) = Some (first ∷ rest)
+-- the word, unless it is two
+abbrev pub only_word : Item → Option Text
+only_word (Word word) = Some word.now
+only_word (Pair option value) = None
+
+-- the word, unless it is an option
+abbrev pub plain_word : Item → Option Text
+plain_word (Word word) = if begins_with_dash word.now then None else Some word.now
+plain_word (Pair option value) = None
 
 -- the sign `=`, between the name of an option and its value
 abbrev pub is_equals : ℕ → Bool
 is_equals b = b == 61
-
--- the value in the word of an option
-abbrev pub value_after : Text → Option Text
-value_after option = not_empty (after_first is_equals option)
 
 -- the option that a word is, without its dashes
 abbrev pub option_in : Text → Option Text
@@ -43,7 +44,7 @@ abbrev pub option_name : Item → Option Text
 option_name (Word word) = option_map (before_first is_equals) (option_in word.now)
 option_name (Pair option value) = option_in option.now
 
--- the value of an option, if it is not empty
-abbrev pub option_value : Item → Option Text
-option_value (Word word) = option_and_then value_after (option_in word.now)
-option_value (Pair option value) = not_empty value.now
+-- the value of an option, which is empty if it has none
+abbrev pub option_value : Item → Text
+option_value (Word word) = option_map_or (after_first is_equals) (option_in word.now) []
+option_value (Pair option value) = value.now
