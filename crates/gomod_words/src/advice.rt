@@ -63,15 +63,11 @@ fn message_on(
     words: &[&str],
 ) -> Result<String, AllocError> {
     let refusal = refusal_in(kind, text, words);
+    let message = refusal.message;
     match tip_for(alloc, kind, refusal, words)? {
-        Some(tip) => with_tip(alloc, refusal.message, tip.as_str()),
-        None => String::from_str(alloc, refusal.message),
+        Some(tip) => Ok(format!(in alloc; "{message}\n\n  tip: {tip}")?),
+        None => String::from_str(alloc, message),
     }
-}
-
-/// A message with a tip.
-fn with_tip(alloc: Global, message: &str, tip: &str) -> Result<String, AllocError> {
-    Ok(format!(in alloc; "{message}\n\n  tip: {tip}")?)
 }
 
 /// What to type instead of these words, or what the parser says is similar.
@@ -416,14 +412,9 @@ fn requirement_tip(alloc: Global, module: &str) -> Tip {
 
 /// Whether the word is a path and a version that fits it.
 fn is_requirement(alloc: Global, word: &str) -> Result<bool, AllocError> {
-    match word.split_once('@') {
-        Some((path, version)) => is_module(alloc, path, version),
-        None => Ok(false),
-    }
-}
-
-/// Whether the texts are a path and a version that fits it.
-fn is_module(alloc: Global, path: &str, version: &str) -> Result<bool, AllocError> {
+    let Some((path, version)) = word.split_once('@') else {
+        return Ok(false);
+    };
     match ModPath::parse(alloc, path) {
         Ok(path) => is_version_of(alloc, &path, version),
         Err(PathFault::NoMemory) => Err(AllocError),

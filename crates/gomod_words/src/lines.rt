@@ -81,21 +81,8 @@ fn push_words_of(
     }
 }
 
-/// The words of a command line of gomod: the name of a command, FILE or PATH, `--proxy`, the other options and the
-/// operations.
-fn shown_words(
-    alloc: Global,
-    command: CommandName,
-    placed: &[Placed<'_>],
-) -> Result<Vec<String>, AllocError>
-    ensures { IfOk result (λ texts. map string_bytes texts.items ≡ shown_words command placed.now) }
-{
-    let mut texts = Vec::new(alloc);
-    push_shown_words(alloc, &mut texts, command, placed)?;
-    Ok(texts)
-}
-
-/// Appends the words of a command line of gomod.
+/// Appends the words of a command line of gomod: the name of a command, FILE or PATH, `--proxy`, the other options and
+/// the operations.
 fn push_shown_words(
     alloc: Global,
     texts: &mut Vec<String>,
@@ -297,7 +284,8 @@ pub(crate) fn shown(
     requires after { is_note after.now ≡ true }
     ensures { IfOk result (λ tip. IfSome tip (λ text. IsShown command placed.now (string_bytes text))) }
 {
-    let texts = shown_words(alloc, command, placed)?;
+    let mut texts = Vec::new(alloc);
+    push_shown_words(alloc, &mut texts, command, placed)?;
     let mut words = Vec::new(alloc);
     push_texts(&mut words, texts.as_slice())?;
     told(alloc, command, words.as_slice(), before, after, placed)

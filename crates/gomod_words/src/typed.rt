@@ -25,7 +25,12 @@ fn is_unquoted_byte(byte: u8) -> bool
 fn has_only_plain_bytes(word: &[u8]) -> bool
     ensures { result ≡ list_all is_unquoted_byte word.now }
 {
-    word.iter().all(|b| is_unquoted_byte(*b))
+    for byte in word {
+        if !is_unquoted_byte(*byte) {
+            return false;
+        }
+    }
+    true
 }
 
 /// Appends a character as it is typed between two `'`.
