@@ -8,7 +8,7 @@ use Rattle.gm_graph.specs.declared.cache.Cache.{Cache}
 use Rattle.gm_graph.specs.Cached.{main_in, sums_in, table_in}
 use Rattle.gm_graph.specs.Private.FileTable.{NotesFiles}
 use Rattle.gm_graph.specs.Private.Held.{HoldsSome}
-use Rattle.gm_graph.specs.Private.Summaries.{HaveLists, AreListsInOrder, Grows, own_spans}
+use Rattle.gm_graph.specs.Private.Summaries.{AreKeptIn, AreListsInOrder, Grows, own_spans}
 use Rattle.gm_graph.proofs.HeldFiles.{grown_some}
 use Rattle.gm_graph.proofs.Ordered.{order_longer}
 use Rattle.gm_graph.proofs.PuttingPlaces.{notes_if_more}
@@ -40,6 +40,6 @@ module _ (cache : Cache) (new : NumberedList) (grows : Grows cache.modules new) 
   order_grown = order_longer cache.first (own_spans cache.files.files.items) (length cache.modules.numbers) (length new.numbers)
       more_numbers cache.in_order
 
-  pub all_grown : HaveLists (main_in cache) (modules_of new) cache.files.files.items
+  pub all_grown : AreKeptIn (main_in cache) (modules_of new) cache.files.files.items
   all_grown = listed_grown (main_in cache) (modules_of cache.modules) (modules_of new) cache.files.files.items
       (grows.0, grows.1.listed) cache.listed

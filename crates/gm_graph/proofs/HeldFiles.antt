@@ -21,7 +21,7 @@ use Rattle.gm_graph.specs.Private.Held.{HoldsSome}
 use Rattle.gm_graph.specs.Reading.{IsFileReading}
 use Rattle.gm_graph.specs.Run.{run_of}
 use Rattle.gm_graph.specs.Summaries.{summary_reading}
-use Rattle.gm_graph.specs.Private.Summaries.{HaveLists, Grows}
+use Rattle.gm_graph.specs.Private.Summaries.{AreKeptIn, Grows}
 use Rattle.gm_graph.proofs.SharedLists.{kept_named}
 use Rattle.gm_graph.proofs.Spans.{readings_still}
 
@@ -45,7 +45,7 @@ numbered_more {old} {new} pair only numbers list = (
 )
 
 module _ (main : Main) (old new : NumberedList) (files : FileTable) (grows : Grows old new)
-    (are : HaveLists main (modules_of old) files.files.items) where
+    (are : AreKeptIn main (modules_of old) files.files.items) where
   pub grown_held : (name : Name) → held_under new files name ≡ held_under old files name
   grown_held name =
       readings_still main (modules_of old) (modules_of new) (kept_at files name) (grows.0, grows.1.listed)

@@ -19,7 +19,7 @@ use Rattle.gm_graph.specs.declared.cache.summary.Kept.TheVariants.{Valid, Faulty
 use Rattle.gm_graph.specs.declared.cache.summary.ListSpan.{ListSpan}
 use Rattle.gm_graph.specs.declared.cache.summary.Summary.{Summary}
 use Rattle.gm_graph.specs.Summaries.{at_span, own_span, own_span_at, span_unless}
-use Rattle.gm_graph.specs.Private.Summaries.{IsSummary, IsWithinList, HaveLists, AreWithinList, Grows, GrowsFrom, IsSameList, HasLists, HasListsIfValid, list_place, own_spans, span_found}
+use Rattle.gm_graph.specs.Private.Summaries.{IsSummary, IsWithinList, AreKeptIn, AreWithinList, Grows, GrowsFrom, IsSameList, IsSummaryIn, IsKeptIn, list_place, own_spans, span_found}
 use Rattle.gm_graph.proofs.Spans.{IsKept, kept_still, span_still, within_still}
 
 -- ---- own lists
@@ -66,13 +66,13 @@ found_own (Some (Faulty class)) span e = absurd (cc e)
 -- ---- the lists of all files
 
 module _ (main : Main) (modules : List ModuleVersion) where
-  pub kept_listed : (files : List Kept) (place : ℕ) (one : Kept) → HaveLists main modules files → slice_get files place ≡ Some one
+  pub kept_listed : (files : List Kept) (place : ℕ) (one : Kept) → AreKeptIn main modules files → slice_get files place ≡ Some one
       → IsKept main modules one
   kept_listed files place (Valid summary) are there = (are place summary there).0
   kept_listed files place (Faulty class) are there = tt
 
   -- So it is with a file that is found by its name.
-  pub kept_named : (files : FileTable) (name : Name) (one : Kept) → HaveLists main modules files.files.items → kept_at files name ≡ Some one
+  pub kept_named : (files : FileTable) (name : Name) (one : Kept) → AreKeptIn main modules files.files.items → kept_at files name ≡ Some one
       → IsKept main modules one
   kept_named files name one are = by (place_of files name)
     where
@@ -80,8 +80,8 @@ module _ (main : Main) (modules : List ModuleVersion) where
       by None e = absurd (cc e)
       by (Some place) e = kept_listed files.files.items place one are e
 
-  pub listed_grown : (more : List ModuleVersion) (files : List Kept) → BeginsWith modules more → HaveLists main modules files
-      → HaveLists main more files
+  pub listed_grown : (more : List ModuleVersion) (files : List Kept) → BeginsWith modules more → AreKeptIn main modules files
+      → AreKeptIn main more files
   listed_grown more files begins are = λ place summary there.
       let is = are place summary there in (kept_still main modules more (Valid summary) begins is.0, is.1)
 
@@ -93,17 +93,17 @@ module _ (main : Main) (modules : List ModuleVersion) where
   push_cases (file ∷ files) last (suc place) one e = push_cases files last place one e
 
   -- one file more
-  pub listed_push : (files : List Kept) (last : Kept) → HaveLists main modules files → HasListsIfValid main modules files last
-      → HaveLists main modules (files ++ last ∷ [])
+  pub listed_push : (files : List Kept) (last : Kept) → AreKeptIn main modules files → IsKeptIn main modules files last
+      → AreKeptIn main modules (files ++ last ∷ [])
   listed_push files last are is = λ place summary e.
-      let was : HasLists main modules files summary = elim (push_cases files last place (Valid summary) e) [
+      let was : IsSummaryIn main modules files summary = elim (push_cases files last place (Valid summary) e) [
         | inl there ↦ are place summary there
         | inr same ↦ rw same at is
       ] in
       (was.0, λ p shared. own_still files (last ∷ []) p summary.kept (was.1 p shared))
 
   -- The list of a valid file is the own one of the file that has it.
-  pub list_owned : (files : List Kept) (place : ℕ) (summary : Summary) → HaveLists main modules files
+  pub list_owned : (files : List Kept) (place : ℕ) (summary : Summary) → AreKeptIn main modules files
       → slice_get files place ≡ Some (Valid summary)
       → (list_place files place < length files) × (own_span_at files (list_place files place) ≡ Some summary.kept)
   list_owned files place summary are there = by summary.same_as refl
@@ -124,7 +124,7 @@ front_is xs more whole count is same = ap (take count) is ∙ take_at xs more co
 
 -- Files that are listed are listed in what the list has at its front.
 pub listed_front : (main : Main) (old mid : NumberedList) (files : List Kept) (start : ℕ) → start ≡ length old.numbers
-    → Grows old mid → HaveLists main (modules_of old) files → HaveLists main (take start (modules_of mid)) files
+    → Grows old mid → AreKeptIn main (modules_of old) files → AreKeptIn main (take start (modules_of mid)) files
 listed_front main old mid files start same grows are =
     rw (front_is (modules_of old) grows.0 (modules_of mid) start grows.1.listed (same ∙ sym (length-map old.numbers (module_at old.modules)))) are
 
@@ -171,8 +171,8 @@ module _ (old : NumberedList) (start : ℕ) where
 
 -- What has the places of an equal list of an earlier file is listed.
 pub same_listed : (main : Main) (old : NumberedList) (front new : List ModuleVersion) (files : List Kept) (numbers : List ℕ) (file : Head)
-    (same : SameList) → HaveLists main front files → new ≡ front → IsSameList old files numbers same
-    → HasLists main new files (record { file = file; all = same.all; kept = same.kept; same_as = Some same.place })
+    (same : SameList) → AreKeptIn main front files → new ≡ front → IsSameList old files numbers same
+    → IsSummaryIn main new files (record { file = file; all = same.all; kept = same.kept; same_as = Some same.place })
 same_listed main old front new files numbers file same are cut has =
     rw cut (
       record {
@@ -187,7 +187,7 @@ same_listed main old front new files numbers file same are cut has =
     was = (are same.place has.summary has.there).0
 
 -- Within the list are the requirements of all files that are listed in its front.
-pub all_within : (main : Main) (old : NumberedList) (start : ℕ) (files : List Kept) → HaveLists main (take start (modules_of old)) files
+pub all_within : (main : Main) (old : NumberedList) (start : ℕ) (files : List Kept) → AreKeptIn main (take start (modules_of old)) files
     → AreWithinList (modules_of old) files
 all_within main old start files are = λ place summary there.
     within_still (take start (modules_of old)) (modules_of old) summary.all (front_begins old start)

@@ -44,7 +44,7 @@ ghost use Rattle.gm_graph.specs.Private.FileTable.{NotesFiles};
 ghost use Rattle.gm_graph.specs.Private.Held.{HoldsSome};
 ghost use Rattle.gm_graph.specs.Lent.{lent_modules};
 ghost use Rattle.gm_graph.specs.Summaries.{at_span, summary_reading};
-ghost use Rattle.gm_graph.specs.Private.Summaries.{HaveLists, AreListsInOrder, GrowsFrom, HasLists, HasListsIfValid, listed_reading, order_is_fact, own_spans};
+ghost use Rattle.gm_graph.specs.Private.Summaries.{AreKeptIn, AreListsInOrder, GrowsFrom, IsSummaryIn, IsKeptIn, listed_reading, order_is_fact, own_spans};
 ghost use Rattle.gm_graph.specs.declared.cache.summary.Kept.{Kept};
 
 use crate::cache::class::Class;
@@ -99,7 +99,7 @@ pub struct Cache<'a> {
     ghost holds_some: { ∥ HoldsSome (main_of main.now) (option_copied sums) modules files ∥₁ },
     ghost notes: { NotesFiles (main_of main.now) modules.modules files },
     ghost in_order: { AreListsInOrder first files.files.items (length modules.numbers) } by { order_is_fact first (own_spans files.files.items) (length modules.numbers) },
-    ghost listed: { HaveLists (main_of main.now) (modules_of modules) files.files.items },
+    ghost listed: { AreKeptIn (main_of main.now) (modules_of modules) files.files.items },
 }
 
 /// A table of names without a limit, which knows the paths that the main file requires.
@@ -138,10 +138,10 @@ fn shared_summary(
 ) -> Result<Summary, NoMemory>
     requires few { length files.now < place_limit }
     requires start { start ≤ length modules.old.numbers }
-    requires listed { HaveLists (main_of main.now) (take start (modules_of modules.old)) files.now }
+    requires listed { AreKeptIn (main_of main.now) (take start (modules_of modules.old)) files.now }
     ensures reading { IfOk result (λ summary. summary_reading (modules_of modules.new) (Kept.Valid summary)
         ≡ Ok (with_requirements file (drop start (modules_of modules.old)))) }
-    ensures listed { IfOk result (HasLists (main_of main.now) (modules_of modules.new) files.now) }
+    ensures listed { IfOk result (IsSummaryIn (main_of main.now) (modules_of modules.new) files.now) }
     ensures order { IfOk result (λ summary.
         AreListsInOrder start (Kept.Valid summary ∷ []) (length modules.new.numbers)) }
     ensures grows { GrowsFrom start modules.old modules.new }
@@ -170,10 +170,10 @@ fn kept_of(
 ) -> Result<Kept, NoMemory>
     requires few { length files.now < place_limit }
     requires start { start ≤ length modules.old.numbers }
-    requires listed { HaveLists (main_of main.now) (take start (modules_of modules.old)) files.now }
+    requires listed { AreKeptIn (main_of main.now) (take start (modules_of modules.old)) files.now }
     ensures reading { IfOk result (λ kept. summary_reading (modules_of modules.new) kept
         ≡ listed_reading (drop start (modules_of modules.old)) read) }
-    ensures listed { IfOk result (HasListsIfValid (main_of main.now) (modules_of modules.new) files.now) }
+    ensures listed { IfOk result (IsKeptIn (main_of main.now) (modules_of modules.new) files.now) }
     ensures order { IfOk result (λ kept. AreListsInOrder start (kept ∷ []) (length modules.new.numbers)) }
     ensures grows { GrowsFrom start modules.old modules.new }
 {
@@ -236,7 +236,7 @@ impl<'a> Cache<'a> {
             × IsFileReading (sums_in self.old) (name_of name.now) reply
             (summary_reading (modules_of self.new.modules) kept)) }
         ensures listed { IfOk result
-            (HasListsIfValid (main_in self.old) (modules_of self.new.modules) self.old.files.files.items) }
+            (IsKeptIn (main_in self.old) (modules_of self.new.modules) self.old.files.files.items) }
         ensures order { IfOk result (λ kept. AreListsInOrder self.new.first (self.new.files.files.items ++ kept ∷ [])
             (length self.new.modules.numbers)) }
         ensures holds { HoldsSame self.old self.new }

@@ -79,18 +79,18 @@ pub record IsSummary (main : Main) (modules : List ModuleVersion) (summary : Sum
   pub without : at_span modules summary.kept ≡ without_excluded main (at_span modules summary.all)
 
 -- The requirements of a file are in the list of modules, and the list that it shares is that of one of these files.
-abbrev pub HasLists : Main → List ModuleVersion → List Kept → Summary → Type 0
-HasLists main modules files summary = IsSummary main modules summary
+abbrev pub IsSummaryIn : Main → List ModuleVersion → List Kept → Summary → Type 0
+IsSummaryIn main modules files summary = IsSummary main modules summary
     × ((place : ℕ) → summary.same_as ≡ Some place → own_span_at files place ≡ Some summary.kept)
 
 -- The same of what is kept of a file, which may be a fault, and of all files.
-abbrev pub HasListsIfValid : Main → List ModuleVersion → List Kept → Kept → Type 0
-HasListsIfValid main modules files (Valid summary) = HasLists main modules files summary
-HasListsIfValid main modules files (Faulty class) = ⊤
+abbrev pub IsKeptIn : Main → List ModuleVersion → List Kept → Kept → Type 0
+IsKeptIn main modules files (Valid summary) = IsSummaryIn main modules files summary
+IsKeptIn main modules files (Faulty class) = ⊤
 
-abbrev pub HaveLists : Main → List ModuleVersion → List Kept → Type 0
-HaveLists main modules files = (place : ℕ) (summary : Summary) → slice_get files place ≡ Some (Valid summary)
-    → HasLists main modules files summary
+abbrev pub AreKeptIn : Main → List ModuleVersion → List Kept → Type 0
+AreKeptIn main modules files = (place : ℕ) (summary : Summary) → slice_get files place ≡ Some (Valid summary)
+    → IsSummaryIn main modules files summary
 
 -- The requirements of each file are in the list of modules.
 abbrev pub AreWithinList : List ModuleVersion → List Kept → Type 0

@@ -11,7 +11,7 @@ use Rattle.gm_graph.proofs.OwnFiles.{added_there, has_file, has_noted, has_place
 use Rattle.gm_graph.proofs.PuttingPlaces.{same_files}
 use Rattle.gm_graph.proofs.SharedLists.{listed_push}
 use Rattle.gm_graph.proofs.HeldFiles.{added_some, kept_some}
-use Rattle.gm_graph.specs.Private.Summaries.{HaveLists, AreListsInOrder}
+use Rattle.gm_graph.specs.Private.Summaries.{AreKeptIn, AreListsInOrder}
 use Rattle.gm_name_table.specs.Listed.{modules_of}
 use Rattle.gm_graph.proofs.Ordered.{begins_added, has_added}
 use Rattle.gm_graph.proofs.Telling.{knows_read, none_still, not_asked, sound_read}
@@ -64,7 +64,7 @@ invariant_of-self-in-Ok g c =
       in_order = has_added files c.add.new.self.files.items kept c.add.ensures.files
           (λ all. AreListsInOrder mid.first all (length mid.modules.numbers)) mid.in_order c.in-Ok.ensures.order;
       listed = has_added files c.add.new.self.files.items kept c.add.ensures.files
-          (HaveLists (main_in mid) (modules_of mid.modules)) mid.listed
+          (AreKeptIn (main_in mid) (modules_of mid.modules)) mid.listed
           (listed_push (main_in mid) (modules_of mid.modules) files kept mid.listed
           (rw (c.read_file.ensures.files, c.read_file.ensures.lent.main) c.in-Ok.ensures.listed));
     }
