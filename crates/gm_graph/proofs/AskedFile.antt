@@ -1,8 +1,8 @@
 -- What is asked for is the file of a vertex.
 use Rattle.std.proofs.Common.{◌≡◌, ◌∙◌, List, [], ◌∷◌, Option, None, Some, Result, Ok, Err, ap, refl, sym, inl, inr}
-use Rattle.std.specs.Prelude.{IsErrAnd, IsSome}
+use Rattle.std.specs.Prelude.{IsErrAnd, IsSome, IsSomeAnd}
 use Rattle.gm_name.specs.ModuleVersion.{ModuleVersion}
-use Rattle.gm_store.specs.Asked.{Name, Reply, answer_in}
+use Rattle.gm_store.specs.Asked.{Name, Reply, answer_in, name_of}
 use Rattle.gm_store.specs.Requests.{IsRequest, refused_for}
 use Rattle.gm_store.specs.States.{StoreState}
 use Rattle.gm_store.specs.declared.files.AskFault.{AskFault}
@@ -10,7 +10,7 @@ use Rattle.gm_store.specs.declared.files.AskFault.TheVariants as ask
 use Rattle.gm_store.specs.declared.files.FileName.{FileName}
 use Rattle.gm_store.proofs.Serving.{request_served}
 use Rattle.gm_graph.specs.Asking.{AsksFor, StillLacks}
-use Rattle.gm_graph.specs.Private.Asking.{AsksOne, HasName, IsAskableFile, IsLoadFaultOf}
+use Rattle.gm_graph.specs.Private.Asking.{AsksOne, IsAskableFile, IsLoadFaultOf}
 use Rattle.gm_graph.specs.Refusals.{refused_names}
 use Rattle.gm_graph.specs.declared.cache.load_fault.LoadFault.{LoadFault}
 use Rattle.gm_file.specs.Main.{Main}
@@ -100,11 +100,12 @@ module _ {before after : Name → Option Reply → Type 0} {old new : StoreState
 
 -- ---- the fault of a load
 
-pub has_some : (failed : Option FileName) (name : Name) → HasName failed name → IsSome failed
+pub has_some : (failed : Option FileName) (name : Name) → IsSomeAnd failed (λ there. name_of there ≡ name) → IsSome failed
 has_some None name has = absurd has
 has_some (Some there) name has = refl
 
-pub refused_failed : (T : Type 0) (name : Name) (fault : AskFault) (failed : Option FileName) (result : LoadFault) → (fault ≡ ask.Device → HasName failed name)
+pub refused_failed : (T : Type 0) (name : Name) (fault : AskFault) (failed : Option FileName) (result : LoadFault)
+    → (fault ≡ ask.Device → IsSomeAnd failed (λ there. name_of there ≡ name))
     → IsLoadFaultOf fault failed result → refused_for {T = T} name (Err fault) ≡ refused_names result
 refused_failed T name ask.NoMemory failed result has is = sym (ap refused_names is)
 refused_failed T name ask.Device None result has is = absurd is

@@ -1,7 +1,6 @@
 -- The places of files: of their names, and noted for the numbers of modules.
 use Rattle.std.proofs.Common.{◌≡◌, ◌∙◌, ◌<◌, ℕ, List, [], Option, Some, None, ap, ap₂, length, refl, sym}
 use Rattle.std.specs.Option.{IsSome, option_and_then, option_or}
-use Rattle.std.specs.Prelude.{slice_get}
 use Rattle.std.proofs.lemmas.Option.{slice_get-get_or}
 use Rattle.gm_name.specs.ModuleVersion.{ModuleVersion, module_at}
 use Rattle.gm_name_table.specs.OptionalPlaces.{place_in}
@@ -12,7 +11,7 @@ use Rattle.gm_file.specs.Main.{Main, replacement_in}
 use Rattle.gm_store.specs.Asked.{Name, mod_file}
 use Rattle.gm_graph.specs.declared.cache.file_table.FileTable.{FileTable}
 use Rattle.gm_graph.specs.FileTable.{place_of}
-use Rattle.gm_graph.specs.Private.FileTable.{IsPlaceOf, IsUnnoted, NotesFiles, noted_for, replacing_place}
+use Rattle.gm_graph.specs.Private.FileTable.{IsUnnoted, NotesFiles, noted_for, replacing_place}
 use Rattle.gm_graph.specs.Reading.{file_named, file_of}
 
 -- ---- a file that is not one of a replacement is that of one module
@@ -62,9 +61,3 @@ place_by main modules files number name notes only named = noted (noted_for file
         ap (noted_for files) (only k below (one_owner main modules files notes (module_at modules k) (module_at modules number) name none also named))
         ∙ nowhere)
     noted (Some place) some = ap (place_of files) named ∙ (notes.modules_noted number place some).placed
-
--- what `place_of` returns
-pub place_found : (files : FileTable) (name : Name) (place : Option ℕ) → place_of files name ≡ place → IsPlaceOf files name place
-place_found files name None none = ap (option_and_then (slice_get files.files.items)) none
-place_found files name (Some place) some =
-    (files.within name place some, ap (option_and_then (slice_get files.files.items)) (sym some))

@@ -1,5 +1,5 @@
 -- The files that were followed, as the cache and the worklist grow.
-use Rattle.std.proofs.Common.{◌≡◌, Contains, List, Ok, ℕ, inl, inr, true}
+use Rattle.std.proofs.Common.{◌≡◌, ◌⊎◌, Contains, List, Ok, ℕ, inl, inr, true}
 use Rattle.std.proofs.lemmas.List.Elements.{Contains-append_left}
 use Rattle.gm_name.specs.ModuleVersion.{ModuleVersion}
 use Rattle.gm_name_table.specs.Listed.{BeginsWith}
@@ -9,14 +9,19 @@ use Rattle.gm_graph.specs.declared.cache.depth.Depth.TheVariants.{Deep}
 use Rattle.gm_graph.specs.declared.cache.depth.Turn.{Turn}
 use Rattle.gm_graph.specs.declared.cache.visit.Required.{Required}
 use Rattle.gm_graph.specs.declared.cache.visit.Visit.TheVariants as visit
-use Rattle.gm_graph.specs.Cached.{IsSound, KeepsSound, table_in}
-use Rattle.gm_graph.specs.Run.{KeepsSayings, Requires, Run}
+use Rattle.gm_graph.specs.Cached.{IsSound, run_in, table_in}
+use Rattle.gm_graph.specs.Private.Cached.{Follows}
+use Rattle.gm_store.specs.Asked.{Name, Reply}
+use Rattle.gm_graph.specs.Run.{Requires, Run}
 use Rattle.gm_graph.specs.Turns.{turn}
 use Rattle.gm_graph.specs.declared.followed.Followed.{Followed}
 use Rattle.gm_graph.specs.declared.worklist.Worklist.{Worklist}
 use Rattle.gm_graph.specs.Private.Worklists.{IsWorklist, turns_of}
-use Rattle.gm_graph.specs.Private.Followed.{AddsFollowed, followed_at}
-use Rattle.gm_graph.specs.Private.CacheVisits.{Continues, IsVisit, LendsFile, required_by, table_of}
+use Rattle.gm_graph.specs.Private.Followed.{followed_at}
+use Rattle.gm_graph.specs.Private.CacheVisits.{IsVisit}
+use Rattle.gm_graph.proofs.Lending.{LendsFile}
+use Rattle.gm_graph.specs.Private.Held.{lent_table}
+use Rattle.gm_graph.specs.Lent.{lent_modules}
 use Rattle.gm_graph.proofs.Growing.{turns_over}
 use Rattle.gm_graph.proofs.Sayings.{required_of, requires_before}
 
@@ -29,32 +34,33 @@ AreFollowedIn cache run turns followed = (file : ℕ) → followed_at followed f
 pub has_its_turns : (old : Cache) (run : Run) (worklist : Worklist) (followed : Followed) (required : Required)
     → IsWorklist (table_in old) worklist → LendsFile old run required
     → AreFollowedIn old run (turns_of (table_in old) worklist) followed → followed_at followed required.file ≡ true
-    → (y : ModuleVersion) → Contains (required_by required) y → Contains (turns_of (table_of required) worklist) (turn y Deep)
+    → (y : ModuleVersion) → Contains (lent_modules required.list) y → Contains (turns_of (lent_table required.list) worklist) (turn y Deep)
 has_its_turns old run worklist followed required is lends are by = λ y h.
     let (x, sound, each) = are required.file by in
-    rw (turns_over (table_in old) (table_of required) worklist is lends.begins)
+    rw (turns_over (table_in old) (lent_table required.list) worklist is lends.begins)
     (each y (sound.file, sound.says, rw⁻¹ (lends.shared x sound.file sound sound.says) h))
 
 -- A vertex's file was followed, and what it requires has turns.
 pub followed_more : (cache : Cache) (run : Run) (old new : List Turn) (before after : Followed) (x : ModuleVersion)
     (d : Depth) (required : Required) → IsVisit cache run x d (visit.Required required) → BeginsWith old new
-    → AreFollowedIn cache run old before → AddsFollowed before after required.file
-    → (followed_at after required.file ≡ true → (y : ModuleVersion) → Contains (required_by required) y → Contains new (turn y Deep))
+    → AreFollowedIn cache run old before
+    → ((file : ℕ) → followed_at after file ≡ true → (followed_at before file ≡ true) ⊎ (required.file ≡ file))
+    → (followed_at after required.file ≡ true → (y : ModuleVersion) → Contains (lent_modules required.list) y → Contains new (turn y Deep))
     → AreFollowedIn cache run new after
-followed_more cache run old new before after x d required (sound, says, same) longer are files each = λ f by. elim (files f by) [
+followed_more cache run old new before after x d required (sound, _, file, says, _, modules) longer are files each = λ f by. elim (files f by) [
   | inl was ↦ (let (z, there, its) = are f was in (z, there, λ y r. rw longer.1 (Contains-append_left old longer.0 (turn y Deep) (its y r))))
-  | inr here ↦ (x, rw⁻¹ here sound, λ y r. each (rw here by) y (rw says.modules ((required_of run x says.file says.says y).0 r)))
+  | inr here ↦ (x, rw⁻¹ here sound, λ y r. each (rw here by) y (rw modules ((required_of run x file says y).0 r)))
 ]
 
 -- A cache that knows more.
-pub followed_known : (old new : Cache) (earlier later : Run) (worklist : Worklist) (followed : Followed)
-    → IsWorklist (table_in old) worklist → Continues old new → later.main ≡ earlier.main → KeepsSayings earlier later
-    → KeepsSound old earlier new later → AreFollowedIn old earlier (turns_of (table_in old) worklist) followed
-    → AreFollowedIn new later (turns_of (table_in new) worklist) followed
-followed_known old new earlier later worklist followed is continues main stays keeps are = λ f by.
+pub followed_known : (old new : Cache) {earlier pairs : List (Name × Reply)} (worklist : Worklist) (followed : Followed)
+    → IsWorklist (table_in old) worklist → Follows old earlier new pairs
+    → AreFollowedIn old (run_in old earlier) (turns_of (table_in old) worklist) followed
+    → AreFollowedIn new (run_in new pairs) (turns_of (table_in new) worklist) followed
+followed_known old new {earlier} {pairs} worklist followed is made are = λ f by.
     let (x, sound, each) = are f by in (
       x,
-      keeps x f sound,
-      λ y r. rw (turns_over (table_in old) (table_in new) worklist is continues.numbered)
-          (each y (requires_before earlier later main stays x y (Ok sound.file) sound.says r)),
+      made.sound x f sound,
+      λ y r. rw (turns_over (table_in old) (table_in new) worklist is made.numbered)
+          (each y (requires_before (run_in old earlier) (run_in new pairs) made.main made.stays x y (Ok sound.file) sound.says r)),
     )

@@ -1,5 +1,5 @@
 -- What visits found, as the cache and the findings grow.
-use Rattle.std.proofs.Common.{◌≡◌, ◌≢◌, ◌∙◌, ◌<◌, ◌++◌, ◌∷◌, ◌⊎◌, ◌↔◌, [], ℕ, arith, Contains, Err, None, Some, ap, inl, inr, length, sym}
+use Rattle.std.proofs.Common.{◌≡◌, ◌≢◌, ◌∙◌, ◌<◌, ◌++◌, ◌∷◌, ◌⊎◌, ◌↔◌, [], ℕ, List, arith, Contains, Err, None, Some, ap, inl, inr, length, sym}
 use Rattle.std.proofs.lemmas.Bool.{cases_eq, false≢true}
 use Rattle.std.proofs.lemmas.List.Elements.{Contains-append_left, Contains-push, Contains-push_cases}
 use Rattle.std.proofs.lemmas.Option.{same_Some}
@@ -7,32 +7,32 @@ use Rattle.gm_graph.specs.declared.cache.Cache.{Cache}
 use Rattle.gm_graph.specs.declared.cache.class.Class.{Class}
 use Rattle.gm_graph.specs.declared.findings.Findings.{Findings}
 use Rattle.gm_graph.specs.declared.findings.NumberedFault.{NumberedFault}
-use Rattle.gm_graph.specs.Cached.{IsSound, KeepsSound, table_in}
-use Rattle.gm_graph.specs.Private.Cached.{module_numbered}
-use Rattle.gm_graph.specs.Private.CacheVisits.{Continues}
+use Rattle.gm_graph.specs.Cached.{IsSound, run_in, table_in}
+use Rattle.gm_graph.specs.Private.Cached.{Follows, module_numbered}
+use Rattle.gm_name_table.specs.Listed.{BeginsWith}
+use Rattle.gm_store.specs.Asked.{Name, Reply}
 use Rattle.gm_graph.specs.Private.Findings.{AreFindings, WasVisited, numbered, place_at}
-use Rattle.gm_graph.specs.Run.{KeepsSayings, Run, Says}
+use Rattle.gm_graph.specs.Run.{Run, Says}
 use Rattle.gm_graph.proofs.Growing.{number_below, number_stays}
 
 -- A vertex has its number still.
-pub same_module : (old new : Cache) (number : ℕ) → Continues old new → number < length (table_in old)
+pub same_module : (old new : Cache) (number : ℕ) → BeginsWith (table_in old) (table_in new) → number < length (table_in old)
     → module_numbered old number ≡ module_numbered new number
-same_module old new number continues below = sym (number_stays (table_in old) (table_in new) number continues.numbered below)
+same_module old new number begins below = sym (number_stays (table_in old) (table_in new) number begins below)
 
 -- A cache that knows more.
-pub findings_known : (old new : Cache) (earlier later : Run) (findings : Findings) → Continues old new
-    → KeepsSayings earlier later → KeepsSound old earlier new later → AreFindings old earlier findings
-    → AreFindings new later findings
-findings_known old new earlier later findings continues stays keeps are = record {
+pub findings_known : (old new : Cache) {earlier pairs : List (Name × Reply)} (findings : Findings) → Follows old earlier new pairs
+    → AreFindings old (run_in old earlier) findings → AreFindings new (run_in new pairs) findings
+findings_known old new findings made are = record {
   files = λ number place e.
       let was = are.files number place e in (
-        number_below (table_in old) (table_in new) number continues.numbered was.0,
-        rw⁻¹ (same_module old new number continues was.0) (keeps (module_numbered old number) place was.1),
+        number_below (table_in old) (table_in new) number made.numbered was.0,
+        rw⁻¹ (same_module old new number made.numbered was.0) (made.sound (module_numbered old number) place was.1),
       );
   faults = λ number class h.
       let was = are.faults number class h in (
-        number_below (table_in old) (table_in new) number continues.numbered was.0,
-        rw⁻¹ (same_module old new number continues was.0) (stays (module_numbered old number) (Err class) was.1),
+        number_below (table_in old) (table_in new) number made.numbered was.0,
+        rw⁻¹ (same_module old new number made.numbered was.0) (made.stays (module_numbered old number) (Err class) was.1),
       );
 }
 

@@ -7,6 +7,7 @@ use Rattle.gm_name_table.specs.Listed.{modules_at, modules_of}
 use Rattle.gm_name_table.proofs.Listed.{part_as}
 use Rattle.gm_file.specs.Fields.{Dependency}
 use Rattle.gm_file.specs.Main.{without_excluded}
+use Rattle.gm_graph.proofs.Ordered.{own_spans}
 use Rattle.gm_graph.specs.declared.cache.Cache.{Cache}
 use Rattle.gm_graph.specs.declared.cache.class.Class.{Class}
 use Rattle.gm_graph.specs.declared.cache.parts.CacheParts.{CacheParts}
@@ -17,7 +18,6 @@ use Rattle.gm_graph.specs.Private.Cached.{ArePartsOf, module_numbered}
 use Rattle.gm_graph.specs.Private.Findings.{WasVisited, place_at}
 use Rattle.gm_graph.specs.Private.Gathering.{AreFaultsOf, AreFilePlaces, HasFaultOf, fault, has_file, gathered_sources, steps_by}
 use Rattle.gm_graph.specs.Run.{AreFaults, IsEdge, IsFault, IsOpened, Requires, Run, Says}
-use Rattle.gm_graph.specs.Private.Summaries.{own_spans}
 use Rattle.gm_graph.specs.Private.Visiting.{IsOpenedIn}
 use Rattle.gm_graph_select.specs.declared.adjacency.Source.{Source}
 use Rattle.gm_graph_select.specs.declared.step.Edge.{Edge}
@@ -66,7 +66,7 @@ module _ {run : Run} {cache : Cache} {worklist : Worklist} {findings : Findings}
   main_list =
       part_as _ _ _ _ 0 parts.first are.modules are.numbers
       ∙ between_from_start (modules_of cache.modules) parts.first
-      ∙ rw (are.first, ← opened.main_is) cache.first_are
+      ∙ rw (are.first, ← opened.main_is) cache.consistent.first_are
 
   -- The list at the place that was found is what the vertex requires.
   file_list : (number place : ℕ) (e : place_at places number ≡ Some place)

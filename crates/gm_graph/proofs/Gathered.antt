@@ -16,14 +16,14 @@ use Rattle.gm_graph.specs.declared.cache.summary.Kept.{Kept}
 use Rattle.gm_graph.specs.declared.cache.summary.ListSpan.{ListSpan}
 use Rattle.gm_graph.specs.Private.Findings.{place_at}
 use Rattle.gm_graph.specs.Private.Gathering.{AreFilePlaces, has_file, sources_from, gathered_sources, span_after, spans_from, spans_of, steps_by}
-use Rattle.gm_graph.specs.Private.Summaries.{AreSpansInOrder, own_spans}
+use Rattle.gm_graph.specs.Private.Summaries.{AreSpansInOrder}
 use Rattle.gm_graph_select.specs.declared.adjacency.Source.{Source}
 use Rattle.gm_graph_select.specs.declared.number_lists.Span.{Span}
 use Rattle.gm_graph_select.specs.Adjacency.{AreUsed, HaveNumbers, IsBelow, IsNumbered, StepEdges, by_step, left_by, list_at, same_step, step_edges}
 use Rattle.gm_graph_select.specs.Spans.{AreSpansApart, lists_at, part_at}
 use Rattle.gm_graph_select.specs.declared.step.Step.TheVariants.{Main, Of}
 use Rattle.gm_graph_select.specs.StepOrder.{step_eq}
-use Rattle.gm_graph.proofs.Ordered.{order_rest}
+use Rattle.gm_graph.proofs.Ordered.{order_rest, own_spans}
 
 -- ---- the sources
 

@@ -1,16 +1,15 @@
 -- A cache whose list of modules grew at its end.
-use Rattle.std.proofs.Common.{◌≡◌, ◌≤◌, ◌∙◌, ap, arith, length, length-append, take}
+use Rattle.std.proofs.Common.{◌≤◌, ◌∙◌, ap, arith, length, length-append, take}
+use Rattle.std.proofs.Math.Logic.{∥∥₁_map}
 use Rattle.std.proofs.lemmas.List.{length-map, take-append-le}
 use Rattle.gm_name.specs.ModuleVersion.{module_at}
 use Rattle.gm_name_table.specs.Listed.{NumberedList, modules_of}
-use Rattle.gm_file.specs.Main.{without_excluded}
 use Rattle.gm_graph.specs.declared.cache.Cache.{Cache}
 use Rattle.gm_graph.specs.Cached.{main_in, sums_in, table_in}
-use Rattle.gm_graph.specs.Private.FileTable.{NotesFiles}
-use Rattle.gm_graph.specs.Private.Held.{HoldsSome}
-use Rattle.gm_graph.specs.Private.Summaries.{AreKeptIn, AreListsInOrder, Grows, own_spans}
-use Rattle.gm_graph.proofs.HeldFiles.{grown_some}
-use Rattle.gm_graph.proofs.Ordered.{order_longer}
+use Rattle.gm_graph.specs.Private.Held.{IsConsistent}
+use Rattle.gm_graph.specs.Private.Summaries.{Grows}
+use Rattle.gm_graph.proofs.HeldFiles.{grown_holds}
+use Rattle.gm_graph.proofs.Ordered.{order_longer, own_spans}
 use Rattle.gm_graph.proofs.PuttingPlaces.{notes_if_more}
 use Rattle.gm_graph.proofs.SharedLists.{listed_grown}
 
@@ -18,28 +17,21 @@ module _ (cache : Cache) (new : NumberedList) (grows : Grows cache.modules new) 
   more_numbers : length cache.modules.numbers ≤ length new.numbers
   more_numbers = omega (arith, ap length grows.1.kept.1, length-append cache.modules.numbers grows.1.kept.0)
 
-  pub first_grown : cache.first ≤ length new.numbers
-  first_grown = omega (arith, cache.first_within, more_numbers)
-
-  pub firsts_grown : take cache.first (modules_of new) ≡ without_excluded (main_in cache) (main_in cache).requirements
-  firsts_grown = ap (take cache.first) grows.1.listed
-      ∙ take-append-le cache.first (modules_of cache.modules) grows.0
-      (omega (arith, cache.first_within, length-map cache.modules.numbers (module_at cache.modules.modules)))
-      ∙ cache.first_are
-
-  pub places_grown : length cache.files.places.items ≤ length new.modules
-  places_grown = omega (arith, cache.places_within, ap length grows.1.numbered.1, length-append (table_in cache) grows.1.numbered.0)
-
-  pub some_grown : ∥ HoldsSome (main_in cache) (sums_in cache) new cache.files ∥₁
-  some_grown = grown_some (main_in cache) cache.modules new cache.files grows cache.listed (sums_in cache) cache.holds_some
-
-  pub notes_grown : NotesFiles (main_in cache) new.modules cache.files
-  notes_grown = notes_if_more (main_in cache) (table_in cache) new.modules cache.files grows.1.numbered cache.places_within cache.notes
-
-  pub order_grown : AreListsInOrder cache.first cache.files.files.items (length new.numbers)
-  order_grown = order_longer cache.first (own_spans cache.files.files.items) (length cache.modules.numbers) (length new.numbers)
-      more_numbers cache.in_order
-
-  pub all_grown : AreKeptIn (main_in cache) (modules_of new) cache.files.files.items
-  all_grown = listed_grown (main_in cache) (modules_of cache.modules) (modules_of new) cache.files.files.items
-      (grows.0, grows.1.listed) cache.listed
+  -- What the cache holds is consistent with the longer list.
+  pub grown_consistent : IsConsistent (main_in cache) (sums_in cache) cache.first new cache.files
+  grown_consistent =
+      let main = main_in cache in
+      let old = cache.modules in
+      let files = cache.files in
+      let was = cache.consistent in
+      record {
+        holds_some = ∥∥₁_map was.holds_some (λ it. (it.0, grown_holds main old new files grows was.listed (sums_in cache) it.0 it.1));
+        first_within = omega (arith, was.first_within, more_numbers);
+        first_are = ap (take cache.first) grows.1.listed
+            ∙ take-append-le cache.first (modules_of old) grows.0 (omega (arith, was.first_within, length-map old.numbers (module_at old.modules)))
+            ∙ was.first_are;
+        places_within = omega (arith, was.places_within, ap length grows.1.numbered.1, length-append (table_in cache) grows.1.numbered.0);
+        notes = notes_if_more main (table_in cache) new.modules files grows.1.numbered was.places_within was.notes;
+        in_order = order_longer cache.first (own_spans files.files.items) (length old.numbers) (length new.numbers) more_numbers was.in_order;
+        listed = listed_grown main (modules_of old) (modules_of new) files.files.items (grows.0, grows.1.listed) was.listed;
+      }

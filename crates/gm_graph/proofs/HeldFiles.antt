@@ -17,7 +17,6 @@ use Rattle.gm_graph.specs.declared.cache.summary.Kept.{Kept}
 use Rattle.gm_graph.specs.FileTable.{kept_at}
 use Rattle.gm_graph.specs.Private.FileTable.{KeepsFiles, PutsFile}
 use Rattle.gm_graph.specs.Held.{HoldsAnswers, held_under}
-use Rattle.gm_graph.specs.Private.Held.{HoldsSome}
 use Rattle.gm_graph.specs.Reading.{IsFileReading}
 use Rattle.gm_graph.specs.Run.{run_of}
 use Rattle.gm_graph.specs.Summaries.{summary_reading}
@@ -58,10 +57,11 @@ module _ (main : Main) (old new : NumberedList) (files : FileTable) (grows : Gro
     only = λ name e. grown_held name ∙ holds.only name e;
   }
 
-  pub grown_some : (sums : Option Sums) → ∥ HoldsSome main sums old files ∥₁ → ∥ HoldsSome main sums new files ∥₁
-  grown_some sums some = ∥∥₁_map some (λ it. (it.0, grown_holds sums it.0 it.1))
-
 -- ---- a file that was added
+
+-- Some answers say what is held.
+abbrev pub HoldsSome : Main → Option Sums → NumberedList → FileTable → Type 0
+HoldsSome main sums list files = (pairs : List (Name × Reply)) × HoldsAnswers (run_of main sums pairs) list files
 
 module _ (main : Main) (sums : Option Sums) (list : NumberedList) (old new : FileTable) where
   -- The answer for one name is this one now, and those for the others stay.

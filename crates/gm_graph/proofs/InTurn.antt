@@ -136,20 +136,20 @@ module _ {main : Main} {sums : Option Sums} {cache : Cache} {worklist : Worklist
     opened_still : (number : ℕ) → number < length (table_in cache) → IsOpened later (module_numbered cache number)
         → (number < length (table_in end)) × IsOpened later (module_numbered end number)
     opened_still number lower opened = (
-      number_below (table_in cache) (table_in end) number is.has.continues.numbered lower,
-      rw⁻¹ (same_module cache end number is.has.continues lower) opened,
+      number_below (table_in cache) (table_in end) number is.has.follows.numbered lower,
+      rw⁻¹ (same_module cache end number is.has.follows.numbered lower) opened,
     )
 
     main_is : main_in end ≡ main
-    main_is = is.has.continues.main ∙ state.main_is
+    main_is = is.has.follows.main ∙ state.main_is
 
     sums_are : sums_in end ≡ sums
-    sums_are = is.has.continues.sums ∙ state.sums_are
+    sums_are = is.has.follows.sums ∙ state.sums_are
 
     visits : Visits later turns after_it (turn vertex one.depth)
     visits = rw⁻¹ (main_is, sums_are)
-        (rw (same_module cache end one.number is.has.continues within)
-        (rw⁻¹ (turns_over (table_in cache) (table_in end) worklist state.worklist_is is.has.continues.numbered) is.adds.follows))
+        (rw (same_module cache end one.number is.has.follows.numbered within)
+        (rw⁻¹ (turns_over (table_in cache) (table_in end) worklist state.worklist_is is.has.follows.numbered) is.adds.follows))
 
     found_more : AreFound end later found
     found_more = record {
@@ -163,12 +163,12 @@ module _ {main : Main} {sums : Option Sums} {cache : Cache} {worklist : Worklist
             | inl was ↦ (let (number, before_it, of) = state.found.each next was in (
               number,
               (is.adds.finds number).1 (inl before_it),
-              sym (same_module cache end number is.has.continues (state.found.opened number before_it).0) ∙ of,
+              sym (same_module cache end number is.has.follows.numbered (state.found.opened number before_it).0) ∙ of,
             ))
             | inr same ↦ (
               one.number,
               (is.adds.finds one.number).1 (inr refl),
-              sym (same_module cache end one.number is.has.continues within) ∙ ap (λ (t : Turn). t.vertex) same,
+              sym (same_module cache end one.number is.has.follows.numbered within) ∙ ap (λ (t : Turn). t.vertex) same,
             )
           ];
     }
@@ -178,7 +178,7 @@ module _ {main : Main} {sums : Option Sums} {cache : Cache} {worklist : Worklist
       worklist_is = is.adds.ready.worklist_is;
       main_is = main_is;
       sums_are = sums_are;
-      knows = is.has.knows;
+      knows = is.has.follows.knows;
       lent = rw (is.has.turns, state.lent, visits.adds.extends.1)
           (sym (take-append-le (at + 1) turns visits.adds.extends.0 (omega (arith, inside)) ∙ take_more turns at _ inside
           ∙ ap (λ (t : Turn). take at turns ++ t ∷ []) there));

@@ -1,5 +1,5 @@
 -- What stays when more is asked for, and when a cache returns requirements.
-use Rattle.std.proofs.Common.{◌≡◌, ◌∙◌, ℕ, List, [], ◌∷◌, ◌++◌, Option, Some, None, Result, Ok, Err, append-nil, arith, inl, inr, length, length-append, sym, ap, refl}
+use Rattle.std.proofs.Common.{◌≡◌, ◌∙◌, List, [], ◌∷◌, ◌++◌, Option, Some, None, Result, Ok, Err, append-nil, arith, inl, inr, length, length-append, sym, ap, refl}
 use Rattle.std.specs.Prelude.{IsErrAnd, OnErr}
 use Rattle.std.specs.Option.{option_and_then}
 use Rattle.gm_store.specs.Asked.{Name, Reply}
@@ -20,7 +20,7 @@ use Rattle.gm_graph.specs.Private.FileTable.{KeepsFiles, KeepsOthers}
 use Rattle.gm_graph.specs.Summaries.{listed_span}
 use Rattle.gm_graph.specs.Private.Summaries.{Grows}
 use Rattle.gm_graph.specs.Cached.{HoldsSame, KeepsSound, Knows, LentSame, main_in, run_in, summary_at, sums_in, table_in}
-use Rattle.gm_graph.specs.Private.Cached.{HasMadeKnown, IsPlaceFor}
+use Rattle.gm_graph.specs.Private.Cached.{Follows}
 use Rattle.gm_graph.specs.Run.{KeepsSayings, Run}
 use Rattle.gm_graph.specs.Asking.{AsksFor}
 use Rattle.gm_graph.specs.Refusals.{refused_in, refused_names}
@@ -93,7 +93,7 @@ holds_grown old new main sums files grows =
     record {
       main = main;
       sums = sums;
-      held = λ name. rw files (grown_held (main_in old) old.modules new.modules old.files grows old.listed name);
+      held = λ name. rw files (grown_held (main_in old) old.modules new.modules old.files grows old.consistent.listed name);
       numbered = grows.1.numbered;
       sound = λ run. sound_still old new run run main ([], ap (λ kept. kept.files.items) files ∙ sym (append-nil old.files.files.items))
           (λ name one e. rw files e) (λ x said says. says);
@@ -142,13 +142,14 @@ pub sound_same : (old new : Cache) (pairs : List (Name × Reply)) → HoldsSame 
 sound_same old new pairs same =
     rw (same_run old new pairs same.main same.sums) (same.sound (run_in old pairs))
 
--- The file was known already, or none may be asked for.
-pub known_same : {old new : Cache} {pairs : List (Name × Reply)} {x : ModuleVersion} {place : Option ℕ} → HoldsSame old new
-    → Knows old pairs → IsPlaceFor new x place → HasMadeKnown old pairs new pairs x place
-known_same {old} {new} {pairs} same knows is = record {
+-- A cache that holds the same comes after it, by the same answers.
+pub follows_same : {old new : Cache} {pairs : List (Name × Reply)} → HoldsSame old new → Knows old pairs → Follows old pairs new pairs
+follows_same {old} {new} {pairs} same knows = record {
   knows = knows_still pairs same knows;
-  place_is = is;
+  main = ap main_of same.main;
+  sums = same.sums;
   numbered = same.numbered;
+  stays = λ x said says. rw (same_run old new pairs same.main same.sums) says;
   sound = sound_same old new pairs same;
 }
 

@@ -1,13 +1,13 @@
 -- What is found of a vertex, and which requirements are returned for it.
 use Rattle.std.proofs.Common.{◌≡◌, ◌<◌, ◌∙◌, ℕ, List, Option, Some, None, Ok, sym, ap, refl}
-use Rattle.std.specs.Prelude.{IfSome}
+use Rattle.std.specs.Prelude.{IfSome, slice_get}
 use Rattle.std.specs.List.{IsDistinct}
 use Rattle.std.specs.Option.{option_and_then, option_map}
 use Rattle.std.proofs.lemmas.Option.{same_Some}
 use Rattle.std.proofs.Math.Logic.{∥∥₁_elim}
 use Rattle.std.proofs.Props.{props}
 use Rattle.gm_name.specs.ModuleVersion.{ModuleVersion, pair_eq}
-use Rattle.gm_name_table.specs.Listed.{modules_of}
+use Rattle.gm_name_table.specs.Listed.{BeginsWith, modules_of}
 use Rattle.gm_file.specs.Fields.{Dependency}
 use Rattle.gm_file.specs.Listed.{with_requirements}
 use Rattle.gm_store.specs.Asked.{Name, Reply}
@@ -17,30 +17,32 @@ use Rattle.gm_graph.specs.declared.cache.summary.Kept.TheVariants.{Valid, Faulty
 use Rattle.gm_graph.specs.declared.cache.lent.Lent.{Lent}
 use Rattle.gm_graph.specs.declared.cache.visit.Said.{Said}
 use Rattle.gm_graph.specs.declared.cache.visit.Said.TheVariants as said
-use Rattle.gm_graph.specs.declared.cache.visit.Visit.{Visit}
+use Rattle.gm_graph.specs.declared.cache.visit.Required.{Required}
 use Rattle.gm_graph.specs.declared.cache.visit.Visit.TheVariants as visit
 use Rattle.gm_graph.specs.declared.cache.Cache.{Cache}
 use Rattle.gm_file.specs.Main.{Main, without_excluded}
 use Rattle.gm_graph.specs.Reading.{file_of}
 use Rattle.gm_graph.specs.declared.cache.summary.ListSpan.{ListSpan}
 use Rattle.gm_graph.specs.Summaries.{at_span, listed_span, summary_reading}
-use Rattle.gm_graph.specs.Private.Summaries.{IsWithinList}
+use Rattle.gm_graph.specs.Private.Summaries.{IsWithinList, span_found}
 use Rattle.gm_graph.proofs.Spans.{IsKept, span_within}
-use Rattle.gm_graph.specs.Cached.{AreRequirements, IsSound, KeepsSound, Knows, file_count, its_requirements, main_in, no_requirements, run_in, summary_at, table_in}
-use Rattle.gm_graph.specs.Private.Cached.{HasFileAt, IsLender, kept_file, module_numbered, span_at}
-use Rattle.gm_graph.specs.Private.CacheVisits.{Continues, IsSaid, IsVisit, LendsOver, file_said, visit_of}
+use Rattle.gm_graph.specs.Cached.{AreRequirements, IsSound, Knows, file_count, its_requirements, main_in, run_in, summary_at, table_in}
+use Rattle.gm_graph.specs.Private.Cached.{Follows, module_numbered}
+use Rattle.gm_graph.specs.Private.FileTable.{IsPlacedAt}
+use Rattle.gm_graph.specs.Private.CacheVisits.{IsSaid, IsVisit, file_said, visit_of}
 use Rattle.gm_graph.specs.Lent.{lent_modules}
 use Rattle.gm_graph.specs.Private.Held.{lent_table}
-use Rattle.gm_graph.specs.Run.{FileSays, KeepsSayings, Says}
+use Rattle.gm_graph.specs.Run.{FileSays, Run, Says}
 use Rattle.gm_graph.proofs.Holding.{held_says, held_sound}
 use Rattle.gm_graph.proofs.SharedLists.{found_own, kept_listed, kept_named}
 
 -- What is kept at the place of a vertex's file is what the file says.
-pub kept_says : (cache : Cache) (pairs : List (Name × Reply)) (x : ModuleVersion) (place : ℕ) (one : Kept) → Knows cache pairs → HasFileAt cache x place
-    → kept_file cache place ≡ Some one → FileSays (run_in cache pairs) (file_of (main_in cache) x) (summary_reading (modules_of cache.modules) one)
+pub kept_says : (cache : Cache) (pairs : List (Name × Reply)) (x : ModuleVersion) (place : ℕ) (one : Kept) → Knows cache pairs
+    → IsPlacedAt (main_in cache) cache.files x place → slice_get cache.files.files.items place ≡ Some one
+    → FileSays (run_in cache pairs) (file_of (main_in cache) x) (summary_reading (modules_of cache.modules) one)
 kept_says cache pairs x place one knows at there =
     held_says cache pairs knows (file_of (main_in cache) x) (summary_reading (modules_of cache.modules) one) at.askable
-    (ap (option_map (summary_reading (modules_of cache.modules))) (sym at.kept ∙ there))
+    (ap (option_map (summary_reading (modules_of cache.modules))) (ap (option_and_then (slice_get cache.files.files.items)) at.placed ∙ there))
 
 lent_one : (main : Main) (modules : List ModuleVersion) (o : Option Kept) (file : Dependency) (span : ListSpan)
     → ((one : Kept) → o ≡ Some one → IsKept main modules one) → option_and_then listed_span o ≡ Some span
@@ -58,25 +60,27 @@ pub list_is : (cache : Cache) (pairs : List (Name × Reply)) (x : ModuleVersion)
     → at_span (modules_of cache.modules) at.span ≡ without_excluded (main_in cache) file.requirements
 list_is cache pairs x place file knows at says =
     lent_one (main_in cache) (modules_of cache.modules) (summary_at cache (file_of (main_in cache) x)) file at.span
-    (λ one. kept_named (main_in cache) (modules_of cache.modules) cache.files (file_of (main_in cache) x) one cache.listed)
+    (λ one. kept_named (main_in cache) (modules_of cache.modules) cache.files (file_of (main_in cache) x) one cache.consistent.listed)
     at.listed (held_sound cache pairs knows x file says)
 
--- The requirements returned from the place of a vertex's file, or from none if the vertex has a fault, are its
--- requirements.
-pub lent_kept : (cache : Cache) (pairs : List (Name × Reply)) (x : ModuleVersion) (place : Option ℕ) → Knows cache pairs
-    → IsLender cache (run_in cache pairs) x place
-    → AreRequirements (run_in cache pairs) x (at_span (modules_of cache.modules) (span_at cache place))
-lent_kept cache pairs x None knows lender = no_requirements lender.1
-lent_kept cache pairs x (Some place) knows lender =
-    rw (found_own (kept_file cache place) lender.span lender.own, list_is cache pairs x place lender.file knows lender lender.says)
-    (its_requirements lender.says)
+-- where the requirements of the file at a place are
+abbrev pub span_at : Cache → Option ℕ → ListSpan
+span_at cache place = span_found (option_and_then (slice_get cache.files.files.items) place)
+
+-- The requirements returned from the place of a vertex's list are its requirements.
+pub lent_kept : (cache : Cache) (pairs : List (Name × Reply)) (x : ModuleVersion) (place : ℕ) → Knows cache pairs
+    → IsSound cache (run_in cache pairs) x place
+    → AreRequirements (run_in cache pairs) x (at_span (modules_of cache.modules) (span_at cache (Some place)))
+lent_kept cache pairs x place knows sound =
+    rw (found_own (slice_get cache.files.files.items place) sound.span sound.own, list_is cache pairs x place sound.file knows sound sound.says)
+    (its_requirements sound.says)
 
 -- Where requirements are is within the list of modules.
 pub lent_within : (cache : Cache) (place : Option ℕ) → IsWithinList (modules_of cache.modules) (span_at cache place)
 lent_within cache None = span_within (main_in cache) (modules_of cache.modules) None (λ one e. absurd (cc e))
 lent_within cache (Some place) =
-    span_within (main_in cache) (modules_of cache.modules) (kept_file cache place)
-    (λ one e. kept_listed (main_in cache) (modules_of cache.modules) cache.files.files.items place one cache.listed e)
+    span_within (main_in cache) (modules_of cache.modules) (slice_get cache.files.files.items place)
+    (λ one e. kept_listed (main_in cache) (modules_of cache.modules) cache.files.files.items place one cache.consistent.listed e)
 
 -- ---- what a visit gets
 
@@ -95,38 +99,41 @@ module _ (cache : Cache) (pairs : List (Name × Reply)) (number : ℕ) (d : Dept
   visit_got (said.Fault class) list knows is modules table = is
   visit_got (said.Sound file leads) list knows is modules table = (
     is.0,
-    record {
-      file = is.0.file;
-      says = is.0.says;
-      leads = is.1;
-      modules = modules ∙ ap (at_span (modules_of cache.modules)) (found_own (kept_file cache file) is.0.span is.0.own)
-          ∙ list_is cache pairs (module_numbered cache number) file is.0.file knows is.0 is.0.says;
-    },
     table,
+    is.0.file,
+    is.0.says,
+    is.1,
+    modules ∙ ap (at_span (modules_of cache.modules)) (found_own (slice_get cache.files.files.items file) is.0.span is.0.own)
+        ∙ list_is cache pairs (module_numbered cache number) file is.0.file knows is.0 is.0.says,
   )
 
 -- ---- what all known answers say
 
--- Some answers are known, so what holds by all that the cache knows holds by some.
-module _ (cache : Cache) (x : ModuleVersion) where
-  -- A place is that of a file.
-  pub lender_there : (place : Option ℕ) → ((pairs : List (Name × Reply)) → Knows cache pairs → IsLender cache (run_in cache pairs) x place)
-      → IfSome place (λ there. there < file_count cache)
-  lender_there None is = tt
-  lender_there (Some place) is = ∥∥₁_elim cache.holds_some (hlevel props) (λ some. (is some.0 some.1).within)
+-- Some answers are known, so what is so of a place by all that the cache knows is so.
+pub by_some : (cache : Cache) (place : Option ℕ)
+    → ((pairs : List (Name × Reply)) → Knows cache pairs → IfSome place (λ there. there < file_count cache))
+    → IfSome place (λ there. there < file_count cache)
+by_some cache place is = ∥∥₁_elim cache.consistent.holds_some (hlevel props) (λ some. is some.0 some.1)
 
--- What a visit gets is what each vertex requires that had this list.
-pub lends_over : (old new : Cache) (earlier pairs : List (Name × Reply)) (x : ModuleVersion) (d : Depth) (got : Visit) → Knows new pairs
-    → Continues old new → KeepsSayings (run_in old earlier) (run_in new pairs) → KeepsSound old (run_in old earlier) new (run_in new pairs)
-    → IsDistinct pair_eq (table_in new) → IsVisit new (run_in new pairs) x d got → LendsOver old (run_in old earlier) got
-lends_over old new earlier pairs x d (visit.Fault class) knows continues stays keeps distinct is = tt
-lends_over old new earlier pairs x d (visit.Required required) knows continues stays keeps distinct is = record {
-  begins = rw is.2 continues.numbered;
-  distinct = rw is.2 distinct;
+-- What was lent has the number of each module that had one, and is what each vertex requires that had this list by the
+-- run before the visit.
+pub record LendsFile (old : Cache) (run : Run) (required : Required) : Type 0 where
+  pub begins : BeginsWith (table_in old) (lent_table required.list)
+  pub distinct : IsDistinct pair_eq (lent_table required.list)
+  pub shared : (x : ModuleVersion) (file : Dependency) → IsSound old run x required.file → Says run x (Ok file)
+      → lent_modules required.list ≡ without_excluded run.main file.requirements
+
+-- It is what a visit gets of a cache that comes after the old one.
+pub lends_file : (old new : Cache) (earlier pairs : List (Name × Reply)) (x : ModuleVersion) (d : Depth) (required : Required)
+    → Follows old earlier new pairs → IsDistinct pair_eq (table_in new) → IsVisit new (run_in new pairs) x d (visit.Required required)
+    → LendsFile old (run_in old earlier) required
+lends_file old new earlier pairs x d required made distinct (sound, table, own, says_own, _, list) = record {
+  begins = rw table made.numbered;
+  distinct = rw table distinct;
   shared = λ y file at says.
-      let there = keeps y required.file at in
-      is.1.modules ∙ sym (list_is new pairs x required.file is.1.file knows is.0 is.1.says)
-      ∙ ap (at_span (modules_of new.modules)) (same_Some is.0.span there.span (sym is.0.own ∙ there.own))
-      ∙ list_is new pairs y required.file file knows there (stays y (Ok file) says)
-      ∙ ap (λ m. without_excluded m file.requirements) continues.main;
+      let there = made.sound y required.file at in
+      list ∙ sym (list_is new pairs x required.file own made.knows sound says_own)
+      ∙ ap (at_span (modules_of new.modules)) (same_Some sound.span there.span (sym sound.own ∙ there.own))
+      ∙ list_is new pairs y required.file file made.knows there (made.stays y (Ok file) says)
+      ∙ ap (λ m. without_excluded m file.requirements) made.main;
 }

@@ -1,6 +1,6 @@
 -- The calls of a cache that name modules and files.
 use Rattle.std.proofs.Common.{◌≡◌, ◌∙◌, ◌∷◌, [], ℕ, refl, List, Option, None, Some, Result, Ok, Err, ap, sym}
-use Rattle.std.specs.Prelude.{MatchResult}
+use Rattle.std.specs.Prelude.{MatchResult, slice_get}
 use Rattle.std.specs.Option.{option_and_then, option_map}
 use Rattle.gm_name.specs.ModuleVersion.{ModuleVersion}
 use Rattle.gm_name_table.specs.Listed.{modules_of}
@@ -10,10 +10,9 @@ use Rattle.gm_graph.specs.declared.cache.by_name.Known.{Known}
 use Rattle.gm_graph.specs.declared.cache.by_name.Known.TheVariants as known
 use Rattle.gm_graph.specs.declared.cache.depth.Turn.{Turn}
 use Rattle.gm_graph.specs.Cached.{HasMoreTurns, HasSoundFile, IsKnownAs, IsLenderNamed, IsSound, Knows, KnowsLender, file_known, held_of, main_in, run_in, summary_at}
-use Rattle.gm_graph.specs.Private.Cached.{kept_file}
 use Rattle.gm_graph.specs.declared.cache.summary.Kept.{Kept}
 use Rattle.gm_graph.specs.declared.cache.summary.Kept.TheVariants.{Valid, Faulty}
-use Rattle.gm_graph.specs.Private.FileTable.{IsPlaceOf}
+use Rattle.gm_graph.specs.FileTable.{place_of}
 use Rattle.gm_graph.specs.Run.{Run}
 use Rattle.gm_graph.specs.Summaries.{listed_span, summary_reading}
 use Rattle.gm_graph.specs.Private.Summaries.{list_place}
@@ -25,28 +24,31 @@ use Rattle.gm_graph.proofs.Keeping.{same_run}
 
 module _ (cache : Cache) (pairs : List (Name × Reply)) (x : ModuleVersion) (name : Name) (knows : Knows cache pairs)
     (is : HasSoundFile (run_in cache pairs) x name) where
-  -- Something is kept of the file.
-  pub named_kept : summary_at cache name ≡ None → ⊥
+  -- The file has a place.
+  pub named_kept : place_of cache.files name ≡ None → ⊥
   named_kept none =
       let held : held_of cache name ≡ Some (Ok is.file) = rw is.name_is (held_sound cache pairs knows x is.file is.says) in
       cc (rw none at held)
 
   -- The place of the file that has its list is where the vertex's requirements are.
-  pub lender_named : (place : ℕ) → IsPlaceOf cache.files name (Some place)
+  pub lender_named : (place : ℕ) → place_of cache.files name ≡ Some place
       → IsSound cache (run_in cache pairs) x (list_place cache.files.files.items place)
-  lender_named place at = by (kept_file cache place) refl (rw at.1 (rw is.name_is (held_sound cache pairs knows x is.file is.says)))
+  lender_named place there =
+      let held : held_of cache name ≡ Some (Ok is.file) = rw is.name_is (held_sound cache pairs knows x is.file is.says) in
+      by (slice_get cache.files.files.items place) refl (rw there at held)
     where
-      by : (o : Option Kept) → kept_file cache place ≡ o → option_map (summary_reading (modules_of cache.modules)) o ≡ Some (Ok is.file)
+      by : (o : Option Kept) → slice_get cache.files.files.items place ≡ o → option_map (summary_reading (modules_of cache.modules)) o ≡ Some (Ok is.file)
           → IsSound cache (run_in cache pairs) x (list_place cache.files.files.items place)
       by None here held = absurd (cc held)
       by (Some (Faulty class)) here held = absurd (cc held)
       by (Some (Valid summary)) here held =
-          let owned = list_owned (main_in cache) (modules_of cache.modules) cache.files.files.items place summary cache.listed here in
+          let owned = list_owned (main_in cache) (modules_of cache.modules) cache.files.files.items place summary cache.consistent.listed here in
           record {
             within = owned.0;
             span = summary.kept;
             own = owned.1;
-            listed = ap (option_and_then listed_span) (sym (at.1 ∙ ap (summary_at cache) is.name_is) ∙ here);
+            listed = ap (option_and_then listed_span)
+                (sym (ap (summary_at cache) is.name_is) ∙ ap (option_and_then (slice_get cache.files.files.items)) there ∙ here);
             file = is.file;
             says = is.says;
           }

@@ -1,12 +1,16 @@
 -- Files whose own lists are in order.
-use Rattle.std.proofs.Common.{◌≡◌, ◌≤◌, ◌+◌, ◌∙◌, ◌⊎◌, ◌++◌, ◌∷◌, [], ℕ, Bool, true, false, List, None, Option, Some, append-nil, arith, inl, inr, sym}
+use Rattle.std.proofs.Common.{◌≡◌, ◌≤◌, ◌+◌, ◌∙◌, ◌⊎◌, ◌++◌, ◌∷◌, [], ℕ, Bool, true, false, List, None, Option, Some, append-nil, arith, inl, inr, map, sym}
 use Rattle.std.proofs.lemmas.List.{map-append}
 use Rattle.gm_name_table.specs.Listed.{BeginsWith}
 use Rattle.gm_graph.specs.declared.cache.summary.Kept.{Kept}
 use Rattle.gm_graph.specs.declared.cache.summary.ListSpan.{ListSpan}
 use Rattle.gm_graph.specs.Summaries.{own_span}
 use Rattle.gm_graph.specs.Private.Gathering.{span_after}
-use Rattle.gm_graph.specs.Private.Summaries.{AreListsInOrder, AreSpansInOrder, own_spans}
+use Rattle.gm_graph.specs.Private.Summaries.{AreListsInOrder, AreSpansInOrder}
+
+-- where the own list of each file is
+abbrev pub own_spans : List Kept → List (Option ListSpan)
+own_spans files = map own_span files
 
 pub order_ends : (from : ℕ) (spans : List (Option ListSpan)) (to : ℕ) → AreSpansInOrder from spans to → from ≤ to
 order_ends from [] to are = are

@@ -20,8 +20,8 @@ use Rattle.gm_graph.proofs.Growing.{number_below, number_stays}
 use Rattle.gm_graph.specs.declared.cache.file_table.FileTable.{FileTable}
 use Rattle.gm_graph.specs.declared.cache.summary.Kept.{Kept}
 use Rattle.gm_graph.specs.FileTable.{place_of}
-use Rattle.gm_graph.specs.Private.FileTable.{IsNewFile, IsPlacedAt, KeepsFiles, KeepsNoted, KeepsOthers, NotesFiles, NotesFor, PutsFile, PutsReplacing, noted_for, replacing_place}
-use Rattle.gm_graph.specs.Private.Places.{AreWithin}
+use Rattle.gm_graph.specs.Private.FileTable.{IsNewFile, IsPlacedAt, KeepsFiles, KeepsOthers, NotesFiles, NotesFor, PutsFile, noted_for, replacing_place}
+use Rattle.gm_graph.specs.Places.{place_among}
 use Rattle.gm_file.specs.Main.{Main}
 use Rattle.gm_graph.specs.Reading.{file_of}
 
@@ -54,8 +54,13 @@ place_put old new name place put at names other =
     by true = at
     by false = refl
 
+pub place_itself : (old new : FileTable) (name : Name) (place : ℕ) (put : OptionalPlace) → place_in put ≡ Some place
+    → new.names.items ≡ (name, put) ∷ old.names.items → place_of new name ≡ Some place
+place_itself old new name place put at names = place_put old new name place put at names name ∙ rw (name_itself name) refl
+
 pub within_put : (count : ℕ) (entries : List (Name × OptionalPlace)) (name : Name) (place : ℕ) (put : OptionalPlace) → place_in put ≡ Some place
-    → place < count → AreWithin count entries → AreWithin count ((name, put) ∷ entries)
+    → place < count → ((other : Name) (there : ℕ) → place_among entries other ≡ Some there → there < count)
+    → (other : Name) (there : ℕ) → place_among ((name, put) ∷ entries) other ≡ Some there → there < count
 within_put count entries name place put at below within other there =
     elim (same_name other name) as (λ b. option_and_then place_in (cond b (Some put) (lookup (same_name other) entries)) ≡ Some there → there < count) [
       | true ↦ λ e. let same = same_Some place there (sym at ∙ e) in omega (arith, same, below)
@@ -72,7 +77,9 @@ is_put None e = absurd (cc e)
 is_put (Some place) e = same_Some _ _ e
 
 module _ {main : Main} {modules : List ModuleVersion} {old : FileTable} (new : FileTable) {number : ℕ} {name : Name} (place : ℕ) (put : OptionalPlace)
-    (is : IsNewFile main modules old number name) (notes : NotesFor old new number place) (puts : PutsReplacing old new name put)
+    (is : IsNewFile main modules old number name) (notes : NotesFor old new number place)
+    (puts : (other : Name) → replacing_place new other
+    ≡ cond (same_name other name) (option_map (λ _. put) (replacing_place old other)) (replacing_place old other))
     (at : place_in put ≡ Some place) (names : new.names.items ≡ (name, put) ∷ old.names.items) where
   placed : (other : Name) → place_of new other ≡ cond (same_name other name) (Some place) (place_of old other)
   placed = place_put old new name place put at names
@@ -131,7 +138,7 @@ module _ {main : Main} {modules : List ModuleVersion} {old new : FileTable} (oth
         rw others.names (were.others_noted name (λ k below named. before k (unnoted k below named)) (rw others.replacing at none));
   }
 
-  pub notes_kept : KeepsNoted old new → NotesFiles main modules old → NotesFiles main modules new
+  pub notes_kept : ((k : ℕ) → noted_for new k ≡ noted_for old k) → NotesFiles main modules old → NotesFiles main modules new
   notes_kept noted were = notes_by (λ k at e. were.modules_noted k at (sym (noted k) ∙ e)) (λ k none. sym (noted k) ∙ none) were
 
   -- The place of a module's file is noted for the module.

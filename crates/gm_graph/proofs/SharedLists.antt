@@ -19,7 +19,8 @@ use Rattle.gm_graph.specs.declared.cache.summary.Kept.TheVariants.{Valid, Faulty
 use Rattle.gm_graph.specs.declared.cache.summary.ListSpan.{ListSpan}
 use Rattle.gm_graph.specs.declared.cache.summary.Summary.{Summary}
 use Rattle.gm_graph.specs.Summaries.{at_span, own_span, own_span_at, span_unless}
-use Rattle.gm_graph.specs.Private.Summaries.{IsSummary, IsWithinList, AreKeptIn, AreWithinList, Grows, GrowsFrom, IsSameList, IsSummaryIn, IsKeptIn, list_place, own_spans, span_found}
+use Rattle.gm_graph.specs.Private.Summaries.{IsWithinList, AreKeptIn, AreWithinList, Grows, GrowsFrom, IsSameList, IsSummaryIn, IsKeptIn, list_place, span_found}
+use Rattle.gm_graph.proofs.Ordered.{own_spans}
 use Rattle.gm_graph.proofs.Spans.{IsKept, kept_still, span_still, within_still}
 
 -- ---- own lists
@@ -175,16 +176,10 @@ pub same_listed : (main : Main) (old : NumberedList) (front new : List ModuleVer
     → IsSummaryIn main new files (record { file = file; all = same.all; kept = same.kept; same_as = Some same.place })
 same_listed main old front new files numbers file same are cut has =
     rw cut (
-      record {
-        all_within = rw has.all was.all_within;
-        kept_within = rw has.kept was.kept_within;
-        without = rw (has.kept, has.all) was.without;
-      },
-      λ place e. rw (← same_Some same.place place e, has.there, has.own, has.kept) refl,
+      (let was = (are same.place _ has.there).0 in
+          record { all_within = was.all_within; kept_within = was.kept_within; without = was.without }),
+      λ place e. rw (← same_Some same.place place e, has.there) refl,
     )
-  where
-    was : IsSummary main front has.summary
-    was = (are same.place has.summary has.there).0
 
 -- Within the list are the requirements of all files that are listed in its front.
 pub all_within : (main : Main) (old : NumberedList) (start : ℕ) (files : List Kept) → AreKeptIn main (take start (modules_of old)) files

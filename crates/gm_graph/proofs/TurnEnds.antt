@@ -1,5 +1,5 @@
 -- How the visit of one turn ends.
-use Rattle.std.proofs.Common.{◌≡◌, ◌∙◌, ◌<◌, [], true, Contains, List, Result, Ok, if◌then◌else◌, length, sym}
+use Rattle.std.proofs.Common.{◌≡◌, ◌∙◌, ◌⊎◌, ◌<◌, [], true, Contains, List, Result, Ok, if◌then◌else◌, length, sym}
 use Rattle.std.specs.Prelude.{OnOk, ℕ}
 use Rattle.std.proofs.lemmas.Result.{on_ok_weaker}
 use Rattle.gm_name.specs.ModuleVersion.{ModuleVersion}
@@ -17,8 +17,10 @@ use Rattle.gm_graph.specs.declared.worklist.NumberedTurn.{NumberedTurn}
 use Rattle.gm_graph.specs.declared.worklist.Worklist.{Worklist}
 use Rattle.gm_graph.specs.Cached.{run_in, table_in}
 use Rattle.gm_graph.specs.Private.Cached.{module_numbered}
-use Rattle.gm_graph.specs.Private.CacheVisits.{HasVisited, IsVisit, required_by, table_of}
-use Rattle.gm_graph.specs.Private.Followed.{AddsFollowed, followed_at}
+use Rattle.gm_graph.specs.Private.CacheVisits.{HasVisited, IsVisit}
+use Rattle.gm_graph.specs.Private.Held.{lent_table}
+use Rattle.gm_graph.specs.Lent.{lent_modules}
+use Rattle.gm_graph.specs.Private.Followed.{followed_at}
 use Rattle.gm_graph.specs.Run.{Run}
 use Rattle.gm_graph.specs.Private.TurnVisits.{AddsTurn, IsReady, IsTurnVisited}
 use Rattle.gm_graph.specs.Turns.{turn}
@@ -38,25 +40,24 @@ module _ {old : Cache} {earlier : List (Name × Reply)} {worklist : Worklist} {m
   pub ready_after : {new : Cache} {pairs : List (Name × Reply)} {number : ℕ} {d : Depth} {seen : Visit}
       → HasVisited old earlier new pairs number d seen → IsReady new (run_in new pairs) worklist marks findings
   ready_after {new} {pairs} has = record {
-    worklist_is = worklist_over (table_in old) (table_in new) worklist ready.worklist_is has.continues.numbered has.distinct;
-    followed = followed_known old new (run_in old earlier) (run_in new pairs) worklist marks ready.worklist_is has.continues
-        has.continues.main has.stays has.sound ready.followed;
-    found = findings_known old new (run_in old earlier) (run_in new pairs) findings has.continues has.stays has.sound ready.found;
+    worklist_is = worklist_over (table_in old) (table_in new) worklist ready.worklist_is has.follows.numbered has.distinct;
+    followed = followed_known old new worklist marks ready.worklist_is has.follows ready.followed;
+    found = findings_known old new findings has.follows ready.found;
   }
 
   -- too many vertices
   pub overflows_at : {new : Cache} {pairs : List (Name × Reply)} {number : ℕ} {d : Depth} {required : Required}
       → HasVisited old earlier new pairs number d (visit.Required required)
-      → required.leads ≡ true → OverflowsWith (turns_of (table_of required) worklist) (required_by required)
+      → required.leads ≡ true → OverflowsWith (turns_of (lent_table required.list) worklist) (lent_modules required.list)
       → OverflowsAt (run_in old pairs) (turns_of (table_in old) worklist) (module_numbered old number) d
   overflows_at {new} {pairs} {number} {d} {required} has leads over =
-      let (sound, says, same) = has.visit_is in
-      let turns : turns_of (table_of required) worklist ≡ turns_of (table_in old) worklist =
-      rw same (turns_over (table_in old) (table_in new) worklist ready.worklist_is has.continues.numbered) in
-      by_run (λ (r : Run). OverflowsAt r (turns_of (table_in old) worklist) (module_numbered old number) d) new pairs has.continues.main
-      has.continues.sums (
-        answers_read new pairs has.knows,
-        (Ok says.file, says.says, rw (sym says.leads ∙ leads) (rw⁻¹ (says.modules, turns) over)),
+      let (_, same, file, says, leads_on, modules) = has.visit_is in
+      let turns : turns_of (lent_table required.list) worklist ≡ turns_of (table_in old) worklist =
+      rw same (turns_over (table_in old) (table_in new) worklist ready.worklist_is has.follows.numbered) in
+      by_run (λ (r : Run). OverflowsAt r (turns_of (table_in old) worklist) (module_numbered old number) d) new pairs has.follows.main
+      has.follows.sums (
+        answers_read new pairs has.follows.knows,
+        (Ok file, says, rw (sym leads_on ∙ leads) (rw⁻¹ (modules, turns) over)),
       )
 
   -- What the visit of a turn adds was added, so the turn was visited.
@@ -69,15 +70,15 @@ module _ {old : Cache} {earlier : List (Name × Reply)} {worklist : Worklist} {m
       → OnOk result (IsTurnVisited old new earlier pairs worklist after is findings more one)
   turn_visited {new} {one = one} {seen = seen} after is more result below has adds =
       on_ok_weaker result (λ added. record { visit = seen; has = has; adds = added })
-      (adds (ready_after has) (number_below (table_in old) (table_in new) one.number has.continues.numbered below)
-      (rw (same_module old new one.number has.continues below) at has.visit_is))
+      (adds (ready_after has) (number_below (table_in old) (table_in new) one.number has.follows.numbered below)
+      (rw (same_module old new one.number has.follows.numbered below) at has.visit_is))
 
 -- ---- what the visit of a turn adds
 
 -- What was lent was added to the worklist of these modules, if the visit leads further.
 pub record LeadsOn (modules : List ModuleVersion) (required : Required) (old new : Worklist) (before after : Followed) : Type 0 where
   pub worklist_is : IsWorklist modules new
-  pub adds : AddsAll (turns_of modules old) (turns_of modules new) (if required.leads then required_by required else []) Deep
-  pub files : AddsFollowed before after required.file
-  pub followed : followed_at after required.file ≡ true → (y : ModuleVersion) → Contains (required_by required) y
+  pub adds : AddsAll (turns_of modules old) (turns_of modules new) (if required.leads then lent_modules required.list else []) Deep
+  pub files : (file : ℕ) → followed_at after file ≡ true → (followed_at before file ≡ true) ⊎ (required.file ≡ file)
+  pub followed : followed_at after required.file ≡ true → (y : ModuleVersion) → Contains (lent_modules required.list) y
       → Contains (turns_of modules new) (turn y Deep)

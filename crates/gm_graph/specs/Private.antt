@@ -8,7 +8,6 @@ pub mod Followed
 pub mod Gathering
 pub mod Held
 pub mod Marks
-pub mod Places
 pub mod Summaries
 pub mod TurnVisits
 pub mod Turns

@@ -28,8 +28,9 @@ pub(crate) mod summary;
 pub(crate) mod turn_history;
 pub(crate) mod visit;
 
-ghost use Rattle.std.specs.Prelude.{◌≡◌, ◌≤◌, ◌<◌, ◌+◌, ◌++◌, ◌∷◌, [], List, IfOk, IfSome, OnErr, IsSome, None, Err, Ok, drop, length, take};
-ghost use Rattle.std.specs.Option.{option_copied};
+ghost use Rattle.std.specs.Prelude.{◌≡◌, ◌≤◌, ◌<◌, ◌+◌, ◌++◌, ◌∷◌, [], List, IfOk, IfSome, OnErr, IsSome, IsSomeAnd, MatchResult, None, Err, Ok, drop, length, slice_get, take};
+ghost use Rattle.std.proofs.Props.{props};
+ghost use Rattle.std.specs.Option.{option_and_then, option_copied};
 ghost use Rattle.gm_name_table.specs.Listed.{modules_of};
 ghost use Rattle.gm_store.specs.Asked.{Name, Reply, answer_in, name_of};
 ghost use Rattle.gm_store.specs.Requests.{refused_for};
@@ -37,14 +38,13 @@ ghost use Rattle.gm_store.specs.States.{AddsAnswer};
 ghost use Rattle.gm_store.specs.declared.files.FileName.{FileName};
 ghost use Rattle.gm_file.specs.Listed.{with_requirements};
 ghost use Rattle.gm_file.specs.Main.{main_of, without_excluded};
-ghost use Rattle.gm_graph.specs.Private.Asking.{AsksOne, HasName, IsAskableFile, IsLoadFaultOf};
+ghost use Rattle.gm_graph.specs.Private.Asking.{AsksOne, IsAskableFile, IsLoadFaultOf};
 ghost use Rattle.gm_graph.specs.Reading.{IsFileReading, file_of};
 ghost use Rattle.gm_graph.specs.Places.{place_limit};
-ghost use Rattle.gm_graph.specs.Private.FileTable.{NotesFiles};
-ghost use Rattle.gm_graph.specs.Private.Held.{HoldsSome};
+ghost use Rattle.gm_graph.specs.Private.Held.{IsConsistent};
 ghost use Rattle.gm_graph.specs.Lent.{lent_modules};
 ghost use Rattle.gm_graph.specs.Summaries.{at_span, summary_reading};
-ghost use Rattle.gm_graph.specs.Private.Summaries.{AreKeptIn, AreListsInOrder, GrowsFrom, IsSummaryIn, IsKeptIn, listed_reading, order_is_fact, own_spans};
+ghost use Rattle.gm_graph.specs.Private.Summaries.{AreKeptIn, AreListsInOrder, GrowsFrom, IsSummaryIn, IsKeptIn, listed_reading, order_is_fact, span_found};
 ghost use Rattle.gm_graph.specs.declared.cache.summary.Kept.{Kept};
 
 use crate::cache::class::Class;
@@ -92,14 +92,7 @@ pub struct Cache<'a> {
     turns: TurnHistory,
     /// The name of the file of the last request that was refused.
     failed: Option<FileName>,
-    ghost first_within: { first ≤ length modules.numbers },
-    ghost first_are: { take first (modules_of modules)
-        ≡ without_excluded (main_of main.now) (main_of main.now).requirements },
-    ghost places_within: { length files.places.items ≤ length modules.modules },
-    ghost holds_some: { ∥ HoldsSome (main_of main.now) (option_copied sums) modules files ∥₁ },
-    ghost notes: { NotesFiles (main_of main.now) modules.modules files },
-    ghost in_order: { AreListsInOrder first files.files.items (length modules.numbers) } by { order_is_fact first (own_spans files.files.items) (length modules.numbers) },
-    ghost listed: { AreKeptIn (main_of main.now) (modules_of modules) files.files.items },
+    ghost consistent: { IsConsistent (main_of main.now) (option_copied sums) first modules files } by { Prim.hlevel (props, order_is_fact) },
 }
 
 /// A table of names without a limit, which knows the paths that the main file requires.
@@ -188,11 +181,13 @@ fn kept_of(
 
 impl<'a> Cache<'a> {
     ghost use Rattle.std.specs.Borrow.{sem};
-    ghost use Rattle.gm_graph.specs.Cached.{HoldsSame, Knows, LentSame, file_count, main_in, run_in, sums_in, table_in, turns_in};
-    ghost use Rattle.gm_graph.specs.Private.Cached.{ArePartsOf, HasMadeKnown, IsPlaceFor, LendsTurns, module_numbered, span_at};
+    ghost use Rattle.std.specs.List.{IsDistinct};
+    ghost use Rattle.gm_name.specs.ModuleVersion.{pair_eq};
+    ghost use Rattle.gm_graph.specs.Cached.{HasMoreTurns, HoldsSame, Knows, LentSame, file_count, main_in, run_in, sums_in, table_in, turns_in};
+    ghost use Rattle.gm_graph.specs.Private.Cached.{ArePartsOf, BorrowEnds, Follows, IsPlaceFor, module_numbered};
     ghost use Rattle.gm_graph.specs.Private.Held.{lent_table};
     ghost use Rattle.gm_graph.specs.declared.cache.Cache.{Cache};
-    ghost use Rattle.gm_graph.specs.Private.CacheVisits.{IsSaid, LendsOver, VisitEnds};
+    ghost use Rattle.gm_graph.specs.Private.CacheVisits.{HasVisited, IsSaid, IsVisit};
 
     /// A cache for a main file, without files. If there is a go.sum, the files that come from proxies are checked
     /// against it. The only refusal is `NoMemory`.
@@ -291,15 +286,17 @@ impl<'a> Cache<'a> {
         requires vertex { number < length (table_in self.old) }
         requires few { file_count self.old < place_limit }
         ensures count { file_count self.new ≤ file_count self.old + 1 }
-        ensures known { IfOk result (HasMadeKnown self.old (F.state files.old).asked self.new (F.state files.new).asked
-            (module_numbered self.old number)) }
+        ensures known { IfOk result (λ place.
+            Follows self.old (F.state files.old).asked self.new (F.state files.new).asked
+            × IsPlaceFor self.new (module_numbered self.old number) place) }
         ensures lent { LentSame self.old self.new }
         ensures err { OnErr result (HoldsSame self.old self.new) }
         ensures asks { AsksOne (IsAskableFile (main_in self.old) (module_numbered self.old number))
             (F.may_answer files.old) (F.may_answer files.new) (F.state files.old) (F.state files.new)
             (refused_for (file_of (main_in self.old) (module_numbered self.old number)) result) }
         ensures failed { result ≡ Err AskFault.Device
-            → HasName self.new.failed (file_of (main_in self.old) (module_numbered self.old number)) }
+            → IsSomeAnd self.new.failed
+            (λ name. name_of name ≡ file_of (main_in self.old) (module_numbered self.old number)) }
     {
         if let Some(place) = self.files.noted_place(number) {
             return Ok(Some(place));
@@ -354,9 +351,10 @@ impl<'a> Cache<'a> {
     /// since a vertex itself may have none.
     pub(crate) fn lend_at(&mut self, place: Option<u32>, turn: TurnHistory) -> Lent<'_>
         requires place { IfSome place (λ place. place < file_count self.old) }
-        ensures modules { lent_modules result ≡ at_span (modules_of self.old.modules) (span_at self.old place) }
+        ensures modules { lent_modules result ≡ at_span (modules_of self.old.modules)
+            (span_found (option_and_then (slice_get self.old.files.files.items) place)) }
         ensures table { lent_table result ≡ table_in self.old }
-        ensures* after { sem 𝓛 (LendsTurns self.entry turn.items) }
+        ensures* after { sem 𝓛 (BorrowEnds self.entry (λ end. HasMoreTurns self.entry.now end turn.items)) }
     {
         let span = self.files.span_of(place);
         self.turns = self.turns.and(&turn);
@@ -379,11 +377,17 @@ impl<'a> Cache<'a> {
         requires knows { Knows self.old (F.state files.old).asked }
         requires vertex { number < length (table_in self.old) }
         requires few { file_count self.old < place_limit }
-        ensures lends { IfOk result (LendsOver self.old (run_in self.old (F.state files.old).asked)) }
+        ensures lends { IfOk result (λ visit. (mid : Cache)
+            × Follows self.old (F.state files.old).asked mid (F.state files.new).asked × IsDistinct pair_eq (table_in mid)
+            × IsVisit mid (run_in mid (F.state files.new).asked) (module_numbered mid number) depth visit) }
         ensures asks { AsksOne (IsAskableFile (main_in self.old) (module_numbered self.old number))
             (F.may_answer files.old) (F.may_answer files.new) (F.state files.old) (F.state files.new)
             (refused_for (file_of (main_in self.old) (module_numbered self.old number)) result) }
-        ensures* after { sem 𝓛 (VisitEnds self.entry (F.state files.old) (F.state files.new) number depth result) }
+        ensures* after { sem 𝓛 (BorrowEnds self.entry (λ end. MatchResult result
+            (λ visit. HasVisited self.entry.now (F.state files.old).asked end (F.state files.new).asked
+            number depth visit)
+            (λ fault. (turns_in end ≡ turns_in self.entry.now) × (fault ≡ AskFault.Device → IsSomeAnd end.failed
+            (λ name. name_of name ≡ file_of (main_in self.entry.now) (module_numbered self.entry.now number)))))) }
     {
         let place = self.known_at(files, number)?;
         // This is read first, since a reference that one branch alone borrows is not covered by the borrow checker.

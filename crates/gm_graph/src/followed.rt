@@ -26,7 +26,7 @@ pub(crate) struct Followed {
 }
 
 impl Followed {
-    ghost use Rattle.gm_graph.specs.Private.Followed.{AddsFollowed, followed_at};
+    ghost use Rattle.gm_graph.specs.Private.Followed.{followed_at};
 
     /// No files.
     pub(crate) fn new(alloc: Global) -> Followed
@@ -49,7 +49,8 @@ impl Followed {
 
     /// Adds this file.
     fn add(&mut self, file: u32) -> Result<(), AllocError>
-        ensures only { OnOk result (AddsFollowed self.old self.new file) }
+        ensures only { OnOk result ((other : ℕ) → followed_at self.new other ≡ true
+            → (followed_at self.old other ≡ true) ⊎ (file ≡ other)) }
         ensures added { OnOk result (followed_at self.new file ≡ true) }
     {
         put_at(&mut self.files, file, false, true)
@@ -68,7 +69,8 @@ impl Followed {
         ensures worklist { OnOk result (IsWorklist (lent_table list.entry) worklist.new) }
         ensures adds { OnOk result (AddsAll (turns_of (lent_table list.entry) worklist.old)
             (turns_of (lent_table list.entry) worklist.new) (lent_modules list.entry) Deep) }
-        ensures files { OnOk result (AddsFollowed self.old self.new file) }
+        ensures files { OnOk result ((other : ℕ) → followed_at self.new other ≡ true
+            → (followed_at self.old other ≡ true) ⊎ (file ≡ other)) }
         ensures added { OnOk result (followed_at self.new file ≡ true) }
         ensures once { followed_at self.old file ≡ true → worklist.new ≡ worklist.old }
         ensures too_many { result ≡ Err AddFault.TooMany

@@ -5,7 +5,9 @@ ghost use Rattle.gm_name.specs.ModuleVersion.{ModuleVersion};
 ghost use Rattle.gm_graph.specs.Private.Asking.{AsksOne, IsAskableFile};
 ghost use Rattle.gm_graph.specs.Cached.{Knows, file_count, main_in, run_in, table_in};
 ghost use Rattle.gm_graph.specs.Private.Cached.{module_numbered};
-ghost use Rattle.gm_graph.specs.Private.CacheVisits.{IsVisit, required_by, table_of};
+ghost use Rattle.gm_graph.specs.Lent.{lent_modules};
+ghost use Rattle.gm_graph.specs.Private.CacheVisits.{IsVisit};
+ghost use Rattle.gm_graph.specs.Private.Held.{lent_table};
 ghost use Rattle.gm_graph.specs.Refusals.{refused_in};
 ghost use Rattle.gm_graph.specs.Private.Worklists.{IsWorklist, turns_of};
 ghost use Rattle.gm_graph.specs.Private.Followed.{followed_at};
@@ -50,16 +52,17 @@ fn add_requirements(
     one: NumberedTurn,
     required: Required<'_>,
 ) -> Result<(), LoadFault>
-    requires worklist { IsWorklist (table_of required) worklist.old }
+    requires worklist { IsWorklist (lent_table required.list) worklist.old }
     requires followed { followed_at followed.old required.file ≡ true → (y : ModuleVersion)
-        → Contains (required_by required) y → Contains (turns_of (table_of required) worklist.old) (turn y Deep) }
+        → Contains (lent_modules required.list) y
+        → Contains (turns_of (lent_table required.list) worklist.old) (turn y Deep) }
     ensures adds { (cache : Cache) (run : Run) → IsReady cache run worklist.old followed.old findings.old
         → one.number < length (table_in cache)
         → IsVisit cache run (module_numbered cache one.number) one.depth (Visit.Required required.entry)
         → OnOk result
         (AddsTurn cache run worklist.old worklist.new followed.new findings.old findings.new one) }
     ensures too_many { result ≡ Err LoadFault.TooMany → (required.entry.leads ≡ true)
-        × OverflowsWith (turns_of (table_of required.entry) worklist.old) (required_by required.entry) }
+        × OverflowsWith (turns_of (lent_table required.entry.list) worklist.old) (lent_modules required.entry.list) }
     ensures not_refused { refused_in result ≡ [] }
 {
     let Required { file, leads, list } = required;

@@ -1,7 +1,7 @@
 -- What a call asks a store for, and the names that are refused.
-use Rattle.std.specs.Prelude.{◌≡◌, ◌⊎◌, ◌∷◌, ◌++◌, [], List, true, Option, None, Some}
+use Rattle.std.specs.Prelude.{◌≡◌, ◌⊎◌, ◌∷◌, ◌++◌, [], List, true, IsSomeAnd, Option, None}
 use Rattle.gm_name.specs.ModuleVersion.{ModuleVersion}
-use Rattle.gm_store.specs.Asked.{Name, Reply, answer_in, name_of}
+use Rattle.gm_store.specs.Asked.{Name, Reply, answer_in}
 use Rattle.gm_store.specs.declared.files.FileName.{FileName}
 use Rattle.gm_store.specs.States.{AddsAnswer, HasServed, StoreState}
 use Rattle.gm_store_sums.specs.Sums.{Sums}
@@ -41,14 +41,8 @@ pub record AsksInTurn (main : Main) (sums : Option Sums) (before after : Name �
   pub refused : new.refused ≡ old.refused ++ failed
   pub served : HasServed before after old new
 
--- what is given has this name
-abbrev pub HasName : Option FileName → Name → Type 0
-HasName None name = ⊥
-HasName (Some there) name = name_of there ≡ name
-
 -- Loading stops for this reason after this refusal of a request, if this is the name of the file for which it was made.
 -- A device that failed left the name.
 abbrev pub IsLoadFaultOf : AskFault → Option FileName → LoadFault → Type 0
 IsLoadFaultOf ask.NoMemory failed fault = fault ≡ NoMemory
-IsLoadFaultOf ask.Device None fault = ⊥
-IsLoadFaultOf ask.Device (Some name) fault = fault ≡ Device name
+IsLoadFaultOf ask.Device failed fault = IsSomeAnd failed (λ name. fault ≡ Device name)

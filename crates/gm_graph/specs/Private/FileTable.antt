@@ -1,7 +1,6 @@
 -- Where files are kept, the places that are noted for modules, and what changes of them.
-use Rattle.std.specs.Prelude.{◌≡◌, ◌==◌, ◌<◌, ◌≤◌, if◌then◌else◌, ℕ, true, List, Option, Some, None, IsSome, length, slice_get, slice_index_or}
+use Rattle.std.specs.Prelude.{◌≡◌, ◌==◌, ◌<◌, ◌≤◌, if◌then◌else◌, ℕ, true, List, Option, Some, None, IsSome, length, slice_index_or}
 use Rattle.std.specs.Map.{lookup}
-use Rattle.std.specs.Option.{option_map}
 use Rattle.gm_name.specs.ModuleVersion.{ModuleVersion, module_at}
 use Rattle.gm_name_table.specs.OptionalPlaces.{no_place, place_in}
 use Rattle.gm_name_table.specs.declared.place.OptionalPlace.{OptionalPlace}
@@ -52,12 +51,6 @@ pub record IsNewFile (main : Main) (modules : List ModuleVersion) (files : FileT
   pub askable : is_askable name ≡ true
   pub none : place_of files name ≡ None
 
--- This is the place of the file of a name; there is none if nothing is kept of it.
-abbrev pub IsPlaceOf : FileTable → Name → Option ℕ → Type 0
-IsPlaceOf files name None = kept_at files name ≡ None
-IsPlaceOf files name (Some place) = (place < length files.files.items)
-    × (slice_get files.files.items place ≡ kept_at files name)
-
 -- ---- what changes
 
 -- One more file is kept, and those of the other names stay.
@@ -74,19 +67,10 @@ abbrev pub NotesFor : FileTable → FileTable → ℕ → ℕ → Type 0
 NotesFor old new number place = (other : ℕ) → noted_for new other
     ≡ (if number == other then Some place else noted_for old other)
 
--- The places for all numbers stay.
-abbrev pub KeepsNoted : FileTable → FileTable → Type 0
-KeepsNoted old new = (number : ℕ) → noted_for new number ≡ noted_for old number
-
 -- The list of places grows to this number at most.
 abbrev pub ReachesAtMost : ℕ → FileTable → FileTable → Type 0
 ReachesAtMost number old new = (count : ℕ) → number < count → length old.places.items ≤ count
     → length new.places.items ≤ count
-
--- If the name is that of a replacement's file, this is its place, and those of the other replacements' files stay.
-abbrev pub PutsReplacing : FileTable → FileTable → Name → OptionalPlace → Type 0
-PutsReplacing old new name place = (other : Name) → replacing_place new other
-    ≡ (if same_name other name then option_map (λ _. place) (replacing_place old other) else replacing_place old other)
 
 -- The files and their names stay, and so do the places of the files of replacements.
 pub record KeepsOthers (old new : FileTable) : Type 0 where

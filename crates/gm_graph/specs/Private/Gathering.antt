@@ -1,5 +1,5 @@
 -- The graph and the faults that what was found makes: by the numbers of modules, and by the places of files.
-use Rattle.std.specs.Prelude.{◌≡◌, ◌==◌, ◌<◌, ◌+◌, ◌++◌, ◌∷◌, [], ℕ, Bool, true, suc, AllPairs, Contains, List, None, Option, Some, length}
+use Rattle.std.specs.Prelude.{◌≡◌, ◌==◌, ◌<◌, ◌+◌, ◌++◌, ◌∷◌, [], ℕ, Bool, true, suc, AllPairs, Contains, List, None, Option, Some, length, map}
 use Rattle.std.specs.List.{list_any}
 use Rattle.std.specs.Option.{option_eq}
 use Rattle.std.specs.declared.cmp.Ordering.TheVariants.{Less}
@@ -11,7 +11,7 @@ use Rattle.gm_graph.specs.declared.cache.summary.ListSpan.{ListSpan}
 use Rattle.gm_graph.specs.declared.fault.Fault.{Fault}
 use Rattle.gm_graph.specs.declared.findings.NumberedFault.{NumberedFault}
 use Rattle.gm_graph.specs.Private.Findings.{numbered, place_at}
-use Rattle.gm_graph.specs.Private.Summaries.{own_spans}
+use Rattle.gm_graph.specs.Summaries.{own_span}
 use Rattle.gm_graph_select.specs.declared.adjacency.Source.{Source}
 use Rattle.gm_graph_select.specs.declared.number_lists.Span.{Span}
 use Rattle.gm_graph_select.specs.Adjacency.{StepEdges, by_step}
@@ -51,7 +51,7 @@ spans_from used place from (own ∷ others) =
     let span = span_after from (used place) own in span ∷ spans_from used (suc place) span.end others
 
 abbrev pub spans_of : ℕ → List Kept → (ℕ → Bool) → List Span
-spans_of first files used = record { start = 0; end = first } ∷ spans_from used 0 first (own_spans files)
+spans_of first files used = record { start = 0; end = first } ∷ spans_from used 0 first (map own_span files)
 
 -- the edges that leave each source
 abbrev pub steps_by : CacheParts → List (Option ℕ) → List StepEdges

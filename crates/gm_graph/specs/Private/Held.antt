@@ -1,18 +1,28 @@
--- That some answers say what a cache holds, and the modules behind what it lends.
-use Rattle.std.specs.Prelude.{List, Option}
-use Rattle.gm_name_table.specs.Listed.{NumberedList}
-use Rattle.gm_file.specs.Main.{Main}
+-- What a cache holds, and the modules behind what it lends.
+use Rattle.std.specs.Prelude.{◌≡◌, ◌≤◌, ℕ, List, Option, length, take}
+use Rattle.gm_name.specs.ModuleVersion.{ModuleVersion}
+use Rattle.gm_name_table.specs.Listed.{NumberedList, modules_of}
+use Rattle.gm_file.specs.Main.{Main, without_excluded}
 use Rattle.gm_store.specs.Asked.{Name, Reply}
 use Rattle.gm_store_sums.specs.Sums.{Sums}
 use Rattle.gm_graph.specs.declared.cache.file_table.FileTable.{FileTable}
-use Rattle.gm_graph.specs.Run.{run_of}
-use Rattle.gm_graph.specs.Held.{HoldsAnswers}
-use Rattle.gm_name.specs.ModuleVersion.{ModuleVersion}
 use Rattle.gm_graph.specs.declared.cache.lent.Lent.{Lent}
+use Rattle.gm_graph.specs.Held.{HoldsAnswers}
+use Rattle.gm_graph.specs.Private.FileTable.{NotesFiles}
+use Rattle.gm_graph.specs.Private.Summaries.{AreKeptIn, AreListsInOrder}
+use Rattle.gm_graph.specs.Run.{run_of}
 
--- Some answers say what is held.
-abbrev pub HoldsSome : Main → Option Sums → NumberedList → FileTable → Type 0
-HoldsSome main sums list files = (pairs : List (Name × Reply)) × HoldsAnswers (run_of main sums pairs) list files
+-- What a cache holds is consistent: some answers say it, the requirements of the main file without the excluded ones
+-- are the first modules of the list, and places are noted for modules that have numbers.
+pub record IsConsistent (main : Main) (sums : Option Sums) (first : ℕ) (list : NumberedList) (files : FileTable)
+    : Type 0 where
+  pub holds_some : ∥ ((pairs : List (Name × Reply)) × HoldsAnswers (run_of main sums pairs) list files) ∥₁
+  pub first_within : first ≤ length list.numbers
+  pub first_are : take first (modules_of list) ≡ without_excluded main main.requirements
+  pub places_within : length files.places.items ≤ length list.modules
+  pub notes : NotesFiles main list.modules files
+  pub in_order : AreListsInOrder first files.files.items (length list.numbers)
+  pub listed : AreKeptIn main (modules_of list) files.files.items
 
 -- all modules that have numbers, each at the place that is its number
 abbrev pub lent_table : Lent → List ModuleVersion

@@ -5,7 +5,7 @@ use Rattle.std.proofs.Math.Bridge.{le_prop}
 use Rattle.gm_name.specs.ModuleVersion.{ModuleVersion}
 use Rattle.gm_name_table.specs.Listed.{Appends, NumberedList, part}
 use Rattle.gm_file.specs.Fields.{Dependency}
-use Rattle.gm_file.specs.Listed.{with_requirements}
+use Rattle.gm_file.specs.Listed.{Head, with_requirements}
 use Rattle.gm_file.specs.Main.{Main, without_excluded}
 use Rattle.gm_graph.specs.declared.cache.class.Class.{Class}
 use Rattle.gm_graph.specs.declared.cache.list_index.SameList.{SameList}
@@ -47,10 +47,6 @@ GrowsFrom count old new = (before : NumberedList) → count ≡ length before.nu
 abbrev pub span_found : Option Kept → ListSpan
 span_found kept = unwrap_or (option_and_then listed_span kept) nowhere
 
--- where the own list of each file is
-abbrev pub own_spans : List Kept → List (Option ListSpan)
-own_spans files = map own_span files
-
 -- The spans lie between these two places, and each begins at or after the end of the one before.
 abbrev pub AreSpansInOrder : ℕ → List (Option ListSpan) → ℕ → Type 0
 AreSpansInOrder from [] to = from ≤ to
@@ -61,16 +57,13 @@ AreSpansInOrder from (None ∷ spans) to = AreSpansInOrder from spans to
 -- This is a fact: it has one proof at most.
 pub order_is_fact : (from : ℕ) (spans : List (Option ListSpan)) (to : ℕ) → IsProp (AreSpansInOrder from spans to)
 order_is_fact from [] to = le_prop
-order_is_fact from (Some span ∷ spans) to = λ a b. λ i. (
-  le_prop a.0 b.0 i,
-  le_prop a.1 b.1 i,
-  order_is_fact span.end spans to a.2 b.2 i,
-)
+order_is_fact from (Some span ∷ spans) to = λ a b. λ i.
+    (le_prop a.0 b.0 i, le_prop a.1 b.1 i, order_is_fact span.end spans to a.2 b.2 i)
 order_is_fact from (None ∷ spans) to = order_is_fact from spans to
 
 -- The own lists of files are in order.
 abbrev pub AreListsInOrder : ℕ → List Kept → ℕ → Type 0
-AreListsInOrder from files to = AreSpansInOrder from (own_spans files) to
+AreListsInOrder from files to = AreSpansInOrder from (map own_span files) to
 
 -- A summary has the requirements of its file, without the excluded ones, and both are in the list.
 pub record IsSummary (main : Main) (modules : List ModuleVersion) (summary : Summary) : Type 0 where
@@ -99,12 +92,10 @@ AreWithinList modules files = (place : ℕ) (summary : Summary) → slice_get fi
 
 -- The own list of the file at this place has the modules with these numbers.
 pub record IsSameList (list : NumberedList) (files : List Kept) (numbers : List ℕ) (same : SameList) : Type 0 where
-  pub summary : Summary
-  pub there : slice_get files same.place ≡ Some (Valid summary)
-  pub own : summary.same_as ≡ None
-  pub all : same.all ≡ summary.all
-  pub kept : same.kept ≡ summary.kept
-  pub has : part summary.all.start summary.all.end list.numbers ≡ numbers
+  pub file : Head
+  pub there : slice_get files same.place
+      ≡ Some (Valid (record { file = file; all = same.all; kept = same.kept; same_as = None }))
+  pub has : part same.all.start same.all.end list.numbers ≡ numbers
 
 -- the place of the earlier file whose list it shares, if it shares one
 abbrev pub same_list : Kept → Option ℕ

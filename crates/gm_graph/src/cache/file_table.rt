@@ -3,9 +3,9 @@
 //! A module's file is found by the module's number once its place is noted for that, without a search. Until then a file
 //! that a replacement names is found by its name: a folder is no module, and two modules may have one replacement.
 
-ghost use Rattle.std.specs.Prelude.{◌≤◌, length};
-ghost use Rattle.gm_graph.specs.Places.{place_limit};
-ghost use Rattle.gm_graph.specs.Private.Places.{AreWithin};
+ghost use Rattle.std.specs.Prelude.{◌≡◌, ◌<◌, ◌≤◌, ℕ, Some, length};
+ghost use Rattle.gm_graph.specs.Places.{place_among, place_limit};
+ghost use Rattle.gm_store.specs.Asked.{Name};
 
 use crate::cache::naming::right_name;
 use crate::cache::place_history::PlaceHistory;
@@ -29,15 +29,16 @@ pub(crate) struct FileTable {
     /// The names of the files of all replacements, with their places in `files`, if any.
     replacing: BTreeMap<FileName, OptionalPlace>,
     ghost few: { length files.items ≤ place_limit },
-    ghost within: { AreWithin (length files.items) names.items },
+    ghost within: { (name : Name) (place : ℕ) → place_among names.items name ≡ Some place
+        → place < length files.items },
 }
 
 impl FileTable {
-    ghost use Rattle.std.specs.Prelude.{◌≡◌, ◌⊎◌, ◌<◌, ◌++◌, ◌∷◌, [], IfOk, IfSome, List, None, OnErr, OnOk, Some, slice_get};
-    ghost use Rattle.std.specs.Option.{option_and_then, option_or};
-    ghost use Rattle.gm_store.specs.Asked.{Name, name_of};
-    ghost use Rattle.gm_graph.specs.FileTable.{kept_at};
-    ghost use Rattle.gm_graph.specs.Private.FileTable.{PutsFile, IsNewFile, KeepsFiles, KeepsNoted, KeepsOthers, NotesFiles, NotesFor, PutsReplacing, ReachesAtMost, noted_for, replacing_place};
+    ghost use Rattle.std.specs.Prelude.{if◌then◌else◌, ◌⊎◌, ◌++◌, ◌∷◌, [], IfOk, IfSome, List, None, OnErr, OnOk, slice_get};
+    ghost use Rattle.std.specs.Option.{option_and_then, option_map, option_or};
+    ghost use Rattle.gm_store.specs.Asked.{name_of, same_name};
+    ghost use Rattle.gm_graph.specs.FileTable.{kept_at, place_of};
+    ghost use Rattle.gm_graph.specs.Private.FileTable.{PutsFile, IsNewFile, KeepsFiles, KeepsOthers, NotesFiles, NotesFor, ReachesAtMost, noted_for, replacing_place};
     ghost use Rattle.gm_file.specs.Main.{Main, main_of};
     ghost use Rattle.gm_name.specs.ModuleVersion.{ModuleVersion};
     ghost use Rattle.gm_name_table.specs.OptionalPlaces.{place_in};
@@ -145,7 +146,7 @@ impl FileTable {
     /// Lengthens the list of places, so that it has one for this number. The only refusal is `NoMemory`.
     fn reach(&mut self, number: u32) -> Result<(), NoMemory>
         ensures reaches { OnOk result (number < length self.new.places.items) }
-        ensures noted { KeepsNoted self.old self.new }
+        ensures noted { (other : ℕ) → noted_for self.new other ≡ noted_for self.old other }
         ensures others { KeepsOthers self.old self.new }
         ensures within { ReachesAtMost number self.old self.new }
     {
@@ -162,7 +163,7 @@ impl FileTable {
     pub(crate) fn note(&mut self, number: u32, place: u32) -> Result<(), NoMemory>
         requires { place < length self.old.files.items }
         ensures notes { OnOk result (NotesFor self.old self.new number place) }
-        ensures err { OnErr result (KeepsNoted self.old self.new) }
+        ensures err { OnErr result ((other : ℕ) → noted_for self.new other ≡ noted_for self.old other) }
         ensures others { KeepsOthers self.old self.new }
         ensures within { ReachesAtMost number self.old self.new }
     {
@@ -173,7 +174,8 @@ impl FileTable {
 
     /// Notes the place of the file of a replacement, if the name is that of one.
     fn put_replacing(&mut self, name: &FileName, place: OptionalPlace)
-        ensures puts { PutsReplacing self.old self.new (name_of name.now) place }
+        ensures puts { (other : Name) → replacing_place self.new other ≡ (if same_name other (name_of name.now)
+            then option_map (λ _. place) (replacing_place self.old other) else replacing_place self.old other) }
         ensures files { self.new.files ≡ self.old.files }
         ensures names { self.new.names.items ≡ self.old.names.items }
         ensures places { self.new.places ≡ self.old.places }
@@ -213,7 +215,7 @@ impl FileTable {
         ensures notes { (main : Main) (modules : List ModuleVersion)
             → IsNewFile main modules self.old number (name_of name.now)
             → NotesFiles main modules self.old → NotesFiles main modules self.new }
-        ensures place { IfOk result (λ place. slice_get self.new.files.items place ≡ Some kept) }
+        ensures place { IfOk result (λ place. place_of self.new (name_of name.now) ≡ Some place) }
         ensures files { (self.new.files.items ≡ self.old.files.items)
             ⊎ (self.new.files.items ≡ self.old.files.items ++ kept ∷ []) }
         ensures err { OnErr result (KeepsFiles self.old self.new) }

@@ -6,7 +6,7 @@ ghost use Rattle.std.specs.List.{IsDistinct};
 ghost use Rattle.gm_name.specs.ModuleVersion.{pair_eq};
 ghost use Rattle.gm_name_table.specs.Listed.{AreModuleNumbers};
 ghost use Rattle.gm_graph.specs.Places.{place_limit};
-ghost use Rattle.gm_graph.specs.Private.Summaries.{AreListsInOrder, order_is_fact, own_spans};
+ghost use Rattle.gm_graph.specs.Private.Summaries.{AreListsInOrder, order_is_fact};
 
 use crate::cache::summary::Kept;
 use gm_name::ModVer;
@@ -25,7 +25,7 @@ pub(crate) struct CacheParts {
     ghost distinct: { IsDistinct pair_eq modules.items } by { Prim.hlevel props },
     ghost few: { length modules.items ≤ place_limit },
     ghost below: { AreModuleNumbers modules.items numbers.items },
-    ghost in_order: { AreListsInOrder first files.items (length numbers.items) } by { order_is_fact first (own_spans files.items) (length numbers.items) },
+    ghost in_order: { AreListsInOrder first files.items (length numbers.items) } by { Prim.hlevel order_is_fact },
 }
 
 impl CacheParts {

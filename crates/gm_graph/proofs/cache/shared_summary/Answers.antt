@@ -3,7 +3,6 @@ use Rattle.std.specs.Prelude.{Ok}
 use Rattle.gm_name_table.specs.Listed.{modules_of}
 use Rattle.gm_file.specs.Listed.{with_requirements}
 use Rattle.gm_file.specs.Main.{main_of}
-use Rattle.gm_graph.specs.Private.Summaries.{IsSummary}
 use Rattle.gm_graph.proofs.SharedLists.{all_within, cut_front, cut_grows, cut_same, front, same_listed}
 use Rattle.gm_graph.proofs.cache.shared_summary.Goals as goal
 
@@ -16,11 +15,9 @@ returns-in-Some-clause-reading c =
     let same = c.in-Some.same in
     let list = c.args.modules.now in
     let has = rw c.in-Some.is at c.in_ok-same.ensures in
-    let was : IsSummary (main_of c.args.main.now) (front list c.args.start) has.summary =
-    (c.requires.listed same.place _ has.there).0 in
     ap (λ xs. Ok (with_requirements c.args.file xs))
     (cut_same list c.args.start c.truncate.new.self c.truncate.ensures.modules c.truncate.ensures.numbers same.all c.requires.start
-    (rw has.all was.all_within) (rw has.all has.has))
+    (c.requires.listed same.place _ has.there).0.all_within has.has)
 
 pub returns-in-Some-clause-listed : goal.returns-in-Some-clause-listed
 returns-in-Some-clause-listed c =

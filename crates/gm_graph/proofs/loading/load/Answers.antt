@@ -50,15 +50,6 @@ returns-in_err-findings-clause-too_many g c = λ e.
     rw (c.in_ok-cache.ensures.main, c.in_ok-cache.ensures.sums)
     at (c.in_err-findings.ensures.too_many (ap Err (sym (rw e at c.from_residual-in_err-findings.ensures.1))))
 
-pub invariant_of-cache-in_err-findings-clause-in_order : goal.invariant_of-cache-in_err-findings-clause-in_order
-invariant_of-cache-in_err-findings-clause-in_order g c = c.visit_all.new.cache.in_order
-
-pub invariant_of-cache-in_err-findings-clause-listed : goal.invariant_of-cache-in_err-findings-clause-listed
-invariant_of-cache-in_err-findings-clause-listed g c = c.visit_all.new.cache.listed
-
-pub invariant_of-cache-clause-listed : goal.invariant_of-cache-clause-listed
-invariant_of-cache-clause-listed g c = c.in_ok-cache.cache.listed
-
 pub assemble-requires : goal.assemble-requires
 assemble-requires g c =
     let opened = c.in_ok-findings.ensures.opened in

@@ -1,7 +1,7 @@
 use Rattle.std.proofs.Common.{Err, Ok, ap, inl}
 use Rattle.gm_graph.proofs.AddFaults.{add_too_many}
 use Rattle.gm_graph.proofs.FoundFiles.{file_finds, file_noted}
-use Rattle.gm_graph.specs.Private.CacheVisits.{table_of}
+use Rattle.gm_graph.specs.Private.Held.{lent_table}
 use Rattle.gm_graph.proofs.Adding.{adds_none}
 use Rattle.gm_graph.specs.Cached.{table_in}
 use Rattle.gm_graph.proofs.FollowedFiles.{followed_more}
@@ -22,7 +22,7 @@ returns-clause-adds c = λ cache run ready below is.
     let marks = c.args.followed.now in
     let more = c.note_file.new.self in
     let noted = c.in_ok-note_file.ensures in
-    let leads : LeadsOn (table_of required) required old c.if-leads.worklist marks c.if-leads.followed = elim c.if-leads.branch [
+    let leads : LeadsOn (lent_table required.list) required old c.if-leads.worklist marks c.if-leads.followed = elim c.if-leads.branch [
       | then-leads+in_ok-follow w ↦ rw (w.worklist-is, w.followed-is) (record {
         worklist_is = w.in_ok-follow.ensures.worklist;
         adds = rw w.if-leads.true w.in_ok-follow.ensures.adds;
@@ -36,7 +36,7 @@ returns-clause-adds c = λ cache run ready below is.
         followed = c.requires.followed;
       })
     ] in
-    let (sound, says, same) = is in
+    let (sound, same, file, says, leads_on, list) = is in
     let here : LeadsOn (table_in cache) required old c.if-leads.worklist marks c.if-leads.followed = rw⁻¹ same leads in
     record {
       ready = record {
@@ -45,6 +45,6 @@ returns-clause-adds c = λ cache run ready below is.
         found = file_noted c.args.findings.now more one.number required.file noted.put noted.others c.note_file.ensures.faults cache run
             ready.found below sound;
       };
-      follows = record { said = Ok says.file; says = says.says; adds = rw⁻¹ (says.leads, says.modules) here.adds };
+      follows = record { said = Ok file; says = says; adds = rw⁻¹ (leads_on, list) here.adds };
       finds = file_finds c.args.findings.now more one.number required.file noted.put noted.others c.note_file.ensures.faults;
     }

@@ -1,11 +1,12 @@
 use Rattle.std.proofs.Common.{sym}
 use Rattle.gm_graph.specs.declared.cache.visit.Visit.{Visit}
 use Rattle.gm_graph.specs.Cached.{run_in, table_in}
-use Rattle.gm_graph.specs.Private.CacheVisits.{table_of}
+use Rattle.gm_graph.specs.Private.Held.{lent_table}
 use Rattle.gm_graph.proofs.AskedFile.{asks_by, has_some, refused_failed}
 use Rattle.gm_graph.proofs.FollowedFiles.{has_its_turns}
 use Rattle.gm_graph.proofs.Growing.{worklist_over}
 use Rattle.gm_graph.proofs.Keeping.{never_many}
+use Rattle.gm_graph.proofs.Lending.{lends_file}
 use Rattle.gm_graph.proofs.TurnEnds.{overflows_at, turn_visited}
 use Rattle.gm_graph.proofs.visiting.visit.Goals as goal
 
@@ -17,9 +18,10 @@ add_requirements-requires g c =
     let run = run_in old (g.F.Asks.state c.args.files.now).asked in
     let required = c.in-Ok-Required.required in
     let ready = c.requires.ready in
-    let lends = rw c.in-Ok-Required.field-0-is at c.in-Ok-Required.ensures.lends in
+    let (mid, made, distinct, is) = rw c.in-Ok-Required.field-0-is at c.in-Ok-Required.ensures.lends in
+    let lends = lends_file old mid _ _ _ _ required made distinct is in
     record {
-      worklist = worklist_over (table_in old) (table_of required) c.args.worklist.now ready.worklist_is lends.begins lends.distinct;
+      worklist = worklist_over (table_in old) (lent_table required.list) c.args.worklist.now ready.worklist_is lends.begins lends.distinct;
       followed = has_its_turns old run c.args.worklist.now c.args.followed.now required ready.worklist_is lends ready.followed;
     }
 

@@ -7,7 +7,7 @@ invariant_of-result c =
       distinct = c.into_parts-modules.ensures.distinct;
       few = c.into_parts-modules.ensures.few;
       below = c.into_parts-modules.ensures.below;
-      in_order = rw (c.into_files.ensures, c.into_parts-modules.ensures.numbers) c.args.self.in_order;
+      in_order = rw (c.into_files.ensures, c.into_parts-modules.ensures.numbers) c.args.self.consistent.in_order;
     }
 
 pub returns : goal.returns

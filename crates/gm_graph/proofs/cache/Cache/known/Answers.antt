@@ -10,7 +10,7 @@ use Rattle.gm_graph.specs.Private.Cached.{module_numbered}
 use Rattle.gm_file.specs.Main.{main_of}
 use Rattle.gm_graph.specs.Reading.{file_of}
 use Rattle.gm_name.specs.ModuleVersion.{module_at}
-use Rattle.gm_graph.proofs.GrownCache.{all_grown, first_grown, firsts_grown, notes_grown, order_grown, places_grown, some_grown}
+use Rattle.gm_graph.proofs.GrownCache.{grown_consistent}
 use Rattle.gm_graph.proofs.Growing.{number_below, number_stays}
 use Rattle.gm_graph.proofs.HeldFiles.{grown_holds, numbered_more}
 use Rattle.gm_graph.proofs.Keeping.{holds_after, holds_grown, never_many, says_still}
@@ -23,26 +23,15 @@ use Rattle.gm_graph.proofs.cache.Cache.known.Goals.{After-of_request, In-Ok}
 
 pub invariant_of-self : goal.invariant_of-self
 invariant_of-self g c =
-    let cache = c.args.self.now in
-    let list = c.number.new.self in
     let more = c.number.ensures in
-    let grows = numbered_more c.args.vertex.now more.only more.numbers more.list in
-    record {
-      first_within = first_grown cache list grows;
-      first_are = firsts_grown cache list grows;
-      places_within = places_grown cache list grows;
-      holds_some = some_grown cache list grows;
-      notes = notes_grown cache list grows;
-      in_order = order_grown cache list grows;
-      listed = all_grown cache list grows;
-    }
+    record { consistent = grown_consistent c.args.self.now _ (numbered_more c.args.vertex.now more.only more.numbers more.list) }
 
 pub known_at-requires-clause-knows : goal.known_at-requires-clause-knows
 known_at-requires-clause-knows g c =
     let cache = c.args.self.now in
     let more = c.number.ensures in
     grown_holds (main_in cache) cache.modules c.number.new.self cache.files (numbered_more c.args.vertex.now more.only more.numbers more.list)
-    cache.listed (sums_in cache) _ c.requires.knows
+    cache.consistent.listed (sums_in cache) _ c.requires.knows
 
 pub known_at-requires-clause-vertex : goal.known_at-requires-clause-vertex
 known_at-requires-clause-vertex g c = slice_get_within _ c.in_ok-number.number _ c.in_ok-number.ensures.number
@@ -106,14 +95,14 @@ returns-in-Err-clause-stays g c =
 -- the number of the vertex is still its own
 numbered : (g : Over) (c : In-Ok g) → module_numbered c.known_at.new.self c.in_ok-number.number ≡ c.args.vertex.now
 numbered g c =
-    number_stays _ (table_in c.known_at.new.self) c.in_ok-number.number c.in-Ok.ensures.known.numbered
+    number_stays _ (table_in c.known_at.new.self) c.in_ok-number.number c.in-Ok.ensures.known.0.numbered
     (slice_get_within _ c.in_ok-number.number _ c.in_ok-number.ensures.number)
     ∙ get_or_from_slice_get _ c.in_ok-number.number _ ([], []) c.in_ok-number.ensures.number
 
 pub returns-in-Ok-clause-known : goal.returns-in-Ok-clause-known
 returns-in-Ok-clause-known g c =
     rw (numbered g (goal.at.returns-in-Ok-clause-known g c).In-Ok) at
-    (c.known_by.ensures (g.F.Asks.state c.known_at.new.files).asked c.in-Ok.ensures.known.knows)
+    (c.known_by.ensures (g.F.Asks.state c.known_at.new.files).asked c.in-Ok.ensures.known.0.knows)
 
 pub returns-in-Ok-clause-lender : goal.returns-in-Ok-clause-lender
 returns-in-Ok-clause-lender g c = λ pairs knows.
@@ -127,13 +116,13 @@ known_by-requires-clause-name g c =
 
 pub known_by-requires-clause-vertex : goal.known_by-requires-clause-vertex
 known_by-requires-clause-vertex g c =
-    number_below _ (table_in c.known_at.new.self) c.in_ok-number.number c.in-Ok.ensures.known.numbered
+    number_below _ (table_in c.known_at.new.self) c.in_ok-number.number c.in-Ok.ensures.known.0.numbered
     (slice_get_within _ c.in_ok-number.number _ c.in_ok-number.ensures.number)
 
 pub known_by-requires-clause-place : goal.known_by-requires-clause-place
 known_by-requires-clause-place g c =
-    rw (number_stays _ (table_in c.known_at.new.self) c.in_ok-number.number c.in-Ok.ensures.known.numbered
-    (slice_get_within _ c.in_ok-number.number _ c.in_ok-number.ensures.number)) c.in-Ok.ensures.known.place_is
+    rw (number_stays _ (table_in c.known_at.new.self) c.in_ok-number.number c.in-Ok.ensures.known.0.numbered
+    (slice_get_within _ c.in_ok-number.number _ c.in_ok-number.ensures.number)) c.in-Ok.ensures.known.1
 
 pub returns-in-Err-clause-not_too_many : goal.returns-in-Err-clause-not_too_many
 returns-in-Err-clause-not_too_many g c = λ e.

@@ -1,4 +1,4 @@
-use Rattle.std.proofs.Common.{◌≡◌, ◌∙◌, None, ap, length, refl, sym}
+use Rattle.std.proofs.Common.{◌≡◌, ◌∙◌, ◌∷◌, [], None, ap, length, refl, sym}
 use Rattle.gm_file.specs.Main.{main_of}
 use Rattle.gm_store.specs.Asked.{name_of}
 use Rattle.gm_graph.specs.Private.FileTable.{IsNewFile, IsPlacedAt}
@@ -6,8 +6,8 @@ use Rattle.gm_graph.specs.Cached.{main_in, summary_at, sums_in, table_in}
 use Rattle.gm_graph.specs.Private.Cached.{module_numbered}
 use Rattle.gm_graph.specs.Reading.{file_of, is_askable}
 use Rattle.gm_graph.proofs.Growing.{number_below, number_stays}
-use Rattle.gm_graph.proofs.Keeping.{any_err, holds_after, holds_beside, holds_itself, holds_listed, holds_noted, known_same}
-use Rattle.gm_graph.proofs.OwnFiles.{added_there, has_file, has_noted, has_placed, new_file, noted_again, nothing_kept, placed_still, replacing_at}
+use Rattle.gm_graph.proofs.Keeping.{any_err, follows_same, holds_after, holds_beside, holds_itself, holds_listed, holds_noted, says_later}
+use Rattle.gm_graph.proofs.OwnFiles.{new_file, noted_again, nothing_kept, placed_file, placed_still, replacing_at}
 use Rattle.gm_graph.proofs.PuttingPlaces.{same_files}
 use Rattle.gm_graph.proofs.SharedLists.{listed_push}
 use Rattle.gm_graph.proofs.HeldFiles.{added_some, kept_some}
@@ -49,24 +49,27 @@ new_here g c none =
 pub invariant_of-self-in-Ok : goal.invariant_of-self-in-Ok
 invariant_of-self-in-Ok g c =
     let mid = c.read_file.new.self in
+    let was = mid.consistent in
     let files = mid.files.files.items in
     let kept = c.in-Ok.kept in
     let read = c.in-Ok.ensures.reading in
     let is = new_here g (goal.at.invariant_of-self-in-Ok g c).After-add
     (nothing g (goal.at.invariant_of-self-in-Ok g c).In_default-replacing_place) in
     record {
-      first_within = mid.first_within;
-      first_are = mid.first_are;
-      places_within = c.add.ensures.within (length (table_in mid)) is.within mid.places_within;
-      holds_some = added_some (main_in mid) (sums_in mid) mid.modules mid.files c.add.new.self c.add.result (name_of c.in_ok-name.name) kept
-          (read.0, rw c.read_file.ensures.lent.sums read.2) c.add.ensures.adds c.add.ensures.err mid.holds_some;
-      notes = c.add.ensures.notes (main_in mid) (table_in mid) is mid.notes;
-      in_order = has_added files c.add.new.self.files.items kept c.add.ensures.files
-          (λ all. AreListsInOrder mid.first all (length mid.modules.numbers)) mid.in_order c.in-Ok.ensures.order;
-      listed = has_added files c.add.new.self.files.items kept c.add.ensures.files
-          (AreKeptIn (main_in mid) (modules_of mid.modules)) mid.listed
-          (listed_push (main_in mid) (modules_of mid.modules) files kept mid.listed
-          (rw (c.read_file.ensures.files, c.read_file.ensures.lent.main) c.in-Ok.ensures.listed));
+      consistent = record {
+        first_within = was.first_within;
+        first_are = was.first_are;
+        places_within = c.add.ensures.within (length (table_in mid)) is.within was.places_within;
+        holds_some = added_some (main_in mid) (sums_in mid) mid.modules mid.files c.add.new.self c.add.result (name_of c.in_ok-name.name) kept
+            (read.0, rw c.read_file.ensures.lent.sums read.2) c.add.ensures.adds c.add.ensures.err was.holds_some;
+        notes = c.add.ensures.notes (main_in mid) (table_in mid) is was.notes;
+        in_order = has_added files c.add.new.self.files.items kept c.add.ensures.files
+            (λ all. AreListsInOrder mid.first all (length mid.modules.numbers)) was.in_order c.in-Ok.ensures.order;
+        listed = has_added files c.add.new.self.files.items kept c.add.ensures.files
+            (AreKeptIn (main_in mid) (modules_of mid.modules)) was.listed
+            (listed_push (main_in mid) (modules_of mid.modules) files kept was.listed
+            (rw (c.read_file.ensures.files, c.read_file.ensures.lent.main) c.in-Ok.ensures.listed));
+      };
     }
 
 -- ---- memory ran out before anything was asked for
@@ -95,16 +98,19 @@ placed g c =
 pub invariant_of-self : goal.invariant_of-self
 invariant_of-self g c =
     let cache = c.args.self.now in
+    let was = cache.consistent in
     let others = c.note.ensures.others in
     record {
-      first_within = cache.first_within;
-      first_are = cache.first_are;
-      places_within = c.note.ensures.within (length (table_in cache)) c.requires.vertex cache.places_within;
-      holds_some = kept_some (main_in cache) (sums_in cache) cache.modules cache.files c.note.new.self (same_files others) cache.holds_some;
-      notes = noted_again cache c.note.new.self c.args.number c.in-Some-replacing_place.place c.note.result
-          (placed g (goal.at.invariant_of-self g c).In-Some-replacing_place) others c.note.ensures.notes c.note.ensures.err;
-      in_order = rw others.files cache.in_order;
-      listed = rw others.files cache.listed;
+      consistent = record {
+        first_within = was.first_within;
+        first_are = was.first_are;
+        places_within = c.note.ensures.within (length (table_in cache)) c.requires.vertex was.places_within;
+        holds_some = kept_some (main_in cache) (sums_in cache) cache.modules cache.files c.note.new.self (same_files others) was.holds_some;
+        notes = noted_again cache c.note.new.self c.args.number c.in-Some-replacing_place.place c.note.result
+            (placed g (goal.at.invariant_of-self g c).In-Some-replacing_place) others c.note.ensures.notes c.note.ensures.err;
+        in_order = rw others.files was.in_order;
+        listed = rw others.files was.listed;
+      };
     }
 
 pub note-requires : goal.note-requires
@@ -128,14 +134,17 @@ returns-in-Err-clause-lent g c =
 -- ---- the file is made known
 
 pub returns-in-Some-clause-known : goal.returns-in-Some-clause-known
-returns-in-Some-clause-known g c =
-    known_same holds_itself c.requires.knows (has_noted c.args.self.now c.args.number c.in-Some.place (sym c.in-Some.ensures))
+returns-in-Some-clause-known g c = (
+  follows_same holds_itself c.requires.knows,
+  c.args.self.now.consistent.notes.modules_noted c.args.number c.in-Some.place (sym c.in-Some.ensures),
+)
 
 pub returns-then-not-is_askable-clause-known : goal.returns-then-not-is_askable-clause-known
-returns-then-not-is_askable-clause-known g c =
-    known_same holds_itself c.requires.knows
-    (ap is_askable (sym (c.in_ok-name.ensures ∙ ap (file_of (main_in c.args.self.now)) c.module.ensures.module))
-    ∙ sym c.is_askable.ensures ∙ c.if-not-is_askable.true)
+returns-then-not-is_askable-clause-known g c = (
+  follows_same holds_itself c.requires.knows,
+  ap is_askable (sym (c.in_ok-name.ensures ∙ ap (file_of (main_in c.args.self.now)) c.module.ensures.module))
+      ∙ sym c.is_askable.ensures ∙ c.if-not-is_askable.true,
+)
 
 pub returns-in_err-note-clause-err : goal.returns-in_err-note-clause-err
 returns-in_err-note-clause-err g c =
@@ -144,8 +153,7 @@ returns-in_err-note-clause-err g c =
 pub returns-in-Some-replacing_place-clause-known : goal.returns-in-Some-replacing_place-clause-known
 returns-in-Some-replacing_place-clause-known g c =
     let at = placed g (goal.at.returns-in-Some-replacing_place-clause-known g c).In-Some-replacing_place in
-    known_same (holds_noted c.args.self.now _ refl refl c.note.ensures.others refl) c.requires.knows
-    (has_placed _ _ _ (placed_still c.note.ensures.others at))
+    (follows_same (holds_noted c.args.self.now _ refl refl c.note.ensures.others refl) c.requires.knows, placed_still c.note.ensures.others at)
 
 pub returns-in_ok-add-in-Ok-clause-known : goal.returns-in_ok-add-in-Ok-clause-known
 returns-in_ok-add-in-Ok-clause-known g c =
@@ -158,15 +166,19 @@ returns-in_ok-add-in-Ok-clause-known g c =
     let begins = c.read_file.ensures.holds.numbered in
     let none = nothing g (goal.at.returns-in_ok-add-in-Ok-clause-known g c).In_default-replacing_place in
     let is = new_here g (goal.at.returns-in_ok-add-in-Ok-clause-known g c).After-add none in
-    record {
-      knows = knows_read old mid c.add.new.self earlier pairs name read.0 c.in-Ok.kept
-          c.requires.knows c.read_file.ensures.holds none c.in_ok-add-in-Ok.ensures.adds read.1 read.2;
-      place_is = has_file _ _ name c.in-Ok.kept _
+    let lent = c.read_file.ensures.lent in (
+      record {
+        knows = knows_read old mid c.add.new.self earlier pairs name read.0 c.in-Ok.kept
+            c.requires.knows c.read_file.ensures.holds none c.in_ok-add-in-Ok.ensures.adds read.1 read.2;
+        main = ap main_of lent.main;
+        sums = lent.sums;
+        numbered = begins;
+        stays = says_later old mid earlier ((name, read.0) ∷ []) pairs lent.main lent.sums read.1;
+        sound = sound_read old mid _ earlier pairs name read.0 c.in-Ok.kept c.read_file.ensures.holds
+            (record { main = refl; sums = refl; turns = refl }) none c.in_ok-add-in-Ok.ensures.adds
+            (begins_added mid.files.files.items c.add.new.self.files.items c.in-Ok.kept c.add.ensures.files) read.1;
+      },
+      placed_file _ _ _ name _
           (is.named ∙ ap (file_of (main_in mid)) (number_stays (table_in old) (table_in mid) c.args.number begins c.requires.vertex))
-          is.askable c.in_ok-add-in-Ok.ensures.place
-          (added_there mid.files c.add.new.self name c.in-Ok.kept c.in_ok-add-in-Ok.ensures.adds);
-      numbered = begins;
-      sound = sound_read old mid _ earlier pairs name read.0 c.in-Ok.kept c.read_file.ensures.holds
-          (record { main = refl; sums = refl; turns = refl }) none c.in_ok-add-in-Ok.ensures.adds
-          (begins_added mid.files.files.items c.add.new.self.files.items c.in-Ok.kept c.add.ensures.files) read.1;
-    }
+          is.askable c.in_ok-add-in-Ok.ensures.place,
+    )

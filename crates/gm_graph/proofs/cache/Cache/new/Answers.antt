@@ -1,20 +1,26 @@
-use Rattle.std.proofs.Common.{[], arith}
+use Rattle.std.proofs.Common.{◌∙◌, [], arith}
+use Rattle.std.proofs.lemmas.List.{length-map, take_all}
+use Rattle.gm_name.specs.ModuleVersion.{module_at}
+use Rattle.gm_name_table.specs.Listed.{modules_of}
 use Rattle.gm_graph.proofs.HeldFiles.{none_holds}
 use Rattle.gm_graph.proofs.cache.Cache.new.Goals as goal
 
-pub invariant_of-result-clause-holds_some : goal.invariant_of-result-clause-holds_some
-invariant_of-result-clause-holds_some c = ∣ ([], none_holds c.in_ok-files.ensures.none) ∣₁
-
-pub invariant_of-result-clause-notes : goal.invariant_of-result-clause-notes
-invariant_of-result-clause-notes c = c.in_ok-files.ensures.notes c.in_ok-modules.modules.modules
-
-pub invariant_of-result-clause-in_order : goal.invariant_of-result-clause-in_order
-invariant_of-result-clause-in_order c =
-    rw c.in_ok-files.ensures.files (omega (arith, c.len-first.ensures.len))
-
-pub invariant_of-result-clause-listed : goal.invariant_of-result-clause-listed
-invariant_of-result-clause-listed c = λ place one there.
-    absurd (cc (rw c.in_ok-files.ensures.files at there))
+pub invariant_of-result : goal.invariant_of-result
+invariant_of-result c =
+    let list = c.in_ok-modules.modules in
+    let files = c.in_ok-files.ensures in
+    let len = c.len-first.ensures.len in
+    record {
+      consistent = record {
+        holds_some = ∣ ([], none_holds files.none) ∣₁;
+        first_within = omega (arith, len);
+        first_are = take_all _ (modules_of list) (omega (arith, len, length-map list.numbers (module_at list.modules))) ∙ c.in_ok-modules.ensures;
+        places_within = omega (arith, files.places);
+        notes = files.notes list.modules;
+        in_order = rw files.files (omega (arith, len));
+        listed = λ place one there. absurd (cc (rw files.files at there));
+      };
+    }
 
 pub returns-clause-knows : goal.returns-clause-knows
 returns-clause-knows c = none_holds c.in_ok-files.ensures.none

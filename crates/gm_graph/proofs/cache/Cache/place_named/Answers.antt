@@ -4,7 +4,7 @@ use Rattle.gm_store.specs.Asked.{name_of}
 use Rattle.gm_graph.specs.Cached.{main_in, table_in}
 use Rattle.gm_graph.specs.Private.Cached.{module_numbered}
 use Rattle.gm_graph.specs.Reading.{file_of}
-use Rattle.gm_graph.proofs.FilePlaces.{place_by, place_by_absent, place_found}
+use Rattle.gm_graph.proofs.FilePlaces.{place_by, place_by_absent}
 use Rattle.gm_graph.proofs.cache.Cache.place_named.Goals as goal
 
 pub returns-in-Some : goal.returns-in-Some
@@ -12,17 +12,13 @@ returns-in-Some c = λ pairs knows named.
     let cache = c.args.self.now in
     let number = c.in-Some.number in
     let is : module_numbered cache number ≡ c.args.vertex.now = get_or_from_slice_get _ number _ ([], []) ((c.find.ensures number).0 c.in-Some.is) in
-    place_found cache.files (name_of c.args.name.now) c.place_of.result
-    (place_by (main_in cache) (table_in cache) cache.files number _ cache.notes
+    place_by (main_in cache) (table_in cache) cache.files number _ cache.consistent.notes
     (λ k below same. cc (sym ((c.find.ensures k).1 (slice_get-get_or _ k ([], []) below ∙ ap Some (same ∙ is))) ∙ c.in-Some.is))
-    (named.name_is ∙ ap (file_of (main_in cache)) (sym is)) ∙ sym c.place_of.ensures)
+    (named.name_is ∙ ap (file_of (main_in cache)) (sym is)) ∙ sym c.place_of.ensures
 
 pub returns-in-None : goal.returns-in-None
 returns-in-None c = λ pairs knows named.
     let cache = c.args.self.now in
-    let x = c.args.vertex.now in
-    let name = name_of c.args.name.now in
-    place_found cache.files name c.replacing_place.result
-    (place_by_absent _ _ _ cache.notes x name
+    place_by_absent _ _ _ cache.consistent.notes c.args.vertex.now (name_of c.args.name.now)
     (λ number there. cc (sym ((c.find.ensures number).1 there) ∙ c.in-None.is)) named.name_is
-    ∙ sym c.replacing_place.ensures)
+    ∙ sym c.replacing_place.ensures

@@ -2,7 +2,7 @@ use Rattle.std.proofs.Common.{Ok, Err, refl}
 use Rattle.gm_store.specs.Asked.{name_of}
 use Rattle.gm_graph.specs.Cached.{main_in}
 use Rattle.gm_graph.proofs.AskedFile.{asked_one, asks_passed, asks_still}
-use Rattle.gm_graph.proofs.GrownCache.{all_grown, first_grown, firsts_grown, notes_grown, order_grown, places_grown, some_grown}
+use Rattle.gm_graph.proofs.GrownCache.{grown_consistent}
 use Rattle.gm_graph.proofs.Keeping.{holds_grown, holds_itself}
 use Rattle.gm_graph.proofs.Ordered.{order_push}
 use Rattle.gm_graph.proofs.SharedLists.{listed_front}
@@ -13,37 +13,16 @@ kept_of-requires-clause-listed g c =
     let cache = c.args.self.now in
     rw c.files.ensures
     (listed_front (main_in cache) cache.modules c.read_answer.new.modules cache.files.files.items c.len-start.result
-    c.len-start.ensures.len c.read_answer.ensures.grows cache.listed)
+    c.len-start.ensures.len c.read_answer.ensures.grows cache.consistent.listed)
 
 pub invariant_of-self : goal.invariant_of-self
 invariant_of-self g c =
-    let cache = c.args.self.now in
-    let list = c.read_answer.new.modules in
-    let grows = c.read_answer.ensures.grows in
-    record {
-      first_within = first_grown cache list grows;
-      first_are = firsts_grown cache list grows;
-      places_within = places_grown cache list grows;
-      holds_some = some_grown cache list grows;
-      notes = notes_grown cache list grows;
-      in_order = order_grown cache list grows;
-      listed = all_grown cache list grows;
-    }
+    record { consistent = grown_consistent c.args.self.now _ c.read_answer.ensures.grows }
 
 pub invariant_of-self-2 : goal.invariant_of-self-2
 invariant_of-self-2 g c =
     let cache = c.args.self.now in
-    let list = c.kept_of.new.modules in
-    let grows = c.kept_of.ensures.grows cache.modules c.len-start.ensures.len c.read_answer.ensures.grows in
-    record {
-      first_within = first_grown cache list grows;
-      first_are = firsts_grown cache list grows;
-      places_within = places_grown cache list grows;
-      holds_some = some_grown cache list grows;
-      notes = notes_grown cache list grows;
-      in_order = order_grown cache list grows;
-      listed = all_grown cache list grows;
-    }
+    record { consistent = grown_consistent cache _ (c.kept_of.ensures.grows cache.modules c.len-start.ensures.len c.read_answer.ensures.grows) }
 
 -- ---- the store refused
 
@@ -85,7 +64,7 @@ returns-clause-holds g c =
 pub returns-clause-order : goal.returns-clause-order
 returns-clause-order g c =
     let old = c.args.self.now in
-    order_push old.first old.files.files.items _ c.in_ok-kept.kept _ old.in_order (rw c.len-start.ensures.len at c.in_ok-kept.ensures.order)
+    order_push old.first old.files.files.items _ c.in_ok-kept.kept _ old.consistent.in_order (rw c.len-start.ensures.len at c.in_ok-kept.ensures.order)
 
 pub returns-clause-reading : goal.returns-clause-reading
 returns-clause-reading g c =

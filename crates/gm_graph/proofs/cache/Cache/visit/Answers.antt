@@ -3,15 +3,13 @@ use Rattle.gm_name.specs.ModuleVersion.{ModuleVersion}
 use Rattle.gm_name_table.specs.Listed.{NumberedList, modules_of}
 use Rattle.gm_graph.specs.declared.cache.depth.Turn.{Turn}
 use Rattle.gm_graph.specs.declared.cache.file_table.FileTable.{FileTable}
-use Rattle.gm_graph.specs.Cached.{main_in, run_in}
+use Rattle.gm_graph.specs.Cached.{run_in}
 use Rattle.gm_graph.specs.Private.CacheVisits.{IsVisit}
-use Rattle.gm_graph.specs.Private.Cached.{module_numbered, span_at}
+use Rattle.gm_graph.specs.Private.Cached.{module_numbered}
 use Rattle.gm_graph.specs.Summaries.{at_span}
 use Rattle.gm_graph.specs.Turns.{turn}
-use Rattle.gm_graph.proofs.AskedFile.{asks_for}
-use Rattle.gm_graph.proofs.Caching.{continues_both, has_visited, visit_still}
-use Rattle.gm_graph.proofs.Keeping.{holds_itself, says_still}
-use Rattle.gm_graph.proofs.Lending.{lends_over, place_said, visit_got}
+use Rattle.gm_graph.proofs.Caching.{has_visited}
+use Rattle.gm_graph.proofs.Lending.{place_said, span_at, visit_got}
 use Rattle.gm_graph.proofs.cache.Cache.visit.Goals as goal
 
 pub lend_at-list-requires : goal.lend_at-list-requires
@@ -20,7 +18,7 @@ lend_at-list-requires g c =
     let pairs = (g.F.Asks.state c.known_at.new.files).asked in
     record {
       place = rw c.file.ensures
-          (place_said mid pairs c.args.number c.args.depth c.said-said.result (c.said-said.ensures pairs c.in_ok-place.ensures.known.knows));
+          (place_said mid pairs c.args.number c.args.depth c.said-said.result (c.said-said.ensures pairs c.in_ok-place.ensures.known.0.knows));
     }
 
 pub returns : goal.returns
@@ -32,31 +30,24 @@ returns g c =
     let number = c.args.number in
     let d = c.args.depth in
     let known = c.known_at.ensures in
-    let made = c.in_ok-place.ensures.known in
-    let before = g.F.Asks.state c.args.files.now in
-    let after = g.F.Asks.state c.known_at.new.files in
-    let stays = says_still old mid before after (module_numbered old number) known.lent
-    (asks_for {failed = []} (main_in old) (module_numbered old number) c.in_ok-place.ensures.asks) in
-    let got : IsVisit mid (run_in mid after.asked) (module_numbered mid number) d c.of.result =
-    rw c.of.ensures (visit_got mid after.asked number d c.said-said.result c.lend_at-list.result made.knows
-    (c.said-said.ensures after.asked made.knows)
+    let made = c.in_ok-place.ensures.known.0 in
+    let before = (g.F.Asks.state c.args.files.now).asked in
+    let after = (g.F.Asks.state c.known_at.new.files).asked in
+    let got : IsVisit mid (run_in mid after) (module_numbered mid number) d c.of.result =
+    rw c.of.ensures (visit_got mid after number d c.said-said.result c.lend_at-list.result made.knows (c.said-said.ensures after made.knows)
     (c.lend_at-list.ensures.modules ∙ ap (λ (p : Option ℕ). at_span (modules_of mid.modules) (span_at mid p)) c.file.ensures)
     c.lend_at-list.ensures.table) in
     let table = ap (λ (list : NumberedList). list.modules) has.modules in (
       (
         refl,
         λ _. tt,
-        has_visited old mid end known.lent made.numbered has.holds table before.asked after.asked number d c.of.result c.requires.vertex
-            made.knows stays made.sound known.count (ap (λ (files : FileTable). length files.files.items) has.files)
+        has_visited old mid end before after made has.holds table number d c.of.result c.requires.vertex
+            known.count (ap (λ (files : FileTable). length files.files.items) has.files) known.lent.turns
             (has.turns ∙ ap (λ (ts : List Turn). mid.turns.items ++ ts) (c.of-turn.ensures ∙ ap (λ (x : ModuleVersion). turn x d ∷ []) c.module.ensures.module))
-            (rw table c.module.ensures.distinct)
-            (visit_still old mid end known.lent made.numbered has.holds table before.asked after.asked (module_numbered mid number) d c.of.result got),
+            (rw table c.module.ensures.distinct) got,
       ),
       record {
-        lends = lends_over old mid before.asked after.asked (module_numbered mid number) d c.of.result made.knows
-            (continues_both old mid mid known.lent made.numbered
-            holds_itself refl)
-            stays made.sound c.module.ensures.distinct got;
+        lends = (mid, made, c.module.ensures.distinct, got);
         asks = c.in_ok-place.ensures.asks;
         after = tt;
       },

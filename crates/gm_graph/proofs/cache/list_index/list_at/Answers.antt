@@ -1,6 +1,7 @@
-use Rattle.std.proofs.Common.{◌∙◌, Some, ap, length, refl, sym}
+use Rattle.std.proofs.Common.{◌∙◌, ℕ, Option, Some, ap, length, refl, sym}
 use Rattle.std.proofs.lemmas.Option.{slice_get_read}
 use Rattle.gm_graph.specs.declared.cache.summary.Kept.{Kept}
+use Rattle.gm_graph.specs.declared.cache.summary.Kept.TheVariants.{Valid}
 use Rattle.gm_graph.proofs.SharedLists.{none_if, same_numbers}
 use Rattle.gm_graph.proofs.cache.list_index.list_at.Goals as goal
 
@@ -8,12 +9,12 @@ pub returns-else-ne : goal.returns-else-ne
 returns-else-ne c =
     let files = c.args.files.now in
     let found = c.in_ok-summary.ensures.lookup in
+    let summary = c.in-Valid.summary in
     record {
-      summary = c.in-Valid.summary;
+      file = summary.file;
       there = slice_get_read files (length files) c.args.place c.in_ok-summary.field-0.now refl found.3.0 found.1
-          ∙ ap (λ (kept : Kept). Some kept) c.in-Valid.is;
-      own = none_if c.in-Valid.summary.same_as c.if-is_none.ensures;
-      all = refl;
-      kept = refl;
+          ∙ ap (λ (kept : Kept). Some kept) c.in-Valid.is
+          ∙ ap (λ (o : Option ℕ). Some (Valid (record { file = summary.file; all = summary.all; kept = summary.kept; same_as = o })))
+          (none_if summary.same_as c.if-is_none.ensures);
       has = sym c.numbers.ensures.numbers ∙ same_numbers c.numbers.result.now c.args.numbers.now c.if-ne.ensures;
     }

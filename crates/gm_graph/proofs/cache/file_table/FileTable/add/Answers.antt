@@ -1,8 +1,7 @@
 use Rattle.std.proofs.Common.{◌∙◌}
 use Rattle.gm_store.specs.Asked.{name_of}
-use Rattle.gm_name_table.proofs.Buckets.{last}
 use Rattle.gm_graph.proofs.Keeping.{any_err}
-use Rattle.gm_graph.proofs.PuttingPlaces.{file_added, files_kept}
+use Rattle.gm_graph.proofs.PuttingPlaces.{file_added, files_kept, place_itself}
 use Rattle.gm_graph.proofs.cache.file_table.FileTable.add.Goals as goal
 
 pub returns-in_err-put-clause-err : goal.returns-in_err-put-clause-err
@@ -40,5 +39,5 @@ returns-in_err-put-clause-notes c = λ main modules is were.
 
 pub returns-clause-place : goal.returns-clause-place
 returns-clause-place c =
-    rw c.in_ok-put.ensures.files (rw c.in_ok-push.ensures.items (rw (c.len-place.ensures ∙ c.args.self.now.files.ok.0)
-    (last c.args.self.now.files.items c.args.kept)))
+    let (noted, at, names) = c.in_ok-put.ensures.names in
+    place_itself c.args.self.now c.put.new.self (name_of c.args.name.now) c.len-place.result noted at names
