@@ -1,5 +1,5 @@
 -- What is asked for while a worklist is visited.
-use Rattle.std.proofs.Common.{◌≡◌, ◌⊎◌, ◌+◌, true, List, [], ◌∷◌, ◌++◌, Option, None, Result, Ok, Err, ap, inl, inr}
+use Rattle.std.proofs.Common.{◌≡◌, ◌⊎◌, true, List, [], ◌∷◌, ◌++◌, Option, None, Result, Ok, Err, ap, inl, inr}
 use Rattle.std.specs.Prelude.{IsErrAnd}
 use Rattle.gm_name.specs.ModuleVersion.{ModuleVersion}
 use Rattle.gm_store.specs.Asked.{Name, Reply, answer_in}

@@ -1,5 +1,5 @@
 -- Files whose own lists are in order.
-use Rattle.std.proofs.Common.{◌≡◌, ◌≤◌, ◌+◌, ◌∙◌, ◌⊎◌, ◌++◌, ◌∷◌, [], ℕ, Bool, true, false, List, None, Option, Some, append-nil, arith, inl, inr, map, sym}
+use Rattle.std.proofs.Common.{◌≡◌, ◌≤◌, ◌∙◌, ◌⊎◌, ◌++◌, ◌∷◌, [], ℕ, Bool, true, false, List, None, Option, Some, append-nil, arith, inl, inr, map, sym}
 use Rattle.std.proofs.lemmas.List.{map-append}
 use Rattle.gm_name_table.specs.Listed.{BeginsWith}
 use Rattle.gm_graph.specs.declared.cache.summary.Kept.{Kept}
