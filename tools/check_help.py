@@ -1,8 +1,22 @@
-"""Compares the man page and the completions with what `gomod --help` shows, as tools/check-help.sh says."""
+"""Checks that the man page and the completions have what `gomod --help` shows: each command, each option of each
+command, each operation of edit, and nothing else.
+
+    tools/check-help.sh
+
+Of share/man/gomod.1 it reads the forms of SYNOPSIS and the lists of COMMANDS, OPTIONS and OPERATIONS. It calls the
+completion for bash, and reads those for zsh and fish, so neither of them has to be installed. Then it completes lines
+in bash, and in zsh and fish where they are installed (tools/completions.py): folders, also after a comma, go's cache,
+and the paths of a go.mod.
+
+It needs bin/gomod (./build makes it), bash and python3. It prints each difference, what was compared, and what was
+skipped for want of which shell. The status is 1 if there is a difference. .ci/run runs it after the merge gate.
+"""
+
 import re
 import shlex
 import subprocess
 
+import completions
 import script
 from script import read
 
@@ -160,6 +174,7 @@ def compare_all(name, wanted, has):
 
 def main():
     """Compares each file, prints what was compared, and returns the status."""
+    script.need_gomod()
     wanted = from_help()
     in_synopsis, listed_commands, listed_options = from_man()
     wrong = compare_all(MAN, wanted, in_synopsis)
@@ -171,8 +186,8 @@ def main():
     counts = len(wanted.commands), sum(map(len, wanted.options.values())), len(wanted.operations)
     print("%d commands, %d options and %d operations" % counts, end=", ")
     print(f"in the man page and three completions: {wrong} wrong")
-    return 1 if wrong else 0
+    return int(completions.main() or wrong)
 
 
 if __name__ == "__main__":
-    script.run(main)
+    script.run(main, "")

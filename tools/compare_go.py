@@ -1,4 +1,37 @@
-"""Compares bin/gomod with an installed go command. tools/compare-go.sh starts it and says what it prints."""
+"""Compares bin/gomod with an installed go command on random modules, or on a module cache and a main file of one's own.
+
+    tools/compare-go.sh [WORLDS [SEED]]     random worlds SEED, SEED + 1, .. (100 from 1)
+    tools/compare-go.sh --cache DIR --mod FILE [EDITS [SEED]]
+                                            a cache/download folder, and a go.mod with random edits (100)
+    tools/compare-go.sh --rows [ROW]        the worlds of tools/go_rows.py, for each row of docs/use/GO.md or this one
+    tools/compare-go.sh --go COMMAND ..     with this go, as /usr/lib/go-1.19/bin/go
+    tools/compare-go.sh --check             the check of this script that .ci/run runs, which needs no go
+    tools/compare-go.sh --record COMMAND    writes what go answers in that check anew
+
+First a module that `go mod tidy` and `go mod download` made ready, with packages, is compared; it isn't counted. A
+world is a proxy folder with some modules, pruned and unpruned, a main file with or without excludes, replacements
+by modules and folders, retractions and a go.sum, and now and then a missing or faulty file, made from its number
+alone. Both programs are asked for list, graph, versions (with and without retracted ones), edit and fmt, and each
+chain of gomod is looked up in the graph of go. go runs without a network, with its module cache, its GOPATH and all
+that it writes in a scratch folder. If go updates the main file, gomod reads what that leaves.
+
+It prints the version of go, each difference that docs/use/GO.md does not name in full, with the number of its world,
+and for each command how many results were the same, refused by both, or differ in a way that has a row in the table
+of docs/use/GO.md; a result can differ in several. The status is 1 if there is a difference without a name.
+
+--rows asks both in worlds made by hand. The status is 1 unless each row of the table of docs/use/GO.md has a world,
+each world has a difference of its row and of no other, and both programs say what tools/go_rows.py has of them.
+
+--check compares a tidy module with the cache that `go mod download` filled, example/go.mod, example/tidy.mod, and the
+worlds of --rows. Instead of go there is tools/recorded_go.py, which gives the answers of go 1.19.8 in
+tools/go_answers.json. The status is 1 unless there is no difference without a name, each one is named if gomod leaves
+out a line of a command, and a proxy without the .info of a pruned-out module is found, and so are a row taken out of
+docs/use/GO.md, one without a world, and a world with a difference that has no row.
+
+It needs bin/gomod (./build makes it), a go command of 1.19 or later (in Debian: apt-get install golang-go) and
+python3. 300 worlds take about 35 s of CPU time.
+"""
+
 import argparse
 import collections
 import os
@@ -11,6 +44,7 @@ import sys
 import tempfile
 
 import go_rows
+import script
 from go_worlds import (
     UNFETCHABLE, World, escaped, fits, lay_tidy_world, lay_version, operations, order_of, unescaped
 )
@@ -626,16 +660,21 @@ def in_scratch(compare, *words):
         shutil.rmtree(room)
 
 
-def main():
+def main(*words):
     """Compares worlds, rows of GO.md or a module, as the words say."""
-    parser = argparse.ArgumentParser(description=__doc__, formatter_class=argparse.RawDescriptionHelpFormatter)
+    if not os.access(GOMOD, os.X_OK):
+        sys.exit("compare-go: there is no bin/gomod: run ./build")
+    if words[:1] in (("--check",), ("--record",)):
+        import recorded_go
+        return recorded_go.main(*words)
+    parser = argparse.ArgumentParser(add_help=False)
     parser.add_argument("worlds", nargs="?", type=int, default=100)
     parser.add_argument("seed", nargs="?", type=int, default=1)
     parser.add_argument("--go", default="go")
     parser.add_argument("--rows", nargs="?", const="")
     parser.add_argument("--cache")
     parser.add_argument("--mod", default="go.mod")
-    asked = parser.parse_args()
+    asked = parser.parse_args(words)
     go = shutil.which(asked.go)
     if not go:
         raise SystemExit(f"compare-go: there is no command '{asked.go}': install go, or name one with --go")
@@ -655,4 +694,5 @@ def main():
     return 1 if found.unexplained else 0
 
 
-sys.exit(main())
+if __name__ == "__main__":
+    script.run(main)

@@ -1,7 +1,5 @@
 """What the completions of share/completions do in real shells, for tools/check-help.sh.
 
-    completions.py      completes some lines in bash, and in zsh and fish where they are installed
-
 bash and zsh run in a terminal of their own. A line is typed, then TAB, then a key that this binds to write the line to
 a file. fish says itself how it completes a line (`complete -C`). All run in a scratch folder with a go.mod, folders and
 a home with go's cache. It prints each line that comes out wrong, how many were right and wrong, and how many were
@@ -16,7 +14,6 @@ import select
 import shutil
 import signal
 import subprocess
-import sys
 import tempfile
 import time
 
@@ -176,11 +173,8 @@ def differences(name, room):
         shell.close()
 
 
-def main(*words):
+def main():
     """Completes all lines in all shells."""
-    if words:
-        print("completions: completions.py --help says what it takes", file=sys.stderr)
-        return 2
     wrong, tried, skipped = 0, [], []
     for name in SHELLS:
         if not shutil.which(name):
@@ -195,8 +189,8 @@ def main(*words):
     print(f"lines completed in {', '.join(tried)}: {len(tried) * len(PAIRS) - wrong} right, {wrong} wrong")
     for name in skipped:
         print(f"skipped, for want of {name}: {len(PAIRS)} completed lines")
-    return 1 if wrong else 0
+    return wrong > 0
 
 
 if __name__ == "__main__":
-    script.run(main)
+    script.run()

@@ -1,4 +1,29 @@
-"""Checks what the documents name, and how long they are, for tools/documents.sh, which says what it looks at."""
+"""Checks what the documents name: that each file, crate, function, clause, law, test, edit, commit and title of a case
+is there, and that counts are right. It also checks that no document has more words than its budget: README.md has at
+most 800 words outside examples and tables, and names at most eight sentences on what is verified, of at most 30 words
+each; a release has at most 500 words in CHANGELOG.md. And it checks that each figure that README.md shows of speed is
+the one of docs/dev/BENCHMARKS.md, and that both name the commit that was measured, which changed a source; and that
+docs/use/MESSAGES.md has each usage error that a case prints.
+
+    tools/documents.sh           README.md, all documents of docs/, PROOFS.md and MISTAKES.md of crates, budgets and
+                                 figures
+    tools/documents.sh FILE..    these, and neither budgets, figures nor usage errors
+    tools/documents.sh --accept NAME..  writes the checksums anew of the sentences bound to these laws, or to `all`
+
+Beside each sentence of README.md on what is verified, and each of docs/proof/PROVED.md that names a law, a comment
+has a checksum of the sentence and one of what the law states (tools/sentences.py). If one is no longer right, both
+texts are printed. Who changes one compares them before --accept.
+
+What is looked at is what stands in the notation of docs/dev/DEVELOPING.md ("What a document names"); anything else
+isn't. The other budgets are a table below, of single documents and of several together. Their words are what blanks
+separate, in indented examples too, without the bars of tables, fenced code and comments of HTML, and without what
+other files say: quotes (lines that begin with `>`), and what scripts write between marks (`<!-- show`). It needs git
+and python3, but no program. In a clone without its whole history commits are not looked for, and it says so. It
+prints each thing that isn't there, with its file and line, each document that is too long or not there, how many
+commits changed a source since the figures were measured, and how many of each kind it looked at. The status is 1 if
+one was wrong. .ci/run runs it before the merge gate.
+"""
+
 import collections
 import fnmatch
 import glob
@@ -9,6 +34,7 @@ import subprocess
 import sys
 
 import script
+import sentences as sentences_of_laws
 from script import Tally, read
 from sources import USE, code_of, exports, functions, items_of, names_in, public_items
 
@@ -493,6 +519,9 @@ def keep_messages(tally):
 
 def main(*names):
     """Looks up what the documents name, prints what isn't there, and returns the status."""
+    if names[:1] == ("--accept",):
+        return sentences_of_laws.accept(names[1:])
+    wrong = not names and sentences_of_laws.compare()
     if git("rev-parse", "HEAD").returncode:
         sys.exit("documents: this is no repository of git, so nothing can be looked up")
     sources, tally = Sources(), Tally()
@@ -504,8 +533,8 @@ def main(*names):
         keep_figures(tally)
         keep_messages(tally)
         keep_lengths(tally)
-    return tally.status()
+    return int(tally.status() or wrong)
 
 
 if __name__ == "__main__":
-    script.run(main)
+    script.run(main, "( --accept .+| [^-].*)?")

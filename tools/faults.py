@@ -1,9 +1,23 @@
-"""Makes each open, read, write and close of some command lines of gomod fail in turn, and then two calls at once.
+"""Makes each open, read, write and close of command lines of bin/gomod fail in turn, and then two calls at once.
 
-    faults.py PROGRAM LIBRARY SECONDS SEED
+    tools/faults.sh                   with two faults for 20 seconds: what .ci/run runs
+    tools/faults.sh SECONDS [SEED]    for so many seconds, other pairs for another seed (1)
+    tools/faults.sh --whole [SEED]    before a release: with two faults for 300 seconds, then under limits, with odd
+                                      streams and signals (tools/limits.py), and for 60 seconds over files that others
+                                      change meanwhile (tools/races.py)
+    tools/faults.sh --program FILE .. the same with another program
 
-LIBRARY is what tools/faults.c becomes; tools/faults.sh says what is tried. What is right follows from the run without a
-fault, whose calls the library tells: which file each open and read is of, and how much was written before each write.
+There are two command lines or more of each command, which read each kind of file that it has. What is right follows
+from the run without a fault, whose calls the library tells. Each call fails alone, and then with all later ones of its
+kind, with every error that Linux documents for it, and each read and write moves fewer bytes than it may, down to 1, or
+to none for a write. A file that can't be read has to be the one that is reported, with status 3; one that isn't found
+is missing; a failed write leaves what was written before, with status 3; a close that fails changes nothing, and
+neither does a short read or write. With two faults, allocations among them, the result is one that one of them has, or
+a beginning of it. tools/refuse-memory.sh refuses each allocation.
+
+It prints each fault after which a result is wrong, as a value of FAULTS (tools/faults.c), and how many runs there were.
+The status is 1 if one was wrong. It needs a C compiler (`cc`, or what CC names), python3 and bin/gomod (./build makes
+it), and takes 30 s of CPU time beside the seconds for two faults, on all processors.
 """
 
 import concurrent.futures
@@ -14,6 +28,7 @@ import random
 import re
 import shutil
 import subprocess
+import sys
 import tempfile
 import time
 from typing import NamedTuple
@@ -32,7 +47,8 @@ ERRORS = {
 }
 # how few bytes a read or write may move; a read of none is the end of a file, so only writes may move none
 LENGTHS = {"read": range(1, 20), "write": range(20)}
-MAIN, SUMS = read("example/go.mod").encode(), read("example/go.sum").encode()
+# files that are standard input
+MAIN, SUMS = "example/go.mod", "example/go.sum"
 # Two command lines or more of each command, each with its standard input. Together those of a command read each kind of
 # file that it has: by name and from standard input, of a proxy and a folder, with and without sums. E is example/, D
 # and V are of the cases, and M has a main file whose faults are longer than what is written at once.
@@ -96,7 +112,8 @@ class Line:
     """A command line, the result that it has without a fault, and its calls."""
 
     def __init__(self, trial, text, stdin):
-        self.trial, self.text, self.words, self.stdin = trial, text, text.split(), stdin
+        self.trial, self.text, self.words = trial, text, text.split()
+        self.stdin = read(stdin).encode() if isinstance(stdin, str) else stdin
         *self.plain, told = trial.run(self, [])
         self.plain, self.calls, files = tuple(self.plain), [], {"0": "-"}
         for call, argument, result in (it.rsplit(" ", 1)[0].split(" ", 1) + [it.rsplit(" ", 1)[1]] for it in told[:-1]):
@@ -263,21 +280,42 @@ class Trial(script.Trial):
             self.all_at(jobs)
 
 
-def main(program, library, seconds, seed):
+def main(*words):
     """Tries all, and returns the status."""
+    program, words = script.program_of(words)
+    is_whole = words[:1] == ("--whole",)
+    numbers = ["300", *words[1:]] if is_whole else words
+    seconds, seed = [*numbers, *("20", "1")[len(numbers):]]
+    is_wrong = try_faults(program, int(seconds), int(seed))
+    for words in [["limits.py", program], ["races.py", program, "60", seed]] if is_whole else []:
+        is_wrong |= subprocess.run([sys.executable, "-B", f"tools/{words[0]}", *words[1:]]).returncode
+    return int(is_wrong > 0)
+
+
+def compiled(folder):
+    """The library that tools/faults.c becomes."""
+    compiler, library = os.environ.get("CC") or "cc", os.path.join(folder, "faults.so")
+    if not shutil.which(compiler):
+        sys.exit(f"faults: there is no command {compiler}: install a C compiler, or name one by CC")
+    subprocess.run([compiler, "-O1", "-shared", "-fPIC", "-o", library, "tools/faults.c"], check=True)
+    return library
+
+
+def try_faults(program, seconds, seed):
+    """Tries each fault, and pairs of them for so many seconds, and gives whether a run was wrong."""
     with tempfile.TemporaryDirectory(prefix="gomod-faults-") as folder:
         for name, place in FOLDERS.items():
             shutil.copytree(place, os.path.join(folder, name))
         many = "".join(f"require local/{it} v1.0.0\n" for it in range(200))
         write(os.path.join(folder, "M", "go.mod"), f"module m\n{many}")
-        trial = Trial(program, library, folder)
+        trial = Trial(program, compiled(folder), folder)
         lines = [Line(trial, *it) for it in LINES]
         trial.try_each(lines)
         single = trial.runs
-        trial.try_pairs(lines, float(seconds), int(seed))
+        trial.try_pairs(lines, seconds, seed)
         print(f"{single} runs with a fault, {trial.runs - single} with two, {trial.wrong} wrong")
-        return 1 if trial.wrong else 0
+        return trial.wrong > 0
 
 
 if __name__ == "__main__":
-    script.run(main)
+    script.run(main, r"( --program \S+)?( --whole( \d{1,9})?|( \d{1,9}){0,2})")

@@ -1,4 +1,39 @@
-"""Keeps the pages with shown definitions, and the crate with copies of them, in step, as tools/headline.sh says."""
+"""Keeps the pages that show what `gomod list` is proved to print, and the crate page, in step with the definitions and
+with docs/proof/SPEC.md.
+
+    tools/headline.sh          writes the shown definitions into the pages anew: HEADLINE, REPORTS, BYTES, DIRECTIVES,
+                               EDITS, NAMES, OTHERS; and copies of those that `list` needs into crates/page/specs
+    tools/headline.sh --check  changes nothing, and tells which page or copy is out of step, or too long
+
+Between the marks `<!-- show .. -->` and `<!-- end -->` of a page stands what the sources say, and it is written anew:
+
+    show FILE: NAME..           these definitions of a file below crates/, with their comments
+    show contract FILE F: C..   these clauses of the function F in a source
+    show worlds                 which functions of gomod_laws/src/example_world.rt try which definition
+    show names                  each name that the page uses and doesn't define, and its file
+
+All other text of a page is written by hand. A quote (a line that begins with `>`) must stand in docs/proof/SPEC.md
+word by word. The same definition stands on one page only. HEADLINE shows a name before what it is made of, the other
+pages after that.
+
+The copies in crates/page are of all definitions that `ListEnds` reaches, but for those that the crate defines itself:
+specs/Types.antt and Files.antt, written by hand, stand in for types of the code, for what bytes say, and for the
+go.sum.
+
+Each definition that the contract of `run` reaches must be on one of the pages. From `ListEnds` to the leaves
+HEADLINE.md may have 45 definitions and 170 lines, or --check fails. A leaf is what another page defines: names, their
+order and answers (NAMES.md), what bytes and answers say (DIRECTIVES.md), texts, the limit, the rest after a path and
+the go.sum (REPORTS.md); or what the code or the standard library does.
+
+The last lines count what one reads to believe a contract: that of `gomod_run::run`, and of all functions that the
+libraries export. A definition is reached if a name of it stands in a clause or in a definition that is reached, and
+it has as many lines as are neither empty nor a comment. A type of the code is private if its crate doesn't export
+it.
+
+The status of --check is 1 if a page or a copy is out of step. .ci/run runs it before the merge gate. It needs
+python3.
+"""
+
 import functools
 import pathlib
 import re
@@ -372,7 +407,7 @@ def unshown(found, pages):
     return [it for it in reached if it not in shown], sum(any(it in page.defined for it in reached) for page in pages)
 
 
-def counts(option, pages):
+def counts(pages):
     """Prints how much the contract of `run` reaches, and gives how many definitions of it are on no page."""
     clauses = clauses_of(RUNNING, "run")
     ends, every = (
@@ -388,12 +423,9 @@ def counts(option, pages):
     rows, types = [], set()
     for name, used in exported():
         count, size, private = size_of(it for _, it in used)
-        rows.append((count, f"{name}: {size}", private))
+        rows.append((count, f"{name}: {size}"))
         types.update(private)
     print(f"all {len(rows)} exported contracts, the most for {max(rows)[1]}; {len(types)} private types of the code")
-    if option == "--names":
-        for _, row, private in sorted(rows, key=lambda it: it[1]):
-            print(f"  {row}{'; private: ' if private else ''}{' '.join(private)}")
     return len(unshown(every, pages)[0])
 
 
@@ -423,9 +455,9 @@ def main(option=""):
         size = sum(it.size() for it in page.defined)
         print(f"{page.path}: {len(page.defined)} definitions, {size} lines")
     wrong += keep_short(pages[0], pages[1:]) + renew_copies(option)
-    wrong += counts(option, pages)
+    wrong += counts(pages)
     return 1 if wrong else 0
 
 
 if __name__ == "__main__":
-    script.run(main)
+    script.run(main, "( --check)?")

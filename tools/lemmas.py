@@ -1,10 +1,22 @@
-"""Compares the lemmas of the crates with those of the standard library and each other, for tools/lemmas.sh.
+"""Counts the lemmas of crates/*/proofs that restate one of the toolchain's standard library, the names that three or
+more lemmas have which say different things, and the statements that are proved twice or more often.
 
-    lemmas.py KIT WORD..    KIT is the folder of the toolchain; the words are those of tools/lemmas.sh
+    tools/lemmas.sh            each such lemma, with the standard library's, each such name, statement, and the counts
+    tools/lemmas.sh --check    the same, with status 1 if there is such a lemma, more than 20 such names, or another
+                               number of such statements than TWICE
+
+A lemma restates another if their types are the same text once all variables are renamed in the order in which they
+come, and brackets and blanks are left out. So one with other premises, or over another type, isn't counted. The
+standard library's lemmas are those on the pages of the toolchain's std/lemmas, which any crate may cite. Answers to
+goals (proofs/MODULE/FUNCTION) are no lemmas, and crates/page proves copies of statements. It needs rt, python3, and
+two seconds. .ci/run runs it with --check.
 """
+
 import collections
 import pathlib
 import re
+import shutil
+import subprocess
 import sys
 
 import script
@@ -38,33 +50,28 @@ def plain(statement):
 def standard_lemmas(kit):
     """The lemmas of the standard library: by what they say, the name and the page of each."""
     known = {}
-    pages = pathlib.Path(kit, "rattle", "std", "lemmas")
+    pages = kit / "rattle/std/lemmas"
     for path in sorted(pages.rglob("*.md")):
         for name, statement in lemmas_of(path):
             known.setdefault(plain(statement), f"{name} ({path.relative_to(pages)})")
     return known
 
 
-def own_lemmas(chosen):
-    """The lemmas of the chosen crates, or of all if none is chosen: crate, file, name and what each says."""
+def own_lemmas():
+    """The lemmas of the crates: crate, file, name and what each says."""
     for path in files("proofs/*.antt"):
-        crate = path.parts[1]
-        if not chosen or crate in chosen:
-            for name, statement in lemmas_of(path):
-                yield crate, path.stem, name, plain(statement)
+        for name, statement in lemmas_of(path):
+            yield path.parts[1], path.stem, name, plain(statement)
 
 
-def main(kit, *words):
-    """Counts, and lists or checks, as the words say."""
-    is_checked = "--check" in words
-    is_listed = is_checked or "--list" in words
-    chosen = [word for word in words if word not in ("--check", "--list")]
-    for word in chosen:
-        if not pathlib.Path("crates", word).is_dir():
-            sys.exit(f"lemmas: there is no crate {word}")
-    known = standard_lemmas(kit)
+def main(*words):
+    """Lists and counts, or checks the counts, too."""
+    if not shutil.which("rt"):
+        script.misused("there is no rt: put the toolchain's bin/ on the PATH")
+    guide = subprocess.run(["rt", "doc"], capture_output=True, text=True, check=True).stdout.strip()
+    known = standard_lemmas(pathlib.Path(guide).parent)
     restated, meanings, places = [], collections.defaultdict(set), collections.defaultdict(list)
-    for crate, file, name, said in own_lemmas(chosen):
+    for crate, file, name, said in own_lemmas():
         meanings[name].add(said)
         if crate != PAGE:
             places[said].append(f"{crate}/proofs/{file}: {name}")
@@ -72,19 +79,17 @@ def main(kit, *words):
             restated.append(f"{crate}/proofs/{file}: {name} restates {known[said]}")
     twice = sorted(it for it in places.values() if len(it) > 1)
     shared = sorted((-len(said), name) for name, said in meanings.items() if len(said) >= 3)
-    if is_listed:
-        print(*restated, *(f"{name}: {-many} different lemmas" for many, name in shared), sep="\n")
-    if is_listed and (not is_checked or len(twice) != TWICE):
-        print(*(f"one statement: {', '.join(it)}" for it in twice), sep="\n")
+    print(*restated, *(f"{name}: {-many} different lemmas" for many, name in shared),
+          *(f"one statement: {', '.join(it)}" for it in twice), sep="\n")
     print(f"{len(restated)} lemmas restate one of the standard library")
     print(f"{len(shared)} names have three or more lemmas that differ")
     print(f"{len(twice)} statements are proved twice or more often")
-    if is_checked and (restated or len(shared) > MOST_SHARED or len(twice) > TWICE):
+    if words and (restated or len(shared) > MOST_SHARED or len(twice) > TWICE):
         sys.exit(f"lemmas: cite the lemmas of the standard library and of lower crates, and let at most {MOST_SHARED} "
                  f"names be shared and {TWICE} statements be proved twice")
-    if is_checked and len(twice) < TWICE:
+    if words and len(twice) < TWICE:
         sys.exit(f"lemmas: fewer statements are proved twice: let TWICE of tools/lemmas.py be {len(twice)}")
 
 
 if __name__ == "__main__":
-    script.run(main)
+    script.run(main, "( --check)?")

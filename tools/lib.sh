@@ -79,18 +79,6 @@ need_gomod() {
   warn_if_older
 }
 
-# Sets `program` to the file after --program, if that is the first argument, or else to bin/gomod, and `given` to the
-# number of these arguments.
-choose_program() {
-  program=bin/gomod given=0
-  if [ "${1-}" = --program ]; then
-    [ -x "${2-}" ] || misused "--program takes an executable file"
-    program=$2 given=2
-  else
-    need_gomod
-  fi
-}
-
 # A folder that stands for / where the next functions read /proc and /sys: a test gives one with its own files.
 GOMOD_MACHINE=${GOMOD_MACHINE:-}
 

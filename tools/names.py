@@ -1,4 +1,18 @@
-"""Finds where options and operations are named, for tools/names.sh, which says what is wrong."""
+"""Checks that each option and each operation is named once: its name stands as a string in one file of src/ and in one
+of specs/, over all crates, and help lists the operations that there are.
+
+    tools/names.sh    prints what is wrong, and how many names it looked for
+
+The names are those of the tables: of options in src/table.rt and specs/Table.antt of gomod_words, of operations in
+src/kind.rt and specs/Operations.antt of gm_operation. A name that one table has and the other hasn't is wrong, and so
+is one that stands in another file too, or twice in a table. A string is a name with or without its dashes or its `=`;
+longer texts, such as help, aren't looked at, but for help's list of operations.
+
+Aside are crates that no program or library of users is made of (cases, tests, laws, page, library_example), and, by a
+list in tools/names.py, words that are spelled alike and are something else: the directives of a go.mod file, and
+`mod` of the go command. It needs python3. .ci/run runs it before the merge gate.
+"""
+
 import collections
 import pathlib
 import re
@@ -99,7 +113,7 @@ def wrong_help(operations):
         yield f"{HELP}: the list of operations {'lacks' if name in operations else 'has'} '{name}'"
 
 
-def main(*words):
+def main():
     """Looks at all names."""
     kinds = {name: kind for kind, tables in TABLES.items() for table in tables for name in rows_of(*table)}
     places, unused = places_of(kinds)
@@ -107,9 +121,6 @@ def main(*words):
     wrong += [line for name, kind in kinds.items() for line in wrong_places(kind, name, places)]
     wrong += wrong_help({name for name, kind in kinds.items() if kind == "operation"})
     wrong += [f"tools/names.py: {it} has no such word" for it in unused]
-    if words:
-        for name, kind in kinds.items():
-            print(f"{kind} {name}: {', '.join(sorted({**places[name]['src'], **places[name]['specs']}))}")
     for line in wrong:
         print(line)
     counts = collections.Counter(kinds.values())
@@ -118,4 +129,4 @@ def main(*words):
 
 
 if __name__ == "__main__":
-    script.run(main)
+    script.run(main, "")

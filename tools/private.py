@@ -1,4 +1,22 @@
-"""Finds the definitions of specs/ that no public contract reaches, for tools/private.sh, which says what that means."""
+"""Checks that who opens the specs/ of a crate finds what its promises mean: definitions that no public contract reaches
+stand apart, in specs/Private of their crate.
+
+    tools/private.sh              prints each definition that stands in the wrong folder, and each name that
+                                  definitions in two files of specs/ have; the status is 1 if there is one
+    tools/private.sh --why NAME   prints how a public contract reaches the definitions of this name, each after what
+                                  reaches it
+
+Public contracts are those of the functions, traits and types that a crate offers, from its root or a public module,
+the laws among them. The model of such a type counts, and what it implements, unless the trait is private; and so do
+types that a signature names but that the crate doesn't offer by name. A contract reaches the definitions that it
+names, what these name, and, if a type of the code has no value of its own, the types of its fields. What a ghost
+field demands of the others doesn't count.
+
+A name counts if the file imports or declares it, even if a variable has it where it stands. So a definition may count
+as reached that isn't: give the variable another name. crates/page is left out, whose definitions are copies. It needs
+python3, and takes two seconds. .ci/run runs it before the merge gate.
+"""
+
 import collections
 import re
 import sys
@@ -262,15 +280,9 @@ class Program:
 
 
 def main(*words):
-    """Compares the folders of all definitions, or lists some, as the words say."""
+    """Compares the folders of all definitions, or says why one is reached."""
     program = Program()
-    if words == ("--list",):
-        for module in program.modules.values():
-            for it in module.definitions:
-                if not program.is_reached(module, it):
-                    print(f"{module.file}:{it.line}: {it.name}")
-        return
-    if len(words) == 2 and words[0] == "--why":
+    if words:
         lines = list(program.why(words[1]))
         print(*lines or [f"no public contract reaches {words[1]}"], sep="\n")
         sys.exit(0 if lines else 1)
@@ -285,4 +297,4 @@ def main(*words):
 
 
 if __name__ == "__main__":
-    script.run(main)
+    script.run(main, r"( --why \S+)?")

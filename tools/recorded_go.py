@@ -1,10 +1,7 @@
 """Runs tools/compare-go.sh with recorded answers of go, where there may be no go command.
 
-  python3 -B tools/recorded_go.py --check        what `tools/compare-go.sh --check` does
-  python3 -B tools/recorded_go.py --record GO    writes tools/go_answers.json anew, with the answers of a real go
-  python3 -B tools/recorded_go.py --answer FILE REAL WORDS..
-                                                 what stands in for go: prints the answer to these words that a file
-                                                 has, or, if REAL isn't empty, asks that go and adds its answer
+    recorded_go.py FILE REAL WORDS..    what stands in for go: prints the answer to these words that a file has, or, if
+                                        REAL isn't empty, asks that go and adds its answer
 
 An answer holds for the words, GOFLAGS, the files of the current folder and those of the proxy folder, of zip files only
 the names. It has what was asked, the status, what was printed, and the files that go then left: those of the folder,
@@ -27,7 +24,7 @@ from script import read, write
 TOP = os.path.dirname(os.path.dirname(os.path.abspath(__file__)))
 ANSWERS = os.path.join(TOP, "tools", "go_answers.json")
 # What a comparison reads of the repository.
-TOOLS = ("compare-go.sh", "compare_go.py", "go_rows.py", "go_worlds.py", "lib.sh", "script.py")
+TOOLS = ("compare-go.sh", "compare_go.py", "go_rows.py", "go_worlds.py", "script.py")
 FILES = [f"tools/{it}" for it in TOOLS] + ["docs/use/GO.md"]
 SECONDS = 900
 # Mistakes: without the .info of modules that are pruned out; a row with no world; none, where a difference has one.
@@ -136,7 +133,7 @@ class Check:
 
     def __init__(self, room, file, real=""):
         self.room, self.right, self.wrong = room, 0, 0
-        stand_in = [sys.executable, "-B", os.path.abspath(__file__), "--answer", file, real]
+        stand_in = [sys.executable, "-B", os.path.abspath(__file__), file, real]
         write(f"{room}/go/go", f"#!/bin/sh\nexec {shlex.join(stand_in)} \"$@\"\n", 0o755)
 
     def run(self, *words, gomod="", mistake=None):
@@ -208,18 +205,15 @@ def real_go(command):
 
 
 def main(*words):
-    """Does what the words say, and returns the status."""
+    """Does what tools/compare-go.sh does with these words, and returns the status."""
     match words:
-        case ["--answer", file, real, *rest]:
-            return answer(file, real, *rest)
         case ["--check"]:
             real = ""
         case ["--record", command]:
             real, version = real_go(command)
             write(ANSWERS, json.dumps({"version": version, "answers": {}}))
         case _:
-            print("compare-go: --check takes nothing, --record the name of a go command", file=sys.stderr)
-            return 2
+            script.misused("--check takes nothing, --record the name of a go command")
     with tempfile.TemporaryDirectory(prefix="gomod-recorded-") as room:
         check = Check(room, ANSWERS, real)
         run_all(check)
@@ -228,4 +222,4 @@ def main(*words):
 
 
 if __name__ == "__main__":
-    script.run(main)
+    script.run(answer)

@@ -1,19 +1,48 @@
 """What the scripts in Python share. They begin with `script.run(main)`, in the file that is run.
 
     NAME.py -h, NAME.py --help    print the docstring of that file, as they do here
+
+What tools/NAME.sh does stands in NAME.py, if there is one with that name.
 """
 
 import collections
 import hashlib
 import itertools
 import os
+import pathlib
+import re
+import subprocess
 import sys
 import tempfile
+
+NAME = pathlib.Path(sys.argv[0]).stem.replace("_", "-")
 
 
 def no_words(*_):
     """The main function of a file that others import: it takes no words."""
     return 2
+
+
+def misused(reason):
+    """Ends with status 2, since the words of the script aren't right."""
+    print(f"{NAME}: {reason}; 'tools/{NAME}.sh --help' says what it takes", file=sys.stderr)
+    sys.exit(2)
+
+
+def program_of(words):
+    """The program that the words name after --program, or bin/gomod, and the other words."""
+    if words[:1] == ("--program",):
+        if not os.access(words[1], os.X_OK):
+            misused("--program takes an executable file")
+        return os.path.realpath(words[1]), words[2:]
+    need_gomod()
+    return os.path.realpath("bin/gomod"), words
+
+
+def need_gomod():
+    """Ends if there is no bin/gomod, and warns if that is older than a source."""
+    if subprocess.run(["bash", "-c", ". tools/lib.sh; need_gomod", f"tools/{NAME}.sh"]).returncode:
+        sys.exit(1)
 
 
 def read(name):
@@ -89,12 +118,16 @@ def checksum(text):
     return digits.translate(str.maketrans("0123456789abcdef", "ghijklmnopqrstuv"))
 
 
-def run(main=no_words):
-    """Ends with what the main function makes of the words, or prints the docstring if it is asked for."""
-    if sys.argv[1:2] in (["-h"], ["--help"]):
+def run(main=no_words, takes=".*"):
+    """Ends with what the main function makes of the words, which have a form, each after a blank; or prints the
+    docstring if it is asked for."""
+    words = sys.argv[1:]
+    if words[:1] in (["-h"], ["--help"]):
         print(sys.modules["__main__"].__doc__.strip())
         sys.exit()
-    sys.exit(main(*sys.argv[1:]))
+    if not re.fullmatch(takes, "".join(f" {it}" for it in words), re.S):
+        misused(f"it doesn't take '{' '.join(words)}'" if words else "it takes arguments")
+    sys.exit(main(*words))
 
 
 if __name__ == "__main__":

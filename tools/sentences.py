@@ -4,10 +4,6 @@ Beside a sentence that names a law, in PROVED.md's "What you can rely on", and b
 verified", stands a comment: the laws' names, a checksum of the sentence and one of what the laws state. A law states
 the clauses of its function, and the definitions that these cite in the specs/ of its crate, with what those cite there:
 in gomod_laws in any file, elsewhere in the same one and in those of laws. Comments of sources and blanks don't count.
-
-    sentences.py                  compares, and prints each sentence whose checksums are no longer right
-    sentences.py --accept NAME..  what tools/documents.sh --accept does
-    sentences.py --pairs          prints each sentence and what its laws state
 """
 import collections
 import dataclasses
@@ -136,7 +132,7 @@ def show(one):
 
 
 def compare():
-    """Prints each sentence whose checksums are no longer right, and gives how many are."""
+    """Prints each sentence whose checksums are no longer right, and gives whether there is one."""
     wrong = count = 0
     for file in SECTIONS:
         for one in sentences(file)[0]:
@@ -155,17 +151,17 @@ def compare():
                       f"tools/documents.sh --accept {one.laws[0]}:")
                 show(one)
     print(f"sentences and laws: {count - wrong} right, {wrong} wrong")
-    return wrong
+    return wrong > 0
 
 
 def accept(names):
-    """Writes the checksums anew of the sentences that are bound to these laws, and gives how many names are of none."""
+    """Writes the checksums anew of the sentences that are bound to these laws, and gives whether a name is of none."""
     used = set()
     for file in SECTIONS:
         found, lines = sentences(file)
         for one in reversed(found):
             mine = {it.split("::")[-1] for it in one.laws} & {it.split("::")[-1] for it in names}
-            if not one.laws or not (mine or names == ["all"]):
+            if not one.laws or not (mine or names == ("all",)):
                 continue
             used |= mine
             blanks = " " * (len(lines[one.number - 1]) - len(lines[one.number - 1].lstrip()) + 2)
@@ -176,21 +172,8 @@ def accept(names):
     unknown = {it.split("::")[-1] for it in names} - used - {"all"}
     for name in sorted(unknown):
         print(f"documents: no sentence is bound to {name}", file=sys.stderr)
-    return len(unknown)
-
-
-def main(*words):
-    """Does what the words say, and returns the status."""
-    if words[:1] == ("--accept",):
-        return int(accept(list(words[1:])) > 0)
-    if words == ("--pairs",):
-        for file in SECTIONS:
-            for one in sentences(file)[0]:
-                print(f"{file}:{one.number}:")
-                show(one)
-        return 0
-    return int(compare() > 0)
+    return bool(unknown)
 
 
 if __name__ == "__main__":
-    script.run(main)
+    script.run()

@@ -1,4 +1,16 @@
-"""What the check of gomod says that it trusts, for tools/trusted.sh: from a log into docs/proof/PROVED.md."""
+"""Keeps docs/proof/PROVED.md in step with what the check of gomod says that it trusts: its `axioms` lines and its
+verdict.
+
+    tools/trusted.sh LOG           writes them into PROVED.md, from what `rt ci`, or `rt check` in crates/gomod, printed
+    tools/trusted.sh --check LOG   changes nothing, and says what the page has otherwise
+
+They stand between the marks `<!-- show trusted -->` and `<!-- end -->`. What speeds a check up alone
+(`incremental=trusted`, which the gate's verdict doesn't have) is left out. If a log has no verdict of gomod, as when
+`rt ci` kept the crate from an earlier run, it says so, and there is nothing to compare. The status is 1 if the page
+differs, or has no marks. .ci/run runs --check after the merge gate. It needs python3.
+"""
+
+import os
 import pathlib
 import re
 
@@ -20,9 +32,11 @@ def said(log):
     return [*axioms, verdict.replace(" incremental=trusted", "").replace(" cache=trusted", "")]
 
 
-def main(log, option=""):
+def main(*words):
     """Compares what a log says with the page, or writes it there, and returns the status."""
-    text, lines = PAGE.read_text(), said(pathlib.Path(log).read_text(errors="replace"))
+    if not os.access(words[-1], os.R_OK):
+        script.misused("it takes the log of a check")
+    text, lines = PAGE.read_text(), said(pathlib.Path(words[-1]).read_text(errors="replace"))
     shown = MARKS.search(text)
     if shown is None:
         print(f"trusted: {PAGE} has no marks `<!-- show trusted -->`")
@@ -34,7 +48,7 @@ def main(log, option=""):
     if new == shown[1]:
         print(f"trusted: {PAGE} has what the check of gomod says, {len(lines)} lines")
         return 0
-    if option == "--check":
+    if len(words) > 1:
         print(f"trusted: {PAGE} does not have what the check of gomod says; tools/trusted.sh LOG writes it:")
         print(new, end="")
         return 1
@@ -43,4 +57,4 @@ def main(log, option=""):
 
 
 if __name__ == "__main__":
-    script.run(main)
+    script.run(main, r"( --check)? (?!-).+")
