@@ -31,7 +31,6 @@ HASHED = 5000
 
 
 def meant(escape):
-    """The text that an escape stands for."""
     simple, count, group, byte = escape.groups()
     if count:
         return all_numbered(group, int(count)) if byte is None else byte * int(count)
@@ -39,7 +38,6 @@ def meant(escape):
 
 
 def unescaped(text):
-    """A text without its escapes."""
     return ESCAPE.sub(meant, text)
 
 
@@ -62,13 +60,11 @@ def form_of(text, most):
 
 
 def numbered(text, number, most):
-    """A text with its number."""
     form, times = form_of(text, most)
     return form % ((number,) * times)
 
 
 def each_numbered(text, most):
-    """A text with each number from 1."""
     form, times = form_of(text, most)
     return map(form.__mod__, zip(*[range(1, most + 1)] * times)) if times else itertools.repeat(text, most)
 
@@ -94,7 +90,6 @@ def moderate_sizes(least, sizes):
 
 
 def sizes_of(lines, choose):
-    """The sizes that a case is run at, as they are chosen."""
     found = lines[1:] and re.fullmatch(rb"% sizes (?:(\d+) to )?(\d+(?:, \d+)*)", lines[1])
     if not found:
         return []
@@ -102,7 +97,6 @@ def sizes_of(lines, choose):
 
 
 def at_size(lines, size):
-    """The lines of a case at one of its sizes."""
     text = b"\n".join([lines[0], b"", *lines[2:]])
     for place, number in ((b"{N}", size), (b"{N-1}", size - 1), (b"{N+1}", size + 1)):
         text = text.replace(place, b"%d" % number)
@@ -149,7 +143,6 @@ class Run:
         return self.out if is_proved else PROVED.sub(UNPROVED, self.out), self.report, self.status
 
     def reads_input(self):
-        """Whether the words name standard input."""
         if self.words[1:2] == [b"versions"]:
             return not any(it.startswith(b"--proxy") for it in self.words)
         return any(it in (b"-", b"--mod=-", b"--sum=-") for it in self.words[2:])
@@ -262,7 +255,6 @@ class Case:
             self.runs[-1].take(line)
 
     def has(self, *kinds):
-        """Whether it has a piece of one of these kinds."""
         return any(it.kind in kinds for it in self.pieces)
 
     def commands(self):
@@ -270,15 +262,12 @@ class Case:
         return [it for it in self.runs if it.words[0] == b"gomod"]
 
     def is_rooted(self):
-        """Whether it has a file at the root of the system."""
         return any(it.name.startswith(b"/") and it.kind != b"pipe" for it in self.pieces)
 
     def stdin(self):
-        """What standard input has."""
         return b"".join(it.bytes_of(self.copies) for it in self.pieces if it.name == b"stdin")
 
     def text_of(self, name):
-        """The bytes of a file of the case."""
         return b"".join(it.bytes_of(self.copies) for it in self.pieces if it.name == name and it.kind != b"folder")
 
     def lay(self, folder):
@@ -318,13 +307,11 @@ class Case:
 
 
 def feed(place, text):
-    """Writes to a FIFO once it is opened."""
     with contextlib.suppress(BrokenPipeError), open(place, "wb", buffering=0) as file:
         file.write(text)
 
 
 def release(place, thread):
-    """Ends the thread that feeds a FIFO."""
     while thread.is_alive():
         os.close(os.open(place, os.O_RDONLY | os.O_NONBLOCK))
         thread.join(0.01)
@@ -383,7 +370,6 @@ def chosen_cases(words, choose):
 
 
 def bytes_below(folder):
-    """How many bytes the files of a folder have."""
     return sum(os.path.getsize(os.path.join(at, name)) for at, _, names in os.walk(folder) for name in names)
 
 
@@ -420,7 +406,6 @@ def tree_of(folder):
 
 
 def changed(before, after):
-    """The places at which two trees differ."""
     return sorted(it for it in {**before, **after} if before.get(it) != after.get(it))
 
 

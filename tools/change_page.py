@@ -20,11 +20,10 @@ The others keep the shape of their definitions, and must be refused by one of:
   the law      a run has one outcome (`outcomes_are_one`): a change that allows a second one breaks its proof
   no outcome   a run that has none (`HasNoOutcome`) would get one
 
-A fact is shown by the proof after `against`, which the prover admits; that a proof of what is said no longer fits would
-not be enough. For the law and for a run without an outcome it has to be: whether the change allows another outcome, a
-reader of the error that is printed judges. If it doesn't, the change needs a proof after `against`. If a change is
-refused only since a lemma that the worlds share no longer fits, that doesn't count: it says that a proof rests on what
-was changed, not that the list would differ.
+A fact is shown by the proof after `against`, which the prover admits. For the law and for a run without an outcome it
+has to be enough that a proof no longer fits: whether the change allows another outcome, a reader of the error that is
+printed judges. If it doesn't, the change needs a proof after `against`. That a lemma which the worlds share no longer
+fits doesn't count: it says that a proof rests on what was changed, not that the list would differ.
 
 For each that it tries it prints which of these it was, and the first error that shows it. The status is 1 if one was
 otherwise, can't be made since its text isn't there once, or if a count differs. .ci/run tries some. It needs python3,
@@ -220,7 +219,6 @@ class Room:
 
 
 def is_right(change, kind):
-    """Whether a change is refused, or, if it says the same, proved."""
     return kind == PROVED if change.is_equal else kind in REFUSED
 
 

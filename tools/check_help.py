@@ -32,7 +32,6 @@ class Known:
         self.commands, self.options, self.operations = set(), {}, set()
 
     def add(self, command, options):
-        """Adds options of a command."""
         self.options.setdefault(command, set()).update(options)
 
 

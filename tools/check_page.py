@@ -6,11 +6,8 @@ reports, and its exit status.
     tools/check-page.sh --list ..         it also prints each misreading: its definition, and a world that refutes it
 
 `Page` has what the page defines, under the names that SPEC.md gives it: one method for one rule. `WRONG` has
-misreadings of one rule each, such as that versions are ordered as texts. A world is a main file, a go.sum or none, a
-proxy folder and folders that replace modules, made from its number alone: pruned and unpruned files, excludes, replaces
-of versions and of whole paths, missing, malformed and misdeclared files, paths that no proxy has, versions from v1.9.0
-to v1.10.0, --after, --limit. In nearly half of them each module's file is there and right, so that no fault hides the
-list.
+misreadings of one rule each, such as that versions are ordered as texts. A world is made from its number alone; in
+nearly half of them each module's file is there and right, so that no fault hides the list.
 
 It prints each world on which the program and the page differ, each misreading that no world refutes, and a line with
 the counts. The status is 1 if there is either; a few worlds may not refute all misreadings. .ci/run runs it after the
@@ -186,7 +183,6 @@ class Page:
                       and not any(y[0] == x[0] and self.is_greater(y[1], x[1]) for y in ends))
 
     def rest_after(self, rows, path):
-        """What follows the row of a path."""
         if path is None:
             return rows
         at = [row[0] for row in rows].index(path)
@@ -209,7 +205,6 @@ class Page:
         return f"{x[0]}@{x[1]}: {self.fault(x)}\n"
 
     def invalid_file(self):
-        """The report of the main file, if that is invalid, or else of the go.sum."""
         return self.invalid.get("go.mod") or self.invalid.get("go.sum")
 
     def rows(self):
@@ -597,7 +592,6 @@ def compare(program, count, seed, is_listing):
 
 
 def main(*words):
-    """Compares the worlds that the words name."""
     is_listing = words[:1] == ("--list",)
     program, numbers = script.program_of(words[is_listing:])
     count, seed = [*map(int, numbers), *(300, 1)[len(numbers):]]

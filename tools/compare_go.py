@@ -9,27 +9,25 @@
     tools/compare-go.sh --record COMMAND    writes what go answers in that check anew
 
 First a module that `go mod tidy` and `go mod download` made ready, with packages, is compared; it isn't counted. A
-world is a proxy folder with some modules, pruned and unpruned, a main file with or without excludes, replacements
-by modules and folders, retractions and a go.sum, and now and then a missing or faulty file, made from its number
-alone. Both programs are asked for list, graph, versions (with and without retracted ones), edit and fmt, and each
-chain of gomod is looked up in the graph of go. go runs without a network, with its module cache, its GOPATH and all
-that it writes in a scratch folder. If go updates the main file, gomod reads what that leaves.
+world (tools/go_worlds.py) is made from its number alone. Both programs are asked for list, graph, versions (with and
+without retracted ones), edit and fmt, and each chain of gomod is looked up in the graph of go. go runs without a
+network, with all that it writes in a scratch folder. If go updates the main file, gomod reads what that leaves.
 
 It prints the version of go, each difference that docs/use/GO.md does not name in full, with the number of its world,
-and for each command how many results were the same, refused by both, or differ in a way that has a row in the table
-of docs/use/GO.md; a result can differ in several. The status is 1 if there is a difference without a name.
+and for each command how many results were the same, refused by both, or differ in a way that has a row in the table of
+docs/use/GO.md; a result can differ in several. The status is 1 if there is a difference without a name.
 
---rows asks both in worlds made by hand. The status is 1 unless each row of the table of docs/use/GO.md has a world,
-each world has a difference of its row and of no other, and both programs say what tools/go_rows.py has of them.
+--rows asks both in worlds made by hand. The status is 1 unless each row of the table has a world, each world has a
+difference of its row and of no other, and both programs say what tools/go_rows.py has of them.
 
 --check compares a tidy module with the cache that `go mod download` filled, example/go.mod, example/tidy.mod, and the
-worlds of --rows. Instead of go there is tools/recorded_go.py, which gives the answers of go 1.19.8 in
-tools/go_answers.json. The status is 1 unless there is no difference without a name, each one is named if gomod leaves
-out a line of a command, and a proxy without the .info of a pruned-out module is found, and so are a row taken out of
-docs/use/GO.md, one without a world, and a world with a difference that has no row.
+worlds of --rows, with the answers of go 1.19.8 in tools/go_answers.json (tools/recorded_go.py). The status is 1 unless
+there is no difference without a name, each one is named if gomod leaves out a line of a command, and a proxy without
+the .info of a pruned-out module is found, and so are a row taken out of docs/use/GO.md, one without a world, and a
+world with a difference that has no row.
 
-It needs bin/gomod (./build makes it), a go command of 1.19 or later (in Debian: apt-get install golang-go) and
-python3. 300 worlds take about 35 s of CPU time.
+It needs bin/gomod (./build makes it), a go command of 1.19 or later (in Debian: apt-get install golang-go) and python3.
+300 worlds take about 35 s of CPU time.
 """
 
 import argparse

@@ -58,7 +58,6 @@ PAIRS = [it.split("|") for it in LINES.strip().split("\n")]
 
 
 def lay_room(room):
-    """Lays the files and folders that lines are about."""
     for it in ("module", "first", "second", "home/go/pkg/mod/cache/download"):
         os.makedirs(f"{room}/{it}")
     for name in ("go.mod", "main.mod"):
@@ -82,7 +81,6 @@ class Terminal:
             os.execvpe(words[0], words, environment(room))
 
     def say(self, text):
-        """Types a text."""
         os.write(self.terminal, text.encode())
 
     def wait_for_file(self):
@@ -104,7 +102,6 @@ class Terminal:
         return self.wait_for_file()
 
     def close(self):
-        """Ends the shell."""
         os.kill(self.pid, signal.SIGKILL)
         os.waitpid(self.pid, 0)
         os.close(self.terminal)

@@ -1,27 +1,27 @@
 """Checks what the documents name: that each file, crate, function, clause, law, test, edit, commit and title of a case
-is there, and that counts are right. It also checks that no document has more words than its budget: README.md has at
-most 800 words outside examples and tables, and names at most eight sentences on what is verified, of at most 30 words
-each; a release has at most 500 words in CHANGELOG.md. And it checks that each figure that README.md shows of speed is
-the one of docs/dev/BENCHMARKS.md, and that both name the commit that was measured, which changed a source; and that
-docs/use/MESSAGES.md has each usage error that a case prints.
+is there, that counts are right, and that documents are no longer than their budgets.
 
-    tools/documents.sh           README.md, all documents of docs/, PROOFS.md and MISTAKES.md of crates, budgets and
-                                 figures
-    tools/documents.sh FILE..    these, and neither budgets, figures nor usage errors
+    tools/documents.sh           README.md, all documents of docs/, PROOFS.md and MISTAKES.md of crates, and what is
+                                 told of next
+    tools/documents.sh FILE..    what these name alone
     tools/documents.sh --accept NAME..  writes the checksums anew of the sentences bound to these laws, or to `all`
 
-Beside each sentence of README.md on what is verified, and each of docs/proof/PROVED.md that names a law, a comment
-has a checksum of the sentence and one of what the law states (tools/sentences.py). If one is no longer right, both
-texts are printed. Who changes one compares them before --accept.
+README.md has at most 800 words outside examples and tables, and names at most eight sentences on what is verified, of
+at most 30 words each; a release has at most 500 words in CHANGELOG.md. The other budgets are a table below; their words
+are what blanks separate, in indented examples too, without the bars of tables, fenced code and comments of HTML, and
+without what other files say: quotes (lines that begin with `>`), and what scripts write between marks (`<!-- show`).
+Each figure that README.md shows of speed is the one of docs/dev/BENCHMARKS.md, and both name the commit that was
+measured, which changed a source. docs/use/MESSAGES.md has each usage error that a case prints.
 
-What is looked at is what stands in the notation of docs/dev/DEVELOPING.md ("What a document names"); anything else
-isn't. The other budgets are a table below, of single documents and of several together. Their words are what blanks
-separate, in indented examples too, without the bars of tables, fenced code and comments of HTML, and without what
-other files say: quotes (lines that begin with `>`), and what scripts write between marks (`<!-- show`). It needs git
-and python3, but no program. In a clone without its whole history commits are not looked for, and it says so. It
-prints each thing that isn't there, with its file and line, each document that is too long or not there, how many
-commits changed a source since the figures were measured, and how many of each kind it looked at. The status is 1 if
-one was wrong. .ci/run runs it before the merge gate.
+Beside each sentence of README.md on what is verified, and each of docs/proof/PROVED.md that names a law, a comment has
+a checksum of the sentence and one of what the law states (tools/sentences.py). If one is no longer right, both texts
+are printed. Who changes one compares them before --accept.
+
+What is looked at is what stands in the notation of docs/dev/DEVELOPING.md ("What a document names"). It needs git and
+python3, but no program. In a clone without its whole history commits are not looked for, and it says so. It prints each
+thing that isn't there, with its file and line, each document that is too long or not there, how many commits changed a
+source since the figures were measured, and how many of each kind it looked at. The status is 1 if one was wrong.
+.ci/run runs it before the merge gate.
 """
 
 import collections
@@ -429,12 +429,10 @@ class Document:
 
 
 def is_shallow():
-    """Whether this is a clone without its whole history."""
     return git("rev-parse", "--is-shallow-repository").stdout.strip() == "true"
 
 
 def keep_lengths(tally):
-    """Whether each budget holds."""
     for budget, *patterns in (it.split() for it in BUDGETS.strip().split("\n")):
         gone = [it for it in patterns if not glob.glob(it)]
         count = sum(map(words_of, {name for it in patterns for name in glob.glob(it)}))
@@ -449,7 +447,6 @@ def words_in(lines):
 
 
 def sections_of(path):
-    """The lines of each section of a document, by its heading."""
     sections, heading = collections.defaultdict(list), ""
     for line in lines_of(path):
         heading = line[3:] if line.startswith("## ") else heading
@@ -471,7 +468,6 @@ def keep_budgets(tally):
 
 
 def shown_in(path):
-    """The lines that a script wrote into a document."""
     return [line for it in re.findall(f"(?ms){SHOWN}", read(path)) for line in it.split("\n")[1:-1]]
 
 

@@ -42,7 +42,6 @@ COUNTED = re.compile(r"I\s+refs:\s+([\d,]+)")
 
 
 def block(verb, lines):
-    """A block of a go.mod."""
     return f"{verb} (\n" + "".join(f"\t{it}\n" for it in lines) + ")\n"
 
 
@@ -52,7 +51,6 @@ def main_of(lines, more="", go="1.16"):
 
 
 def numbered(count, text="a.c/{} v1.0.0"):
-    """A text with each number below a count."""
     return [text.format(it) for it in range(count)]
 
 
@@ -66,12 +64,10 @@ def ring(count):
 
 
 def sum_of(path, text):
-    """The line of a go.sum for the go.mod with a text."""
     return f"{path} v1.0.0/go.mod {hash_of(text)}\n"
 
 
 def wide(count):
-    """The files of a main module that requires so many, none of which requires anything, and their sums."""
     files = {f"proxy/{it}/@v/v1.0.0.mod": f"module {it}\n" for it in numbered(count, "a.c/{}")}
     sums = "".join(sum_of(it, f"module {it}\n") for it in numbered(count, "a.c/{}"))
     return {"go.mod": main_of(numbered(count)), "go.sum": sums} | files
@@ -86,13 +82,11 @@ def pruned(count):
 
 
 def replaced(count):
-    """A main file that excludes so many versions, and replaces as many others."""
     more = block("exclude", numbered(count, "a.c v1.0.{}")) + block("replace", numbered(count, "a.c v1.1.{} => ./x"))
     return {"go.mod": main_of(["a.c v1.0.0"], more)}
 
 
 def summed(count):
-    """The files of a module, and a go.sum with so many others."""
     return {"go.mod": "module example.com/m\n", "go.sum": "".join(numbered(count, "a.c/{} v1.0.0/go.mod h1:x\n"))}
 
 
@@ -106,7 +100,6 @@ def retracted(count):
 
 
 def turned(number, left):
-    """A number of 32 bits, turned left by so many."""
     return (number << left | number >> (32 - left)) & 0xFFFFFFFF
 
 
@@ -165,13 +158,11 @@ class Row(NamedTuple):
     status: int = 0
 
     def words(self, size):
-        """The words of the command line at a size."""
         words = [re.sub(r"\{(.*)\}", lambda found: found[1] * size, it) for it in self.text.split()]
         return [one for it in words for one in ([it[1:]] * size if it.startswith("*") else [it])]
 
 
 def lines(count):
-    """A main file of so many requirements."""
     return {"go.mod": main_of(numbered(count))}
 
 
@@ -241,7 +232,6 @@ class Meter:
         return int(found[1].replace(",", "")), done.returncode, done.stderr.partition(b"\n")[0]
 
     def timed(self, words, folder, stdin):
-        """The CPU seconds of a run."""
         before = resource.getrusage(resource.RUSAGE_CHILDREN)
         done = self.run([self.program, *words], folder, stdin)
         after = resource.getrusage(resource.RUSAGE_CHILDREN)
@@ -250,7 +240,6 @@ class Meter:
 
     @staticmethod
     def run(words, folder, stdin):
-        """A run of the program."""
         out, report = subprocess.DEVNULL, subprocess.PIPE
         return subprocess.run(words, cwd=folder, input=stdin, stdout=out, stderr=report, timeout=LIMIT, check=False)
 

@@ -122,7 +122,6 @@ class Line:
             self.calls.append(Call(call, argument if call == "open" else files.get(argument, argument), int(result)))
 
     def value_of(self, option):
-        """The value of an option, or an empty text."""
         return self.words[self.words.index(option) + 1] if option in self.words else ""
 
     def name_of(self, file):
@@ -135,25 +134,20 @@ class Line:
         return os.path.dirname(file).partition("/")[2]
 
     def is_named(self, file):
-        """Whether the words name a file, or it is standard input."""
         return file in (*self.words[1:2], self.value_of("--mod"), self.value_of("--sum"), "-")
 
     def refusal(self, file):
-        """The result if a file can't be read."""
         told = f"cannot read {file}" if self.is_named(file) else f"device at {self.name_of(file)}"
         return b"", f"gomod: {told}\n".encode(), 3
 
     def missing(self, file):
-        """The line on a file that isn't there."""
         name = self.name_of(file).removesuffix(" list")
         return f"{REPLACED.get(name, name)}: Missing".encode()
 
     def of_kind(self, call):
-        """The calls of a kind."""
         return [it for it in self.calls if it.call == call]
 
     def cut(self, number):
-        """The result if the write with a number fails."""
         before = self.of_kind("write")[: number - 1]
         out, report = (sum(it.result for it in before if it.file == stream) for stream in "12")
         return self.plain[0][:out], self.plain[1][:report], 3
@@ -259,7 +253,6 @@ class Trial(script.Trial):
             pass
 
     def try_each(self, lines):
-        """Each fault of each line alone."""
         self.all_at(
             (line, [fault], lambda got, line=line, fault=fault: line.is_right(fault, got))
             for line in lines
@@ -293,7 +286,6 @@ def main(*words):
 
 
 def compiled(folder):
-    """The library that tools/faults.c becomes."""
     compiler, library = os.environ.get("CC") or "cc", os.path.join(folder, "faults.so")
     if not shutil.which(compiler):
         sys.exit(f"faults: there is no command {compiler}: install a C compiler, or name one by CC")

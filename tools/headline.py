@@ -5,33 +5,30 @@ with docs/proof/SPEC.md.
                                EDITS, NAMES, OTHERS; and copies of those that `list` needs into crates/page/specs
     tools/headline.sh --check  changes nothing, and tells which page or copy is out of step, or too long
 
-Between the marks `<!-- show .. -->` and `<!-- end -->` of a page stands what the sources say, and it is written anew:
+Between the marks `<!-- show .. -->` and `<!-- end -->` of a page stands what the sources say:
 
     show FILE: NAME..           these definitions of a file below crates/, with their comments
     show contract FILE F: C..   these clauses of the function F in a source
     show worlds                 which functions of gomod_laws/src/example_world.rt try which definition
     show names                  each name that the page uses and doesn't define, and its file
 
-All other text of a page is written by hand. A quote (a line that begins with `>`) must stand in docs/proof/SPEC.md
-word by word. The same definition stands on one page only. HEADLINE shows a name before what it is made of, the other
-pages after that.
+All other text is written by hand. A quote (a line that begins with `>`) must stand in docs/proof/SPEC.md word by word.
+A definition stands on one page only. HEADLINE shows a name before what it is made of, the other pages after that.
 
 The copies in crates/page are of all definitions that `ListEnds` reaches, but for those that the crate defines itself:
 specs/Types.antt and Files.antt, written by hand, stand in for types of the code, for what bytes say, and for the
 go.sum.
 
 Each definition that the contract of `run` reaches must be on one of the pages. From `ListEnds` to the leaves
-HEADLINE.md may have 45 definitions and 170 lines, or --check fails. A leaf is what another page defines: names, their
-order and answers (NAMES.md), what bytes and answers say (DIRECTIVES.md), texts, the limit, the rest after a path and
-the go.sum (REPORTS.md); or what the code or the standard library does.
+HEADLINE.md may have 45 definitions and 170 lines. A leaf is what another page defines: names, their order and answers
+(NAMES.md), what bytes and answers say (DIRECTIVES.md), texts, the limit, the rest after a path and the go.sum
+(REPORTS.md); or what the code or the standard library does.
 
 The last lines count what one reads to believe a contract: that of `gomod_run::run`, and of all functions that the
-libraries export. A definition is reached if a name of it stands in a clause or in a definition that is reached, and
-it has as many lines as are neither empty nor a comment. A type of the code is private if its crate doesn't export
-it.
+libraries export. A definition is reached if a name of it stands in a clause or in a definition that is reached, and it
+has as many lines as are neither empty nor a comment. A type of the code is private if its crate doesn't export it.
 
-The status of --check is 1 if a page or a copy is out of step. .ci/run runs it before the merge gate. It needs
-python3.
+The status of --check is 1 if a page or a copy is out of step. .ci/run runs it before the merge gate. It needs python3.
 """
 
 import functools
@@ -70,7 +67,6 @@ class Leaf:
 
 @functools.cache
 def leaf(name, source, owner=None):
-    """The one leaf with this name of this source."""
     return Leaf(name, source, owner)
 
 
@@ -135,7 +131,6 @@ def used_in(text, scope, own):
 
 @functools.cache
 def used_by(one):
-    """What the names in a definition mean."""
     return used_in(one.text, FILES[one.file], own_names(one.file))
 
 
@@ -168,7 +163,6 @@ def used_in_clauses(file, clauses):
 
 
 def code(text):
-    """A text as a page shows code."""
     return f"```\n{text}\n```\n"
 
 
@@ -266,12 +260,10 @@ def keep_short(page, others):
 
 
 def source_of(one):
-    """Where a definition or a leaf is from."""
     return one.source if isinstance(one, Leaf) else f"`{one.file}`"
 
 
 def linked(source):
-    """A source with a link to its file."""
     return re.sub(r"`crates/([^`]+)`", r"[\1](../../crates/\1)", source)
 
 
@@ -285,7 +277,6 @@ def offered(crate):
 
 
 def is_private(leaf):
-    """Whether the name is of a type that its crate doesn't export."""
     return bool(leaf.owner) and leaf.owner[1] not in offered(leaf.owner[0])[0]
 
 

@@ -58,7 +58,6 @@ def standard_lemmas(kit):
 
 
 def own_lemmas():
-    """The lemmas of the crates: crate, file, name and what each says."""
     for path in files("proofs/*.antt"):
         for name, statement in lemmas_of(path):
             yield path.parts[1], path.stem, name, plain(statement)

@@ -66,13 +66,11 @@ def limit(**limits):
 
 
 def ignore_signals():
-    """Ignores each signal that can be ignored."""
     for number in set(range(1, 32)) - {signal.SIGKILL, signal.SIGSTOP}:
         signal.signal(number, signal.SIG_IGN)
 
 
 def block_signals():
-    """Blocks each signal that can be blocked."""
     signal.pthread_sigmask(signal.SIG_BLOCK, signal.valid_signals())
 
 
@@ -96,7 +94,6 @@ class Trial(script.Trial):
         return subprocess.Popen([self.program, *line.split()], stdin=stdin, stderr=pipe, **given)
 
     def same(self, what, line, **given):
-        """Runs a command line in a way that must change nothing."""
         got = self.run(line, **given)
         self.judge(f"{what}: gomod {line}", got, got == self.plain[line])
 
@@ -141,7 +138,6 @@ class Trial(script.Trial):
         return status, out, report
 
     def try_streams(self):
-        """Each mixture of streams."""
         kinds = "open", "closed", "full", "wrong"
         for line, mixture in itertools.product(LINES, itertools.product(kinds, repeat=3)):
             got = self.with_streams(line, mixture)
@@ -229,7 +225,6 @@ class Trial(script.Trial):
 
     @staticmethod
     def stop(child):
-        """Stops a child a few times."""
         for _ in range(5):
             child.send_signal(signal.SIGSTOP)
             time.sleep(0.002)

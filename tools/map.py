@@ -143,7 +143,6 @@ def page():
 
 
 def files_of(crate):
-    """The files of src/ and specs/ of a crate, as paths from its folder."""
     for path in [*files("src/**/*.rt", crate), *files("specs/**/*.antt", crate)]:
         inner = path.relative_to(CRATES / crate)
         if str(inner) not in ("src/lib.rt", "specs/Lib.antt") and inner.parts[1] != "declared":
@@ -151,7 +150,6 @@ def files_of(crate):
 
 
 def table(crate):
-    """What each file of a crate has."""
     rows = [f"| {it} | {sentence(CRATES / crate / it)} |\n" for it in files_of(crate)]
     return "| File | What it has |\n|---|---|\n" + "".join(rows)
 

@@ -3,18 +3,18 @@
     tools/memory-failures.sh            compares them with the lists in tools/memory_failures.py
     tools/memory-failures.sh --print    prints what the sources have, each with its condition
 
-A source of a library or of the program names a value such as `NoMemory` or `AllocError` only in an `impl From` of
-such a value, or in an arm that was given it (`SyntaxFault::NoMemory => BytesFault::NoMemory`), or where the list says
-so. A row of the list has the function, the reason why memory has run out there, and a checksum of the condition: the
-source text of each `if`, arm, loop and `let .. else` that leads to the value, and its statement; without any of these
-all that stands before it in the function. The constants of the file that it names follow. Who changes a checksum
-looks whether the reason still holds of what --print shows.
+A source of a library or of the program names a value such as `NoMemory` or `AllocError` only in an `impl From` of such
+a value, or in an arm that was given it (`SyntaxFault::NoMemory => BytesFault::NoMemory`), or where the list says so. A
+row of the list has the function, the reason why memory has run out there, and a checksum of the condition: the source
+text of each `if`, arm, loop and `let .. else` that leads to the value, and its statement; without any of these all that
+stands before it in the function. The constants of the file that it names follow. Who changes a checksum looks whether
+the reason still holds of what --print shows.
 
 A call such as `reserve` or `with_capacity` could ask for more than there is, and so make a failure up. A second list
-has each of them, and each call in a crate of its function that asks for as much as it is told to. Its condition is
-the same steps to the call, and what the functions and constants of the file and the variables are that say how much.
+has each of them, and each call in a crate of its function that asks for as much as it is told to. Its condition is the
+same steps to the call, and what the functions and constants of the file and the variables are that say how much.
 
-Prints each failure or call that has no row, or another condition than its row, each row that is left, and how many
+It prints each failure or call that has no row, or another condition than its row, each row that is left, and how many
 there are. The status is 1 if one is wrong. Tests and the runner of cases are not looked at. It needs python3.
 """
 
@@ -199,7 +199,6 @@ class Source:
         return begin
 
     def end_of(self, brace, at):
-        """Where it ends."""
         while at < self.other[brace] and self.code[at] not in ";,":
             at = self.other[at] if self.code[at] in "([{" else at
             at += 1
@@ -221,7 +220,6 @@ class Source:
         return head.strip()
 
     def is_match(self, brace):
-        """Whether these are the braces of a `match`."""
         return bool(MATCH.search(self.head_of(brace)))
 
     def is_pattern(self, brace, begin, at):

@@ -48,7 +48,6 @@ OTHERWISE = {
 
 
 def is_like(path, patterns):
-    """Whether a path below crates/ is like one of the patterns."""
     return any(path.match(it) for it in patterns)
 
 
@@ -81,7 +80,6 @@ def places_of(names):
 
 
 def rows_of(file, row):
-    """The names in a table."""
     return re.findall(rf"(?m){row}", (CRATES / file).read_text(encoding="utf-8"))
 
 

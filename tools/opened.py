@@ -39,7 +39,6 @@ class Allowed(NamedTuple):
     reads_input: bool
 
     def has(self, name):
-        """Whether a file may be opened."""
         below = [name.removeprefix(it) for it in self.folders if name.startswith(it)]
         return name in self.files or any(OF_PROXY.fullmatch(it) for it in below)
 
@@ -109,7 +108,6 @@ def can_be_seen(folder):
 
 
 def name_of(text):
-    """A file's name, which strace shows in hexadecimal digits."""
     return bytes.fromhex(text.decode().replace("\\x", ""))
 
 

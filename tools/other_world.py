@@ -7,9 +7,7 @@ variables that the go command, a library or a terminal reads, and for every eigh
 standard error are terminals, both for half of the commands, else one of them. Standard input is a terminal at which
 nobody types or, where the words name it, a file, or a terminal at which the text was typed. Output, report and status
 have to be those of the case all the same; and the folder of the case, the one above, HOME and TMPDIR the same as
-before, by names, sizes, modes and contents.
-
-A case with a range of sizes runs at about 1,000. One with a list runs at those up to 20,000, or at the least.
+before. A case with a range of sizes runs at about 1,000, one with a list at those up to 20,000, or at the least.
 
 Commands are started under strace, if that is there, and tools/opened.py says what is wrong with what it saw.
 """
@@ -317,7 +315,6 @@ def begin(folder, is_proved, jobs, starters, count):
 
 
 def judge(number):
-    """Runs the case with a number in this process."""
     return Worker.here.judge(number)
 
 

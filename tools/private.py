@@ -1,16 +1,16 @@
-"""Checks that who opens the specs/ of a crate finds what its promises mean: definitions that no public contract reaches
-stand apart, in specs/Private of their crate.
+"""Checks that definitions which no public contract reaches stand apart, in specs/Private of their crate, so that who
+opens specs/ finds what the promises of a crate mean.
 
     tools/private.sh              prints each definition that stands in the wrong folder, and each name that
                                   definitions in two files of specs/ have; the status is 1 if there is one
     tools/private.sh --why NAME   prints how a public contract reaches the definitions of this name, each after what
                                   reaches it
 
-Public contracts are those of the functions, traits and types that a crate offers, from its root or a public module,
-the laws among them. The model of such a type counts, and what it implements, unless the trait is private; and so do
-types that a signature names but that the crate doesn't offer by name. A contract reaches the definitions that it
-names, what these name, and, if a type of the code has no value of its own, the types of its fields. What a ghost
-field demands of the others doesn't count.
+Public contracts are those of the functions, traits and types that a crate offers, from its root or a public module, the
+laws among them. The model of such a type counts, and what it implements, unless the trait is private; and so do types
+that a signature names but that the crate doesn't offer by name. A contract reaches the definitions that it names, what
+these name, and, if a type of the code has no value of its own, the types of its fields. What a ghost field demands of
+the others doesn't count.
 
 A name counts if the file imports or declares it, even if a variable has it where it stands. So a definition may count
 as reached that isn't: give the variable another name. crates/page is left out, whose definitions are copies. It needs
@@ -62,7 +62,6 @@ class Source:
         self.uses = paths_of(outer)
 
     def named(self, name):
-        """The items of this name that aren't blocks of a type."""
         return [it for it in self.items if it.name == name and it.kind not in ("impl", "use", "mod")]
 
 
@@ -263,7 +262,6 @@ class Program:
         return {name: it for name, it in sorted(files.items()) if len(it) > 1}
 
     def unread(self):
-        """The lines whose form isn't followed here."""
         texts = [(it.file, it.text) for it in self.sources.values()]
         texts += [(it.file, plain(it.text)) for it in self.modules.values()]
         for file, text in texts:

@@ -62,7 +62,6 @@ CUT = b"", b"", 3
 
 
 def stack_of_readme():
-    """The stack that README.md names, in bytes."""
     return 1024 * int(re.search(r"`ulimit -s (\d+)`", script.read("README.md"))[1])
 
 
@@ -111,7 +110,6 @@ def lost_words(run, tip, left, folder):
 
 
 def told(what, out, report, status):
-    """A result, below what it is."""
     return f"  {what}:\n{other_world.shown(out, report, status)}"
 
 
@@ -132,7 +130,6 @@ class Commands:
         self.environment = {**os.environ, "HOME": self.home, "TMPDIR": self.temporary}
 
     def wanted(self, run):
-        """The result of a run."""
         return run.wanted(self.is_proved)
 
     def stream_to_cut(self, run):

@@ -8,39 +8,29 @@
 #   tools/program.sh --this ..            the same in this world alone
 #   tools/program.sh --other ..           the same in the other one alone, which is told of below
 #
-# The merge gate runs the same cases inside a process, with outputs in memory; of the program itself it compares what
-# one stored run writes to standard output. What this adds is standard error and the whole way from the words to the
-# system. .ci/run runs it after the gate. Calls, cases with a file at the root of the system, and those of files without
+# The merge gate runs the same cases inside a process, with outputs in memory. What this adds is standard error and the
+# whole way from the words to the system. Calls, cases with a file at the root of the system, and those of files without
 # permission for root are left out.
 #
 # Of a case with a range of sizes it runs the greatest, of one with a list each. Each command then has an address space
-# of 64 MiB and a hundred times the bytes of its words, each with the byte that ends it, and of the files of the case,
-# which for files is the bound of COMMANDS.md: a command that reserves more runs out of memory. A case with a line
-# `% memory N` gives N MiB instead. All commands run with the stack that README.md names, and room for their arguments.
+# of 64 MiB and a hundred times the bytes of its words, each with the byte that ends it, and of the files of the case:
+# the bound of COMMANDS.md. A case with a line `% memory N` gives N MiB instead. All commands run with the stack that
+# README.md names, and room for their arguments. Standard input stays open, unless it is read. A command that hasn't
+# ended after 100 seconds ends the script.
 #
-# The standard input of each command but `versions` without --proxy, and those with a file `-`, stays open, so one that
-# reads it doesn't end. If a command hasn't ended after 100 seconds, the script ends.
-#
-# After the cases `fmt -` reads a pipe, a file, a socket, as a child of Node has it, and a standard input that is closed
-# or a folder, which can't be read.
-#
-# Each command is called by a name that is not UTF-8, which it may not look at. The folder of a case, the one above,
-# HOME and TMPDIR must be the same after its commands as before, by names, sizes, modes and contents.
-#
-# As many cases run side by side as there are processors, those that take much memory one at a time. Of each command the
-# first run that prints, in each process that runs cases, is tried once more with /dev/full as its output, and the first
-# that reports with it as its report: the status must be 3, and the other stream empty.
+# Each command is called by a name that is not UTF-8. The folder of a case, the one above, HOME and TMPDIR must be the
+# same after its commands as before, by names, sizes, modes and contents. Of each command the first run that prints, in
+# each process that runs cases, is tried once more with /dev/full as its output, and the first that reports with it as
+# its report: the status must be 3, and the other stream empty. After the cases `fmt -` reads a pipe, a file, a socket,
+# as a child of Node has it, and a standard input that is closed or a folder.
 #
 # What a usage error says to type is given to bash. In a case with a go.mod it is run in a copy of the folder, whose `~`
 # is the home folder, and must exit with 0; otherwise, and if it is a command of go, bash reads its words alone. Each
-# word of the command must be among the words to type or those that are left out, or have its place in ACCOUNTED
-# (tools/program.py).
+# word of the command must be among the words to type or those that are left out, or be in ACCOUNTED (tools/program.py).
 #
-# Then all cases run once more in another world (tools/other_world.py): as nobody if root starts it, so that no case on
-# permission is left out; in an environment full of variables, or in none; with terminals as outputs. The same bytes and
-# statuses are wanted. There strace, if it is there, shows that a command opens no file but those that the case names,
-# once, to read it, and makes no other call that names a file (tools/opened.py). If there is no strace, or it may not
-# look at processes, the last line says so.
+# Then all cases run once more in another world (tools/other_world.py). There strace, if it is there, shows that a
+# command opens no file but those that the case names, once, to read it, and makes no other call that names a file
+# (tools/opened.py). If there is no strace, or it may not look at processes, the last line says so.
 #
 # If REFUSE_MEMORY names the library that tools/refuse-memory.sh makes, each command runs again with each of its
 # allocations refused in turn: it then has to say that memory ran out, or to have the result of the case. If
@@ -49,10 +39,8 @@
 #
 # Without arguments it removes bin/opened.txt, and if all pass and strace is there makes it anew for tools/release.sh:
 # the number of commands, the day and the commit, and the sha256 of bin/gomod. It does neither without git, or in a bin/
-# that it may not write.
-#
-# It needs bin/gomod (./build makes it) and python3, and prints each difference and how many cases passed and failed.
-# The status is 1 if one failed.
+# that it may not write. It needs bin/gomod (./build makes it) and python3, and prints each difference and how many
+# cases passed and failed. The status is 1 if one failed. .ci/run runs it after the merge gate.
 set -euo pipefail
 cd "$(dirname "$0")/.."
 # shellcheck source=tools/lib.sh

@@ -33,7 +33,6 @@ LINES = [
 
 
 def place(number):
-    """Where the file of a module is."""
     return f"P/q.x/m{number}/@v/v1.0.0.mod"
 
 
@@ -107,7 +106,6 @@ class Race(Trial):
         self.rows = {b"m.x/m", *map(str.encode, paths)}
 
     def start(self, line):
-        """Starts a command line."""
         null, pipe = subprocess.DEVNULL, subprocess.PIPE
         return subprocess.Popen([self.program, *line.split()], stdin=null, stdout=pipe, stderr=pipe)
 
@@ -139,7 +137,6 @@ class Race(Trial):
                 self.judge(f"gomod {line}", got, self.is_right(line, got))
 
     def run_at_once(self):
-        """Many at once over files that nobody changes."""
         for child in [self.start(LINES[0]) for _ in range(AT_ONCE)]:
             got = self.end_of(child)
             self.judge(f"{AT_ONCE} at once", got, got == self.right)

@@ -91,7 +91,6 @@ class Question:
         return {what: it for what, it in given.items() if it}
 
     def in_proxy(self, name):
-        """The text that the proxy folder has of a file, or None."""
         at = os.path.join(self.places["PROXY"], name)
         return read(at) if os.path.exists(at) else None
 
@@ -196,7 +195,6 @@ def run_all(check):
 
 
 def real_go(command):
-    """The path of a go command, and what it says of its version."""
     found = shutil.which(command)
     if not found:
         sys.exit(f"compare-go: there is no command '{command}'")

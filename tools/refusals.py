@@ -14,15 +14,15 @@ An edit, crates/NAME/must-fail/EDIT.edit, has lines that the merge gate passes o
     # twin: TEXT                after a pair of `old:` and `new:`, a harmless text instead of that `new:`; a pair
                                 without one stays as it is in the crate
 
-For each edit it prints a line: `refused`, `other` with the goals where it was refused instead, or `PROVED`; and for
-its twin `twin proved` or `twin REFUSED`. The status is 1 if an edit was not refused at its clause, names none, or its
-twin was not proved. A goal whose answer only names what the edit took away says nothing of the clause and does not
-count. The merge gate itself asks only whether an edit is refused. With --table the status is 1 if an edit names no
-clause, has no twin, or changes more than src/: an edit that takes answers out of proofs/ may be refused for that
-alone. .ci/run runs this table before the merge gate.
+For each edit it prints a line: `refused`, `other` with the goals where it was refused instead, or `PROVED`; and for its
+twin `twin proved` or `twin REFUSED`. The status is 1 if an edit was not refused at its clause, names none, or its twin
+was not proved. A goal whose answer only names what the edit took away does not count. With --table the status is 1 if
+an edit names no clause, has no twin, or changes more than src/: an edit that takes answers out of proofs/ may be
+refused for that alone. .ci/run runs this table before the merge gate, which itself asks only whether an edit is
+refused.
 
-It needs rt and python3, and the crates as ./build or `rt all check` leaves them (the libraries below a crate are
-enough for `--only`), and takes about half a minute a check.
+It needs rt and python3, and the crates as ./build or `rt all check` leaves them (the libraries below a crate are enough
+for `--only`), and takes about half a minute a check.
 """
 
 import os
@@ -123,7 +123,6 @@ def is_at(clause, goals):
 
 
 def told(goals):
-    """The first goals, in words."""
     return ", ".join(f"{at} {goal}" for at, goal in goals[:4]) or "no goal was named"
 
 

@@ -7,16 +7,14 @@
 #   tools/refuse-memory.sh --cases FILE.txt..  the cases of these files, but the large ones
 #   tools/refuse-memory.sh --cases TITLE..     the cases whose titles have one of these texts
 #   tools/refuse-memory.sh NAME..              the tests of these crates
-#   tools/refuse-memory.sh --but WORD NAME..   the same without the tests whose names have that word
 #
-# A command whose memory is refused has to say so, or to have the result of its case. A test has to end well, or to
-# fail and say that memory ran out. What does otherwise, crashes or hangs is printed with the number of the refused
-# allocation. The status is 1 if that happened, and 0 if all stood every refusal. The merge gate runs the same
-# cases and tests with none refused.
+# A command whose memory is refused has to say so, or to have the result of its case. A test has to end well, or to fail
+# and say that memory ran out. What does otherwise, crashes or hangs is printed with the number of the refused
+# allocation. The status is 1 if that happened, and 0 if all stood every refusal.
 #
 # --check refuses each allocation alone and then together with all later ones, until a run meets no refusal. In each run
-# before that one the output has to be empty, the report `gomod: no memory` and the status 3. It takes 55 s of CPU
-# time, on all processors.
+# before that one the output has to be empty, the report `gomod: no memory` and the status 3. It takes 55 s of CPU time,
+# on all processors.
 #
 # Without arguments it removes bin/refused.txt, and if nothing goes wrong makes it anew for tools/release.sh: the number
 # of runs, the day and the commit, and the sha256 of bin/gomod.
@@ -94,17 +92,13 @@ refuse_each() {
   echo "$crate: $test: still asks for memory after $MOST allocations"
 }
 
-# The tests of a crate, but for those whose names have the word in `but`.
+# The tests of a crate.
 refuse_in_tests() {
   local crate=$1 binary=$PWD/crates/$1/out/${1}_tests before=$runs tests=0 test
   if [ ! -x "$binary" ]; then
     (cd "crates/$crate" && rt test)
   fi
   for test in $("$binary" --list | sed -n 's/: test$//p'); do
-    if [ -n "$but" ] && [[ $test == *"$but"* ]]; then
-      echo "$crate: $test: left out"
-      continue
-    fi
     tests=$((tests + 1))
     refuse_each "$crate" "$binary" "$test"
   done
@@ -135,7 +129,6 @@ refuse_everywhere() {
   echo "$program" >> "$RECORD"
 }
 
-but=
 case ${1-} in
   "") refuse_everywhere ;;
   --check)
@@ -148,13 +141,6 @@ case ${1-} in
     refuse_in_cases "$@"
     ;;
   *)
-    if [ "$1" = --but ]; then
-      # `large_` for those that ask for memory more often than the guard allows
-      but=$2
-      shift 2
-    fi
-    # shellcheck disable=SC2046
-    [ $# -gt 0 ] || set -- $(crates_with_tests)
     for crate in "$@"; do refuse_in_tests "$crate"; done
     ;;
 esac

@@ -9,23 +9,19 @@
 #
 # Into FOLDER, which it makes if there is none, it writes gomod-VERSION-x86_64-linux.tar.gz and beside it a file with
 # its sha256. The archive has one folder with bin/ and share/, to be unpacked into a folder such as ~/.local (`tar
-# --strip-components=1`); share/doc/gomod/ has README.md, CHANGELOG.md, docs/, example/, and RELEASE.txt: the version,
-# the commit, the gate's last line, when allocations were last refused and opened files last looked at, what the program
-# needs and its sha256. In these documents a link to a file that isn't in the archive is its text alone, and examples
-# call `gomod`; README.md tells how to try this program instead of how to make one (tools/release.py). The same files
-# give the same archive.
-#
-# Before it leaves an archive it unpacks it, follows all links of its documents and runs all their examples with its
-# program (tools/readme.sh), and compares the glibc that they name with the one that the program needs.
+# --strip-components=1`); share/doc/gomod/ has README.md, CHANGELOG.md, docs/ and example/, as tools/release.py adapts
+# them, and RELEASE.txt: the version, the commit, the gate's last line, the records below, what the program needs and
+# its sha256. The same files give the same archive. Before it leaves an archive it unpacks it, follows all links of its
+# documents and runs all their examples with its program (tools/readme.sh), and compares the glibc that they name with
+# the one that the program needs.
 #
 # It refuses an archive that fails this check and, without --unproved, a program whose version doesn't say that it is
 # proved. Unless --check is given, it also refuses a program that isn't the one that the last proof left at
-# crates/gomod/out/gomod, a gate that failed or ran with another program, and changes that aren't committed.
-#
-# Nor does it release a program with which tools/refuse-memory.sh didn't refuse each allocation and find nothing wrong,
-# of which tools/program.sh didn't see, where strace is, what each command opens, or of whose sources `tools/cases.sh
-# --checked` didn't run the cases with checks: these scripts leave bin/refused.txt, bin/opened.txt and bin/checked.txt,
-# whose first lines this one prints.
+# crates/gomod/out/gomod, a gate that failed or ran with another program, changes that aren't committed, and a program
+# with which tools/refuse-memory.sh didn't refuse each allocation and find nothing wrong, of which tools/program.sh
+# didn't see, where strace is, what each command opens, or of whose sources `tools/cases.sh --checked` didn't run the
+# cases with checks: these scripts leave bin/refused.txt, bin/opened.txt and bin/checked.txt, whose first lines this one
+# prints.
 #
 # It needs bin/gomod, git, GNU tar, gzip and python3. It prints what the check found, the names of the files, the gate's
 # last line and the sha256. The status is 1 if it refuses, and 2 for wrong arguments. .ci/run runs --check at its end.

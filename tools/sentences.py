@@ -125,7 +125,6 @@ def sentences(file):
 
 
 def show(one):
-    """Prints a sentence and what its laws state."""
     print(f"  {one.text}")
     for name in one.laws:
         print("\n".join("    " + it for it in statement(name).split("\n")))

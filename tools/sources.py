@@ -107,7 +107,6 @@ class Definition:
         self.constructors = re.findall(r"(?m)^  (\S+) : ", self.code) if self.kind == "data" else []
 
     def whole(self):
-        """Its text with the comments above."""
         return f"{self.comment}\n{self.text}".strip()
 
     def size(self):
@@ -159,7 +158,6 @@ class Item:
         return self.text if self.kind == "ghost" else self.head[found.start():] if found else ""
 
     def signature(self):
-        """What stands before the contract."""
         return self.head.removesuffix(self.contract)
 
     def clauses(self):
@@ -168,7 +166,6 @@ class Item:
         return {it[1] or "": it[0].rstrip() for it in CLAUSE.finditer(contract)}
 
     def inner(self):
-        """The items of a block."""
         return items_of(self.text.rpartition("\n")[0], self.indent + "    ", self.line)
 
 
@@ -187,7 +184,6 @@ def items_of(text, indent="", line=1):
 
 
 def public_items(path):
-    """The public items of a module."""
     return [it for it in items_of(code_of(path)) if it.visibility == "pub"]
 
 
