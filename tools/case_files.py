@@ -5,7 +5,6 @@ docs/dev/CASES.md has the form of a case. tools/program.py runs their command li
 
 import contextlib
 import hashlib
-import itertools
 import os
 import re
 import shutil
@@ -53,28 +52,18 @@ def words_of(line):
     return words
 
 
-def form_of(text, most):
-    """A text as a form for its number, with as many digits as the greatest one, and how often that stands in it."""
-    digits = b"%%0%dd" % len(b"%d" % most)
-    return text.replace(b"%", b"%%").replace(b"{n}", digits), text.count(b"{n}")
-
-
 def numbered(text, number, most):
-    form, times = form_of(text, most)
-    return form % ((number,) * times)
+    """A text with its number, of as many digits as the greatest one has."""
+    return text.replace(b"{n}", b"%0*d" % (len(str(most)), number))
 
 
 def each_numbered(text, most):
-    form, times = form_of(text, most)
-    return map(form.__mod__, zip(*[range(1, most + 1)] * times)) if times else itertools.repeat(text, most)
+    digits = len(str(most))
+    return (text.replace(b"{n}", b"%0*d" % (digits, it)) for it in range(1, most + 1))
 
 
 def all_numbered(text, most):
-    """The texts with each number from 1, one after the other."""
-    form, times = form_of(text, most)
-    if not times:
-        return text * most
-    return (form * most) % tuple(itertools.chain.from_iterable(zip(*[range(1, most + 1)] * times)))
+    return b"".join(each_numbered(text, most)) if b"{n}" in text else text * most
 
 
 def greatest_sizes(least, sizes):
@@ -116,27 +105,17 @@ class Run:
         found = re.match(rb"([>!])(?:\*(\d+))?(\\)?(?: |$)(.*)$", line, re.S)
         if found:
             mark, count, escape, text = found.groups()
+            stream = "out" if mark == b">" else "report"
+            before = getattr(self, stream)
             if text == NO_LINE_END and not count and not escape:
-                self.cut(mark)
+                setattr(self, stream, before[:-1])
                 return
             text = unescaped(text) if escape else text + b"\n"
-            if count:
-                text = all_numbered(text, int(count))
-            if mark == b">":
-                self.out += text
-            else:
-                self.report += text
+            setattr(self, stream, before + (all_numbered(text, int(count)) if count else text))
         elif line.startswith(b"? "):
             self.status = int(line[2:])
         elif line == b"@" or line.startswith(b"@ "):
             self.opened = [*(self.opened or []), *([line[2:]] if line[2:] else [])]
-
-    def cut(self, mark):
-        """Removes the last line end of a stream."""
-        if mark == b">":
-            self.out = self.out[:-1]
-        else:
-            self.report = self.report[:-1]
 
     def wanted(self, is_proved):
         """The output, the report and the status, given whether the program says that it is proved."""

@@ -162,9 +162,7 @@ done
 echo "$passed passed, $failed failed"
 [ "$failed" -eq 0 ] && [ -z "$lacking" ] || exit 1
 if [ -n "$checked" ]; then
-  commit=$(git rev-parse HEAD)
-  [ -z "$(git status --porcelain)" ] || commit+=" with changes"
   [ "$(checksum_of_program)" = "$sources" ] || { echo "cases: the sources aren't those at the start" >&2 && exit 1; }
   mkdir -p bin
-  printf '%s\n' "none wrong, on $(date --utc +%F) at commit $commit" "$sources" > "$RECORD"
+  printf '%s\n' "none wrong, on $(date --utc +%F) at commit $(commit_here)" "$sources" > "$RECORD"
 fi

@@ -54,6 +54,12 @@ checksum_of_program() {
   program_sources | sort -z | xargs -0 sha256sum -- tools/unproved.sh tools/unproved.py | sha256sum | cut -d ' ' -f 1
 }
 
+# Prints the commit that is here, and whether there are changes.
+commit_here() {
+  git rev-parse HEAD > /dev/null || return
+  echo "$(git rev-parse HEAD)$([ -z "$(git status --porcelain)" ] || echo " with changes")"
+}
+
 # Where a proof leaves the program, how its version ends, and what tools/unproved.sh puts there.
 readonly PROVED_PROGRAM=crates/gomod/out/gomod PROVED_MARK='\(Rattle, logic [0-9a-f]{16}\)'
 readonly UNPROVED_MARK='(Rattle, nothing is proved)'

@@ -49,12 +49,11 @@ begin_script "$@"
 need_gomod
 
 readonly RECORD=bin/opened.txt
-if [ $# -gt 0 ] || [ -n "${REFUSE_MEMORY-}" ] || [ ! -w bin ] || ! commit=$(git rev-parse HEAD 2> /dev/null); then
+if [ $# -gt 0 ] || [ -n "${REFUSE_MEMORY-}" ] || [ ! -w bin ] || ! commit=$(commit_here 2> /dev/null); then
   exec python3 -B tools/program.py "$PWD/bin/gomod" "$@"
 fi
 rm -f "$RECORD"
 program=$(sha256sum bin/gomod)
-[ -z "$(git status --porcelain)" ] || commit+=" with changes"
 said=$(mktemp)
 trap 'rm -f "$said"' EXIT
 python3 -B tools/program.py "$PWD/bin/gomod" | tee "$said"

@@ -118,8 +118,7 @@ refuse_everywhere() {
   local crate program commit
   need_gomod
   rm -f "$RECORD"
-  program=$(sha256sum bin/gomod) commit=$(git rev-parse HEAD)
-  [ -z "$(git status --porcelain)" ] || commit+=" with changes"
+  program=$(sha256sum bin/gomod) commit=$(commit_here)
   refuse_in_listed
   refuse_in_cases "$DATA"/*.txt
   for crate in $(crates_with_tests); do refuse_in_tests "$crate"; done

@@ -40,8 +40,25 @@ refuse() {
 # The least version of glibc that a program needs: the greatest of those whose symbols it names.
 least_glibc() { grep -aoE 'GLIBC_[0-9]+(\.[0-9]+)+' "$1" | cut -d _ -f 2 | sort -uV | tail -n 1; }
 
-# Lays the files of a release below a folder: its version, the gate's last line, when allocations were refused, when
-# opened files were looked at, and when the cases ran with checks.
+# Whether the last line of a file of bin/ is of bin/gomod, or of its sources.
+is_current() {
+  if [ "$1" = checked ]; then
+    [ "$(tail -n 1 bin/checked.txt)" = "$(checksum_of_program)" ]
+  else
+    tail -n 1 "bin/$1.txt" | sha256sum --check --status
+  fi
+}
+
+# Prints the first line of a file of bin/, which a script has to leave first, and refuses it if it is of something else.
+record_of() {
+  local line
+  [ -f "bin/$1.txt" ] || refuse "there is no bin/$1.txt: run $2"
+  line=$(head -n 1 "bin/$1.txt")
+  is_current "$1" || refuse "$3 ($line): run $2"
+  echo "$line"
+}
+
+# Lays the files of a release below a folder: its version, and the records of what it rests on.
 lay_release() {
   local to=$1 documents=$1/share/doc/gomod glibc
   install_files "$to" > /dev/null
@@ -52,10 +69,7 @@ lay_release() {
   {
     echo "gomod $2"
     echo "commit $(git rev-parse HEAD)"
-    echo "gate: $3"
-    echo "each allocation refused: $4"
-    echo "what each command opens: $5"
-    echo "cases with checks: $6"
+    echo "$records"
     echo "needs: x86-64 Linux, glibc $glibc or later"
     sha256sum bin/gomod
   } > "$documents/RELEASE.txt"
@@ -97,23 +111,18 @@ if [ -z "$check" ]; then
   if [ -z "$gate" ]; then
     [ -f bin/gate.txt ] || refuse "there is no bin/gate.txt: run .ci/run, or give the gate's last line with --gate"
     gate=$(head -n 1 bin/gate.txt)
-    tail -n 1 bin/gate.txt | sha256sum --check --status || refuse "the gate of bin/gate.txt ran with another program"
+    is_current gate || refuse "the gate of bin/gate.txt ran with another program"
   fi
   [[ $gate =~ ^[1-9][0-9]*\ passed,\ 0\ failed$ ]] || refuse "this is no gate that passed: '$gate'"
   [ -z "$(git status --porcelain)" ] || refuse "there are changes that aren't committed"
-  [ -f bin/refused.txt ] || refuse "there is no bin/refused.txt: run tools/refuse-memory.sh"
-  refusals=$(head -n 1 bin/refused.txt)
-  tail -n 1 bin/refused.txt | sha256sum --check --status ||
-    refuse "allocations were refused of another program ($refusals): run tools/refuse-memory.sh"
-  [ -f bin/opened.txt ] || refuse "there is no bin/opened.txt: run tools/program.sh, where strace is"
-  opened=$(head -n 1 bin/opened.txt)
-  tail -n 1 bin/opened.txt | sha256sum --check --status ||
-    refuse "what another program opens was looked at ($opened): run tools/program.sh, where strace is"
-  [ -f bin/checked.txt ] || refuse "there is no bin/checked.txt: run tools/cases.sh --checked"
-  checked=$(head -n 1 bin/checked.txt)
-  [ "$(tail -n 1 bin/checked.txt)" = "$(checksum_of_program)" ] ||
-    refuse "the cases ran with checks of other sources ($checked): run tools/cases.sh --checked"
+  refusals=$(record_of refused tools/refuse-memory.sh "allocations were refused of another program")
+  opened=$(record_of opened "tools/program.sh, where strace is" "what another program opens was looked at")
+  checked=$(record_of checked "tools/cases.sh --checked" "the cases ran with checks of other sources")
 fi
+records="gate: ${gate:-none}
+each allocation refused: ${refusals:-none}
+what each command opens: ${opened:-none}
+cases with checks: ${checked:-none}"
 
 version=$(bin/gomod --version)
 [[ -n $unproved || $version =~ $PROVED_MARK$ ]] || refuse "bin/gomod isn't proved: its version is '$version'"
@@ -121,7 +130,7 @@ version=${version#gomod }
 name=gomod-${version%% *}-x86_64-linux
 work=$(mktemp -d)
 trap 'rm -rf "$work"' EXIT
-lay_release "$work/$name" "$version" "${gate:-none}" "${refusals:-none}" "${opened:-none}" "${checked:-none}"
+lay_release "$work/$name" "$version"
 # what depends on the moment or the user is left out
 tar --create --directory "$work" --sort=name --owner=0 --group=0 --numeric-owner \
   --mtime="@$(git log -1 --format=%ct)" "$name" | gzip -9n > "$work/$name.tar.gz"
@@ -133,8 +142,5 @@ cp "$work/$name.tar.gz" "$to"
 (cd "$to" && sha256sum "$name.tar.gz" > "$name.tar.gz.sha256")
 echo "$to/$name.tar.gz"
 echo "$to/$name.tar.gz.sha256"
-echo "gate: $gate"
-echo "each allocation refused: $refusals"
-echo "what each command opens: $opened"
-echo "cases with checks: $checked"
+echo "$records"
 echo "sha256: $(cut -d ' ' -f 1 "$to/$name.tar.gz.sha256")"
