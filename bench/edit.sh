@@ -13,7 +13,24 @@ set -euo pipefail
 cd "$(dirname "$0")/.."
 # shellcheck source=tools/lib.sh
 . tools/lib.sh
-begin_benchmark "$@"
+begin_script "$@"
+# bench/tables.py names another program and another number of runs
+small='' runs=${BENCH_RUNS:-3} gomod=${BENCH_PROGRAM:-$PWD/bin/gomod}
+case $#:${1-} in
+  0:) ;;
+  1:--small) small=yes runs=1 ;;
+  *) misused "it takes --small or nothing" ;;
+esac
+[ -n "${BENCH_PROGRAM:-}" ] || need_gomod
+work=$(mktemp -d)
+trap 'rm -rf "$work"' EXIT
+"${CC:-cc}" -O2 -o "$work/measure" bench/measure.c
+
+# What bench/measure.c prints of the fastest run of a command; the first argument is the file for standard input, or -.
+best() {
+  local run
+  for ((run = 0; run < runs; run++)); do "$work/measure" "$1" - "${@:2}"; done | sort -n | head -n 1
+}
 
 # The same bytes at each run.
 count=65535 many=1000 added=4000 more=16000

@@ -384,6 +384,33 @@ def tree_of(folder):
     return {place: state_of(place, it, is_hashed) for place, it in found.items()}
 
 
+@contextlib.contextmanager
+def laid(case, top, watched, wrong):
+    """Gives the folder of a case, which is laid below a new one that goes at the end. What changed meanwhile in the
+    folders that are watched is wrong."""
+    folder = os.path.join(top, b"main")
+    os.makedirs(folder)
+    try:
+        case.lay(folder)
+        before = {place: it for one in watched for place, it in tree_of(one).items()}
+        yield folder
+        differing = changed(before, {place: it for one in watched for place, it in tree_of(one).items()})
+        if differing:
+            wrong.append(f"  files that were made, changed or removed: {differing}")
+    finally:
+        remove(top)
+
+
+def shown(what, out, report, status):
+    """A result, as lines below what it is."""
+    lines = [
+        f"{mark} {line}"
+        for mark, text in ((">", out), ("!", report))
+        for line in text[:2000].decode("utf-8", "replace").splitlines()
+    ]
+    return "\n".join([f"  {what}:", *lines, f"? {status}"])
+
+
 def changed(before, after):
     return sorted(it for it in {**before, **after} if before.get(it) != after.get(it))
 

@@ -172,19 +172,16 @@ def differences(name, room):
 
 def main():
     """Completes all lines in all shells."""
-    wrong, tried, skipped = 0, [], []
-    for name in SHELLS:
-        if not shutil.which(name):
-            skipped.append(name)
-            continue
-        tried.append(name)
+    tried = [it for it in SHELLS if shutil.which(it)]
+    wrong = 0
+    for name in tried:
         with tempfile.TemporaryDirectory(prefix="gomod-completion-") as room:
             lay_room(room)
             for typed, wanted, came in differences(name, room):
                 wrong += 1
                 print(f"{name}: '{typed}' becomes '{came}', and should '{wanted}'")
     print(f"lines completed in {', '.join(tried)}: {len(tried) * len(PAIRS) - wrong} right, {wrong} wrong")
-    for name in skipped:
+    for name in (it for it in SHELLS if it not in tried):
         print(f"skipped, for want of {name}: {len(PAIRS)} completed lines")
     return wrong > 0
 

@@ -264,7 +264,7 @@ def main(*words):
     """Measures all, and returns the status."""
     meter = Meter(script.program_of(words)[0])
     # CPU times are of all children, so that there may be one at a time
-    at_once = len(os.sched_getaffinity(0)) if meter.valgrind else 1
+    at_once = script.AT_ONCE if meter.valgrind else 1
     wrong = 0
     with concurrent.futures.ThreadPoolExecutor(at_once) as pool:
         for line, is_right in pool.map(meter.measured, ROWS):

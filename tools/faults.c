@@ -1,4 +1,5 @@
-/* Makes calls of a program fail. It is loaded before the C library by tools/faults.sh, and linked into nothing.
+/* Makes calls of a program fail. It is loaded before the C library by tools/faults.sh and tools/refuse-memory.sh, and
+   linked into nothing.
 
    FAULTS has up to eight faults, with blanks between them: CALL:N:LATER:ERROR:LENGTH. CALL is memory (an allocation),
    open, read, write or close. The Nth such call from the start of main fails with the error of that number, and all
@@ -6,10 +7,12 @@
    many bytes.
 
    FAULTS_TOLD is the number of an open descriptor. It gets a line for each open, read, write and close, with the call,
-   its first argument and its result, and at the end a line with the number of calls that a fault changed. */
+   its first argument and its result, and at the end a line with the number of calls that a fault changed. If there is
+   no FAULTS_TOLD, standard error gets this last line if none was changed. */
 #define _GNU_SOURCE
 #include <errno.h>
 #include <fcntl.h>
+#include <malloc.h>
 #include <stdarg.h>
 #include <stdio.h>
 #include <stdlib.h>
@@ -101,7 +104,9 @@ void *calloc(size_t number, size_t size) {
 }
 
 void *realloc(void *block, size_t size) {
-    return is_refused() ? NULL : __libc_realloc(block, size);
+    /* A block that has the room asks for none, and gives some back as far as it can. */
+    int has_room = block && size <= malloc_usable_size(block);
+    return !has_room && is_refused() ? NULL : __libc_realloc(block, size);
 }
 
 void *aligned_alloc(size_t alignment, size_t size) {
@@ -189,5 +194,8 @@ int close(int file) {
 
 __attribute__((destructor)) static void end(void) {
     char line[32];
+    if (told < 0 && !changed) {
+        told = 2;
+    }
     tell(line, (size_t)snprintf(line, sizeof line, "changed %ld\n", changed));
 }

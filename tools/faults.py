@@ -35,7 +35,7 @@ from typing import NamedTuple
 
 import script
 from go_worlds import unescaped
-from script import read, write
+from script import AT_ONCE, read, write
 
 # the errors that the manual pages of Linux name for each call: open(2), read(2), write(2), close(2)
 ERRORS = {
@@ -76,9 +76,8 @@ FOLDERS = {"E": "example", "D": "crates/run_cases/data/example", "V": "crates/ru
 # the modules of the main file in D that a folder and another module replace
 REPLACED = {"./local": "example.com/local@v0.0.0", "example.com/fork@v1.1.0": "example.com/c@v1.9.0"}
 NO_MEMORY = b"", b"gomod: no memory\n", 3
-# how many seconds a run has, and how many runs there are side by side
+# how many seconds a run has
 LIMIT = 60
-AT_ONCE = len(os.sched_getaffinity(0))
 
 
 class Fault(NamedTuple):

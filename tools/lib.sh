@@ -11,28 +11,24 @@ case $0 in
   *) [ -e "$self" ] || self=bench/${0##*/} ;;
 esac
 
-# Prints the head comment of a script, the first argument, and ends, if one of the others is -h or --help.
-help_if_asked() {
+# Prints the head comment of the script, and ends, if one of its arguments is -h or --help.
+begin_script() {
   local argument
-  for argument in "${@:2}"; do
+  for argument in "$@"; do
     case $argument in
       -h | --help)
-        awk 'NR > 1 { if (!/^#/) exit; sub(/^# ?/, ""); print }' "$1"
+        awk 'NR > 1 { if (!/^#/) exit; sub(/^# ?/, ""); print }' "$self"
         exit
         ;;
     esac
   done
 }
 
-# Refuses the arguments of a script, the first argument, for the reason in the second. The status is 2.
-refuse_arguments() {
-  echo "$(basename "$1" .sh): $2; '$1 --help' says what it takes" >&2
+# Refuses the arguments of the script for a reason. The status is 2.
+misused() {
+  echo "$(basename "$self" .sh): $1; '$self --help' says what it takes" >&2
   exit 2
 }
-
-# The same for the script itself, with its arguments, and then for a reason.
-begin_script() { help_if_asked "$self" "$@"; }
-misused() { refuse_arguments "$self" "$1"; }
 
 # Prints a file that is newer than bin/gomod and that the program may be made of, if there is one.
 newer_source() {
@@ -197,28 +193,4 @@ install_files() {
 644 share/completions/_gomod share/zsh/site-functions/_gomod
 644 share/completions/gomod.fish share/fish/vendor_completions.d/gomod.fish
 FILES
-}
-
-# Begins a benchmark with its arguments: it sets `small` if there is --small, `gomod` to the program, `work` to a folder
-# that is removed at the end, and how many runs there are of each command. bench/tables.py names another program and
-# another number of runs.
-begin_benchmark() {
-  begin_script "$@"
-  small='' runs=${BENCH_RUNS:-3}
-  case $#:${1-} in
-    0:) ;;
-    1:--small) small=yes runs=1 ;;
-    *) misused "it takes --small or nothing" ;;
-  esac
-  gomod=${BENCH_PROGRAM:-$PWD/bin/gomod}
-  [ -n "${BENCH_PROGRAM:-}" ] || need_gomod
-  work=$(mktemp -d)
-  trap 'rm -rf "$work"' EXIT
-  "${CC:-cc}" -O2 -o "$work/measure" bench/measure.c
-}
-
-# What bench/measure.c prints of the fastest run of a command; the first argument is the file for standard input, or -.
-best() {
-  local run
-  for ((run = 0; run < runs; run++)); do "$work/measure" "$1" - "${@:2}"; done | sort -n | head -n 1
 }

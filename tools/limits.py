@@ -260,8 +260,7 @@ def main(program):
         trial.try_pipes()
         trial.try_stops()
         trial.try_terminals()
-        print(f"{trial.runs} runs under limits, {trial.wrong} wrong")
-        return 1 if trial.wrong else 0
+        return trial.status("runs under limits")
 
 
 if __name__ == "__main__":

@@ -18,8 +18,8 @@ import pathlib
 import re
 
 import script
+from sources import CRATES
 
-CRATES = pathlib.Path("crates")
 # each kind of names, the files with its tables, and what a row of each looks like
 TABLES = {
     "option": (

@@ -33,12 +33,11 @@ from typing import NamedTuple
 
 import opened
 import script
-from case_files import case_of, changed, remove, tree_of
-from script import holding, write
+from case_files import case_of, laid, shown
+from script import AT_ONCE, holding, write
 
 NOBODY = 65534
 LIMIT = 100
-AT_ONCE = min(len(os.sched_getaffinity(0)), 16)
 # What is typed at the end of a text, and how long a text may be to be typed.
 END_KEY, TYPED = b"\x04", 2000
 # What a file of the environment has, below HOME.
@@ -94,16 +93,6 @@ def fill_home(folder):
     """Makes a folder with what a user may have at HOME."""
     for name, text in HOME_FILES.items():
         write(os.path.join(folder, name), text)
-
-
-def shown(out, report, status):
-    """A result, as lines below what is wrong."""
-    lines = [
-        f"{mark} {line}"
-        for mark, text in ((">", out), ("!", report))
-        for line in text[:2000].decode("utf-8", "replace").splitlines()
-    ]
-    return "\n".join([*lines, f"? {status}"])
 
 
 def become_nobody():
@@ -260,25 +249,14 @@ class Worker:
         case = case_of(*lines)
         if case.is_rooted():
             return None
-        wrong, started = [], []
-        top = os.path.join(self.folder, "case")
-        folder = os.path.join(top, "main").encode()
-        os.makedirs(folder)
-        try:
-            case.lay(folder)
-            before = tree_of(self.folder.encode())
+        wrong, started, own = [], [], self.folder.encode()
+        with laid(case, os.path.join(own, b"case"), [own], wrong) as folder:
             for run in case.commands():
                 when, got = self.result(run, case, folder)
                 started.append(Started(self.number, when, run.line, run.text, opened.allowed(run, case, folder)))
                 wanted = run.wanted(self.is_proved)
                 if got != wanted:
-                    wrong.append(f"  line {run.line}: $ {run.text.decode()}")
-                    wrong.append(f"  got:\n{shown(*got)}\n  wanted:\n{shown(*wanted)}")
-            differing = changed(before, tree_of(self.folder.encode()))
-            if differing:
-                wrong.append(f"  files that were made, changed or removed: {differing}")
-        finally:
-            remove(top)
+                    wrong += [f"  line {run.line}: $ {run.text.decode()}", shown("got", *got), shown("wanted", *wanted)]
         return Judged(path, case.line, case.title, wrong, started)
 
 

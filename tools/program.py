@@ -7,6 +7,7 @@ tools/case_files.py reads the cases, and tools/other_world.py has the other worl
 
 import concurrent.futures
 import contextlib
+import errno
 import itertools
 import multiprocessing
 import os
@@ -21,18 +22,14 @@ import threading
 
 import other_world
 import script
-from case_files import (
-    PIPES, bytes_below, case_of, changed, chosen_cases, greatest_sizes, moderate_sizes, remove, tree_of
-)
+from case_files import PIPES, bytes_below, case_of, chosen_cases, greatest_sizes, laid, moderate_sizes, shown
+from script import AT_ONCE
 
 REFUSE_MEMORY = os.environ.pop("REFUSE_MEMORY", None)
 REFUSE_LATER = os.environ.pop("REFUSE_LATER", None)
-# the variables for each way to refuse an allocation, and what is then said of it
-ALONE = {"allocation {} refused": {}}
-EACH_WAY = {**ALONE, "allocation {} and all later ones refused": {"REFUSE_LATER": "yes"}}
-# how many cases, or refused runs, there are side by side, and how many of these are begun before a result is looked at:
-# from 24 on, cases that open descriptors 62 and 63 would meet those of the pool
-AT_ONCE = min(len(os.sched_getaffinity(0)), 16)
+# each way to refuse an allocation, and whether that refuses later ones, too
+WAYS = [("allocation {} refused", 0), ("allocation {} and all later ones refused", 1)]
+# how many refused runs are begun before a result is looked at
 BATCH = 8 * AT_ONCE
 # the name that each command is called by, as from a folder whose name is not UTF-8
 NAME = b"b\xff/gomod"
@@ -50,7 +47,7 @@ ACCOUNTED = re.compile(
     rb"|(-?-json|-(d|l|w|i)|--?(check|diff|write|in-place|retracted))" + VALUE
 )
 NO_MEMORY = b"", b"gomod: no memory\n", 3
-PASSED = b"all allocations passed\n"
+PASSED = b"changed 0\n"
 # how many seconds a command has
 LIMIT = 100
 # a standard input without a byte, which ends when this script does
@@ -109,10 +106,6 @@ def lost_words(run, tip, left, folder):
     return [it for it in lost if not any(part in read or (len(part) > 1 and part in text) for part in parts_of(it))]
 
 
-def told(what, out, report, status):
-    return f"  {what}:\n{other_world.shown(out, report, status)}"
-
-
 class Commands:
     """The program, with what is known of its commands."""
 
@@ -151,7 +144,7 @@ class Commands:
         """What a run comes to: output, report and status."""
         environment = self.environment
         if refused:
-            environment = {**environment, "LD_PRELOAD": REFUSE_MEMORY, **refused}
+            environment = {**environment, "LD_PRELOAD": REFUSE_MEMORY, "FAULTS": refused}
         words = [NAME, *run.words[1:]]
         stack = self.stack_with(words, environment)
         most = memory
@@ -188,18 +181,18 @@ class Commands:
     def refused(self, run, case, folder, stdin):
         """What was refused when the result was wrong for the first time, and that result, or None."""
         allowed = [NO_MEMORY] if REFUSE_LATER else [NO_MEMORY, self.wanted(run)]
-        for words, variables in (EACH_WAY if REFUSE_LATER else ALONE).items():
-            for number, got in self.each_refused(run, case, folder, stdin, variables):
+        for words, is_later in WAYS if REFUSE_LATER else WAYS[:1]:
+            for number, got in self.each_refused(run, case, folder, stdin, is_later):
                 if got not in allowed:
                     return words.format(number), got
         return None
 
-    def each_refused(self, run, case, folder, stdin, variables):
+    def each_refused(self, run, case, folder, stdin, is_later):
         """The number of each allocation that the command makes, with the result if it is refused. Ends the script if a
         run without a refusal differs from the case, or is the first, so that nothing was tried."""
 
         def refused_at(number):
-            return self.result(run, case, folder, stdin, {**variables, "REFUSE_AT": str(number)})
+            return self.result(run, case, folder, stdin, f"memory:{number}:{is_later}:{errno.ENOMEM}:-1")
 
         with concurrent.futures.ThreadPoolExecutor(AT_ONCE) as pool:
             for first in itertools.count(1, BATCH):
@@ -259,12 +252,9 @@ class Commands:
 
     def all_faults(self, path, case):
         """What is wrong with a case, in lines, the first of which says which case it is."""
-        root = tempfile.mkdtemp(prefix="case-", dir=self.scratch).encode()
-        folder, said = os.path.join(root, b"main"), []
-        os.mkdir(folder)
-        try:
-            case.lay(folder)
-            stdin, trees = case.stdin(), self.trees(root)
+        root, said = tempfile.mkdtemp(prefix="case-", dir=self.scratch).encode(), []
+        with laid(case, root, [root, self.home.encode(), self.temporary.encode()], said) as folder:
+            stdin = case.stdin()
             file_bytes = len(stdin) + bytes_below(folder) if case.is_sized else None
             for run in case.commands():
                 for over, fault in self.faults_of(run, case, folder, stdin, file_bytes):
@@ -272,17 +262,8 @@ class Commands:
                     if isinstance(fault, str):
                         said.append(f"  {fault}")
                     else:
-                        said += [told("got", *fault[0]), told("wanted", *fault[1])]
-            differing = changed(trees, self.trees(root))
-            if differing:
-                said.append(f"  files that were made, changed or removed: {differing}")
-        finally:
-            remove(root)
+                        said += [shown("got", *fault[0]), shown("wanted", *fault[1])]
         return [f"{path}:{case.line}: {case.title}", *said] if said else []
-
-    def trees(self, root):
-        """What the folders of a case, and that of HOME and TMPDIR, have."""
-        return {**tree_of(root), **tree_of(self.home.encode()), **tree_of(self.temporary.encode())}
 
 
 def standard_inputs(text):
@@ -310,7 +291,7 @@ def reads_each_input(program):
         got, wanted = (done.stdout, done.stderr, done.returncode), printed if is_readable else unread
         if got != wanted:
             good = False
-            print(f"standard input is {kind}: $ gomod fmt -", told("got", *got), told("wanted", *wanted), sep="\n")
+            print(f"standard input is {kind}: $ gomod fmt -", shown("got", *got), shown("wanted", *wanted), sep="\n")
     return good
 
 

@@ -160,8 +160,7 @@ def main(program, seconds, seed="1"):
         shutil.rmtree("P")
         lay()
         race.run_at_once()
-        print(f"{race.runs} runs in races, {race.wrong} wrong")
-        return 1 if race.wrong else 0
+        return race.status("runs in races")
     finally:
         ended.set()
         shutil.rmtree(folder)

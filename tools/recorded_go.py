@@ -131,7 +131,7 @@ class Check:
     """Runs of tools/compare-go.sh in a scratch folder, and how many were right and wrong."""
 
     def __init__(self, room, file, real=""):
-        self.room, self.right, self.wrong = room, 0, 0
+        self.room, self.tally = room, script.Tally()
         stand_in = [sys.executable, "-B", os.path.abspath(__file__), file, real]
         write(f"{room}/go/go", f"#!/bin/sh\nexec {shlex.join(stand_in)} \"$@\"\n", 0o755)
 
@@ -155,14 +155,10 @@ class Check:
 
     def expect(self, what, ran, status, *texts):
         """Whether a comparison ended with this status, and printed these texts."""
-        missing = [it for it in texts if it not in ran[1]]
-        if ran[0] == status and not missing:
-            self.right += 1
-            return
-        self.wrong += 1
-        print(f"{what}: status {ran[0]}, and {status} is right")
-        print("".join(f"  it doesn't print: {it}\n" for it in missing) + "  it prints:")
-        print("".join(f"    {line}\n" for line in ran[1].splitlines()), end="", flush=True)
+        missing = [f"  it doesn't print: {it}" for it in texts if it not in ran[1]]
+        printed = [f"    {line}" for line in ran[1].splitlines()]
+        message = "\n".join([f"{what}: status {ran[0]}, and {status} is right", *missing, "  it prints:", *printed])
+        self.tally.tell("comparisons with recorded answers of go", ran[0] == status and not missing, message)
 
 
 def run_all(check):
@@ -215,8 +211,7 @@ def main(*words):
     with tempfile.TemporaryDirectory(prefix="gomod-recorded-") as room:
         check = Check(room, ANSWERS, real)
         run_all(check)
-    print(f"comparisons with recorded answers of go: {check.right} right, {check.wrong} wrong")
-    return 1 if check.wrong else 0
+        return check.tally.status()
 
 
 if __name__ == "__main__":

@@ -38,14 +38,14 @@ refuse() {
 command -v "${CC:-cc}" > /dev/null || refuse "there is no command ${CC:-cc}: install a C compiler, or name one by CC"
 work=$(mktemp -d)
 trap 'rm -rf "$work"' EXIT
-"${CC:-cc}" -O1 -shared -fPIC -o "$work/refuse_memory.so" tools/refuse_memory.c
+"${CC:-cc}" -O1 -shared -fPIC -o "$work/faults.so" tools/faults.c
 
 runs=0 failures=0
 
 # The commands of cases. Those whose files are made large are left out, unless their titles are given.
 refuse_in_cases() {
   local count
-  REFUSE_MEMORY=$work/refuse_memory.so tools/program.sh "$@" | tee "$work/said" || failures=$((failures + 1))
+  REFUSE_MEMORY=$work/faults.so tools/program.sh "$@" | tee "$work/said" || failures=$((failures + 1))
   count=$(sed -n '$s/.*, \([0-9]*\) runs .*/\1/p' "$work/said")
   runs=$((runs + ${count:-0}))
 }
@@ -75,15 +75,15 @@ refuse_each() {
   for ((n = 1; n <= MOST; n++)); do
     status=0
     (
-      cd "$work" && REFUSE_AT=$n LD_PRELOAD=$work/refuse_memory.so timeout 60 "$binary" "$test" >out 2>err
+      cd "$work" && FAULTS=memory:$n:0:12:-1 LD_PRELOAD=$work/faults.so timeout 60 "$binary" "$test" >out 2>err
     ) 2>/dev/null || status=$?
     runs=$((runs + 1))
     if [ "$status" -ne 0 ] && ! says_no_memory "$status"; then
       bad=$((bad + 1))
       echo "$crate: $test: allocation $n refused: status $status:" \
-        "$(grep -v 'all allocations passed' "$work/err" | head -1)"
+        "$(grep -vx 'changed 0' "$work/err" | head -1)"
     fi
-    if grep -q 'all allocations passed' "$work/err" || [ "$bad" -ge 20 ]; then
+    if grep -qx 'changed 0' "$work/err" || [ "$bad" -ge 20 ]; then
       failures=$((failures + bad))
       return
     fi

@@ -49,19 +49,14 @@ def adapt_readme(text, sentence, archive):
     return made.sub(lambda _: NOTE.format(sentence=sentence, archive=archive), text)
 
 
-def main(*words):
+def main(folder, sentence, archive):
     """Adapts all documents of a folder."""
-    if len(words) != 3:
-        print("release: release.py --help says what it takes", file=sys.stderr)
-        return 2
-    folder, sentence, archive = words
     os.chdir(folder)
     for name in ["README.md", "CHANGELOG.md", *glob.glob("docs/**/*.md", recursive=True)]:
         text = read(name)
         if name == "README.md":
             text = adapt_readme(text, sentence, archive)
         write(name, re.sub(r"(?m)^    \$ .*", lambda it: it[0].replace("bin/gomod", "gomod"), adapt_links(name, text)))
-    return 0
 
 
 if __name__ == "__main__":

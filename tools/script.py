@@ -15,6 +15,8 @@ import subprocess
 import sys
 import tempfile
 
+# how much there is side by side: from 24 on, cases that open descriptors 62 and 63 would meet those of a pool
+AT_ONCE = min(len(os.sched_getaffinity(0)), 16)
 NAME = pathlib.Path(sys.argv[0]).stem.replace("_", "-")
 
 
@@ -110,6 +112,11 @@ class Trial:
             self.wrong += 1
             parts = got if isinstance(got, (list, tuple)) else [got]
             print(what, *(f"  {str(it)[:300]}" for it in parts), sep="\n", flush=True)
+
+    def status(self, what):
+        """Prints the counts of these runs, and returns the status."""
+        print(f"{self.runs} {what}, {self.wrong} wrong")
+        return int(self.wrong > 0)
 
 
 def checksum(text):

@@ -124,33 +124,26 @@ def sentences(file):
     return found, lines
 
 
-def show(one):
-    print(f"  {one.text}")
-    for name in one.laws:
-        print("\n".join("    " + it for it in statement(name).split("\n")))
-
-
 def compare():
-    """Prints each sentence whose checksums are no longer right, and gives whether there is one."""
-    wrong = count = 0
-    for file in SECTIONS:
-        for one in sentences(file)[0]:
-            count += 1
-            unknown = [it for it in one.laws if it != CHECKS and law(it) is None]
-            if unknown or not one.laws or one.at is None:
-                wrong += 1
-                what = f"bound to {unknown[0]}, which is no law" if unknown else "bound to no law"
-                print(f"{file}:{one.number}: a sentence is {what}; tools/documents.sh --accept: {one.text[:80]}")
-                continue
-            now = one.now()
-            if now != one.sums:
-                wrong += 1
-                what = [it for it, old, new in zip(("the sentence", "its law"), one.sums, now) if old != new]
-                print(f"{file}:{one.number}: {' and '.join(what)} changed; if they say the same, "
-                      f"tools/documents.sh --accept {one.laws[0]}:")
-                show(one)
-    print(f"sentences and laws: {count - wrong} right, {wrong} wrong")
-    return wrong > 0
+    """Prints each sentence whose checksums are no longer right, and gives the status."""
+    tally = script.Tally()
+    for one in (it for file in SECTIONS for it in sentences(file)[0]):
+        tally.tell("sentences and laws", *judged(one))
+    return tally.status()
+
+
+def judged(one):
+    """Whether the checksums of a sentence are right, and what is wrong."""
+    place = f"{one.file}:{one.number}"
+    unknown = [it for it in one.laws if it != CHECKS and law(it) is None]
+    if unknown or not one.laws or one.at is None:
+        what = f"bound to {unknown[0]}, which is no law" if unknown else "bound to no law"
+        return False, f"{place}: a sentence is {what}; tools/documents.sh --accept: {one.text[:80]}"
+    now = one.now()
+    what = " and ".join(it for it, old, new in zip(("the sentence", "its law"), one.sums, now) if old != new)
+    stated = [f"    {line}" for name in one.laws for line in statement(name).split("\n")]
+    return now == one.sums, "\n".join([f"{place}: {what} changed; if they say the same, tools/documents.sh --accept "
+                                       f"{one.laws[0]}:", f"  {one.text}", *stated])
 
 
 def accept(names):
