@@ -26,15 +26,14 @@ printed judges. If it doesn't, the change needs a proof after `against`. That a 
 fits doesn't count: it says that a proof rests on what was changed, not that the list would differ.
 
 For each that it tries it prints which of these it was, and the first error that shows it. The status is 1 if one was
-otherwise, can't be made since its text isn't there once, or if a count differs. .ci/run tries some. It needs python3,
-and to try changes rt and 2 GB of memory.
+otherwise, can't be made since its text isn't there once, or if a count differs. It needs python3, and to try changes rt
+and 2 GB of memory.
 """
 
 import dataclasses
 import pathlib
 import re
 import resource
-import subprocess
 import sys
 import tempfile
 
@@ -267,8 +266,7 @@ def miscounted(all_changes):
 
 def in_turn(numbered):
     """The changes, those first whose turn it is by the number of commits."""
-    count = subprocess.run(["git", "rev-list", "--count", "HEAD"], capture_output=True, text=True).stdout
-    at = 7 * int(count.strip() or 0) % len(numbered)
+    at = 7 * int(script.git("rev-list", "--count", "HEAD") or 0) % len(numbered)
     return numbered[at:] + numbered[:at]
 
 

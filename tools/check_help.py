@@ -9,7 +9,7 @@ in bash, and in zsh and fish where they are installed (tools/completions.py): fo
 and the paths of a go.mod.
 
 It needs bin/gomod (./build makes it), bash and python3. It prints each difference, what was compared, and what was
-skipped for want of which shell. The status is 1 if there is a difference. .ci/run runs it after the merge gate.
+skipped for want of which shell. The status is 1 if there is a difference.
 """
 
 import re

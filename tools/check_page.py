@@ -10,8 +10,8 @@ misreadings of one rule each, such as that versions are ordered as texts. A worl
 nearly half of them each module's file is there and right, so that no fault hides the list.
 
 It prints each world on which the program and the page differ, each misreading that no world refutes, and a line with
-the counts. The status is 1 if there is either; a few worlds may not refute all misreadings. .ci/run runs it after the
-merge gate. It needs bin/gomod (./build makes it) and python3. 300 worlds take some 5 s of CPU time.
+the counts. The status is 1 if there is either; a few worlds may not refute all misreadings. It needs bin/gomod (./build
+makes it) and python3. 300 worlds take some 5 s of CPU time.
 """
 
 import dataclasses

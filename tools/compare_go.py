@@ -352,15 +352,23 @@ class Comparison:
                 rows[row.split(" ")[0]] = row, error
             for path in paths:
                 came = self.commands.ask_graph(folder, "versions", path, *(f"-{it}" for it in words))
-                self.compare_row(path, came, *rows[path], words, excludes)
+                kinds = self.kinds_of_row(path, came, *rows[path], words, excludes)
+                command = "versions --retracted" if words else "versions"
+                self.tell(command, kinds, came.text(), "\n".join(rows[path]), path)
 
-    def compare_row(self, path, came, row, error, words, excludes):
-        """Compares the versions of a path that gomod prints with those of go's row."""
-        command = "versions --retracted" if words else "versions"
+    def tell(self, command, kinds, *report):
+        """Counts the kinds of a difference, or reports it if there is none, or one without a name."""
+        if not kinds or None in kinds:
+            self.found.report(self.where, command, *report)
+        for kind in kinds if None not in kinds else []:
+            self.found.count(command, kind)
+
+    def kinds_of_row(self, path, came, row, error, words, excludes):
+        """The kinds of a difference between the versions of a path that gomod prints and those of go's row."""
         ours, theirs = came.out.split()[1:], row.split(" ")[1:]
         once = list(dict.fromkeys(theirs))
         if came.status == 0 and not error and ours == once:
-            return self.found.count(command, SAME if once == theirs else TWICE)
+            return [SAME if once == theirs else TWICE]
         lines = read(f"{self.commands.proxy}/{escaped(path)}/@v/list").splitlines()
         listed = [it.split()[0] for it in lines if re.match(r"v\d+(\.\d+){0,2}([-+]|\s|$)", it)]
         listed = [it for it in listed if not re.search(r"\d{14}-[0-9a-f]{12}", it)]
@@ -369,31 +377,24 @@ class Comparison:
             kept = [it for it in once if fits(path, it)]
             shown = [it for it in ours if (path, it) not in excludes]
             if kept == shown:
-                names = [EXCLUDED] * (shown != ours) + [MISFITS] * (kept != once) + [TWICE] * (once != theirs)
-                return [self.found.count(command, name) for name in names]
+                return [EXCLUDED] * (shown != ours) + [MISFITS] * (kept != once) + [TWICE] * (once != theirs)
         if not error and fitting and all((path, it) in excludes for it in fitting):
-            return self.found.count(command, EXCLUDED)
+            return [EXCLUDED]
         if came.err.endswith("BadVersion\n"):
-            return self.found.count(command, NOT_CANONICAL)
+            return [NOT_CANONICAL]
         if not words and latest_of(listed) not in fitting:
-            return self.found.count(command, MISFITS)
+            return [MISFITS]
         if not words and "+incompatible" in latest_of(fitting):
-            return self.found.count(command, "The latest version with `+incompatible`")
-        if came.status and error:
-            return self.found.count(command, BOTH)
-        return self.found.report(self.where, f"{command} {path}", came.text(), f"{row}\n{error}")
+            return ["The latest version with `+incompatible`"]
+        return [BOTH] if came.status and error else []
 
     def compare_edit(self, main, operations):
         """Compares what operations make of a main file."""
         flags = [f"-{it}" for it in operations]
         wanted = self.commands.ask_go(main, "mod", "edit", "-print", *flags, "go.mod", mod="")
         came = self.commands.ask(main, "edit", "go.mod", *operations)
-        kinds = [it for it in self.kinds_of_edit(main, came, wanted, operations) if it]
-        for kind in kinds:
-            self.found.count("edit", kind)
-        if not kinds:
-            note = "edit " + " ".join(f"'{it}'" for it in operations) + "\n" + read(f"{main}/go.mod")
-            self.found.report(self.where, "edit", came.text(), wanted.text(), note)
+        note = "edit " + " ".join(f"'{it}'" for it in operations) + "\n" + read(f"{main}/go.mod")
+        self.tell("edit", self.kinds_of_edit(main, came, wanted, operations), came.text(), wanted.text(), note)
 
     def kinds_of_edit(self, main, came, wanted, operations):
         """The kinds of a difference between two edits; none if there is no reason for it."""
@@ -451,23 +452,23 @@ class Comparison:
         """Compares how a main file is laid out."""
         wanted = self.commands.ask_go(main, "mod", "edit", "-fmt", "-print", "go.mod", mod="")
         came = self.commands.ask(main, "fmt", "go.mod")
+        kinds = self.kinds_of_layout(main, came, wanted, is_laid_out)
+        self.tell("fmt", kinds, came.text(), wanted.text(), read(f"{main}/go.mod"))
+
+    def kinds_of_layout(self, main, came, wanted, is_laid_out):
+        """The kinds of a difference between two layouts; none if there is no reason for it."""
+        if came.status and wanted.status:
+            return [BOTH]
         if came.status or wanted.status:
-            if came.status and wanted.status:
-                return self.found.count("fmt", BOTH)
             strict = self.commands.ask(main, "edit", "go.mod", "dropretract=v0.0.0")
             if came.status == 0 and self.both_refuse(strict, wanted):
-                return self.found.count("fmt", "`fmt` of a file with a faulty directive")
+                return ["`fmt` of a file with a faulty directive"]
             if came.status == 0 and re.match(r"go\.mod:\d+: BadVersion$", strict.err, re.M):
-                return self.found.count("fmt", NOT_CANONICAL)
-            if read_by_one(came, wanted):
-                return self.found.count("fmt", read_by_one(came, wanted))
-        elif came.out == wanted.out:
-            return self.found.count("fmt", SAME)
-        elif not is_laid_out:
-            kinds = self.kinds_of_texts(came.out, came.out, wanted.out, []) or ["The layout"]
-            if None not in kinds:
-                return [self.found.count("fmt", kind) for kind in kinds]
-        return self.found.report(self.where, "fmt", came.text(), wanted.text(), read(f"{main}/go.mod"))
+                return [NOT_CANONICAL]
+            return [read_by_one(came, wanted)]
+        if came.out == wanted.out:
+            return [SAME]
+        return [] if is_laid_out else self.kinds_of_texts(came.out, came.out, wanted.out, []) or ["The layout"]
 
 
 def read_by_one(came, wanted):

@@ -21,7 +21,6 @@ What is looked at is what stands in the notation of docs/dev/DEVELOPING.md ("Wha
 python3, but no program. In a clone without its whole history commits are not looked for, and it says so. It prints each
 thing that isn't there, with its file and line, each document that is too long or not there, how many commits changed a
 source since the figures were measured, and how many of each kind it looked at. The status is 1 if one was wrong.
-.ci/run runs it before the merge gate.
 """
 
 import collections
@@ -30,12 +29,11 @@ import glob
 import os
 import pathlib
 import re
-import subprocess
 import sys
 
 import script
 import sentences as sentences_of_laws
-from script import Tally, read
+from script import Tally, git, read
 from sources import USE, code_of, exports, functions, items_of, names_in, public_items
 
 # Names of the toolchain and of its crates that documents have and no source imports.
@@ -90,15 +88,11 @@ def words_of(path):
     return sum(len((re.sub(r"(?<!\\)\|", " ", it) if it.startswith("|") else it).split()) for it in rows)
 
 
-def git(*words):
-    return subprocess.run(["git", *words], capture_output=True, text=True)
-
-
 class Sources:
     """What the repository has."""
 
     def __init__(self):
-        listed = git("ls-files", "-co", "--exclude-standard").stdout.split("\n")
+        listed = git("ls-files", "-co", "--exclude-standard").split("\n")
         self.files = {it for it in listed if it and os.path.lexists(it)}
         self.folders = {"/".join(it.split("/")[:n]) for it in self.files for n in range(1, it.count("/") + 1)}
         self.bases = {os.path.basename(it) for it in self.files}
@@ -372,7 +366,8 @@ class Document:
                 if self.sources.is_shallow:
                     self.tally.tell("commits not looked for", True)
                 else:
-                    is_right = git("merge-base", "--is-ancestor", found[0], "HEAD").returncode == 0
+                    whole = git("rev-parse", f"{found[0]}^{{commit}}")
+                    is_right = whole and whole == git("merge-base", whole, "HEAD")
                     self.tell("commits", is_right, f"there is no commit {found[0]} before this one")
 
     def read_titles(self, line):
@@ -429,7 +424,7 @@ class Document:
 
 
 def is_shallow():
-    return git("rev-parse", "--is-shallow-repository").stdout.strip() == "true"
+    return git("rev-parse", "--is-shallow-repository") == "true"
 
 
 def keep_lengths(tally):
@@ -494,10 +489,10 @@ def keep_figures(tally):
         is_there = any(needed in it for it in readme)
         tally.tell("figures", is_there, f"README.md: between its marks there is no '{needed}'")
     for commit in re.findall(r"(?m)^Measured at `(\w+)`\.$", "\n".join(page)) if not is_shallow() else []:
-        last = git("log", "-1", "--format=%H", commit, "--", "*.rt").stdout.strip()
+        last = git("log", "-1", "--format=%H", commit, "--", "*.rt")
         is_right = last.startswith(commit)
         tally.tell("figures", is_right, f"{FIGURES}: {commit} is no commit that changed a .rt file")
-        later = git("log", "--format=%h", f"{commit}..HEAD", "--", "*.rt").stdout.split()
+        later = git("log", "--format=%h", f"{commit}..HEAD", "--", "*.rt").split()
         if is_right and later:
             print(f"{FIGURES}: measured at {commit}, before {len(later)} commits that changed .rt files")
 
@@ -518,7 +513,7 @@ def main(*names):
     if names[:1] == ("--accept",):
         return sentences_of_laws.accept(names[1:])
     wrong = not names and sentences_of_laws.compare()
-    if git("rev-parse", "HEAD").returncode:
+    if not git("rev-parse", "HEAD"):
         sys.exit("documents: this is no repository of git, so nothing can be looked up")
     sources, tally = Sources(), Tally()
     of_crates = sorted(glob.glob("crates/*/PROOFS.md"))

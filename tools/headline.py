@@ -28,7 +28,7 @@ The last lines count what one reads to believe a contract: that of `gomod_run::r
 libraries export. A definition is reached if a name of it stands in a clause or in a definition that is reached, and it
 has as many lines as are neither empty nor a comment. A type of the code is private if its crate doesn't export it.
 
-The status of --check is 1 if a page or a copy is out of step. .ci/run runs it before the merge gate. It needs python3.
+The status of --check is 1 if a page or a copy is out of step.
 """
 
 import functools
@@ -46,6 +46,12 @@ PAGES = [pathlib.Path("docs/proof") / f"{name}.md" for name in NAMES_OF_PAGES]
 RUNNING = CRATES / "gomod_run/src/running.rt"
 LIST = [("Rattle.gomod_run.specs.ListQuery", "ListEnds"), ("Rattle.gomod_run.specs.Written", "EndsAsStated")]
 NAME = re.compile(r"(?<![\w.'])(?:([A-Za-z_]\w*)\.)?([A-Za-z_][\w'-]*)")
+VARIABLE = r"(?<![\w.'])[a-z_]\w*'?"
+# what binds variables, and fields
+BINDERS = [
+    r"[({]((?:[a-z_]\w*'?\s+)*[a-z_]\w*'?) :(?! Type 0 where)", r"λ ([^.:]*)[^.]*\.", r"(?m)^  pub ([a-z_]\w*) :",
+    r"\blet ([a-z_]\w*)", r"[{;]\s*([a-z_]\w*) =(?!=)", r"(?m)^  ([a-z_]\w*) = .*;$",
+]
 SHOWN = re.compile(r"(?ms)^<!-- show ([^\n]*?) -->\n(.*?)^<!-- end -->$")
 
 
@@ -96,17 +102,9 @@ def own_names(file):
 
 def bound_in(text, scope, own):
     """The variables and fields of a definition."""
-    bound = set()
-    for group in re.findall(r"[({]((?:[a-z_]\w*'?\s+)*[a-z_]\w*'?) :(?! Type 0 where)", text):
-        bound.update(group.split())
-    for group in re.findall(r"λ ([^.]*)\.", text):
-        bound.update(re.findall(r"[a-z_]\w*'?", group.split(":")[0]))
-    bound.update(re.findall(r"(?m)^  pub ([a-z_]\w*) :", text))
-    bound.update(re.findall(r"\blet ([a-z_]\w*)", text))
-    bound.update(re.findall(r"[{;]\s*([a-z_]\w*) =(?!=)", text))
-    bound.update(re.findall(r"(?m)^  ([a-z_]\w*) = .*;$", text))
+    bound = {name for rule in BINDERS for group in re.findall(rule, text) for name in re.findall(VARIABLE, group)}
     for left in re.findall(r"(?m)^[a-z_A-Z]\w*'? ([^=\n]*?) =(?!=)", text):
-        for name in re.findall(r"(?<![\w.])[a-z_]\w*'?", left):
+        for name in re.findall(VARIABLE, left):
             target = place(*scope[name]) if name in scope else own.get(name)
             if not (isinstance(target, Definition) and name in target.constructors):
                 bound.add(name)

@@ -8,8 +8,8 @@ more lemmas have which say different things, and the statements that are proved 
 A lemma restates another if their types are the same text once all variables are renamed in the order in which they
 come, and brackets and blanks are left out. So one with other premises, or over another type, isn't counted. The
 standard library's lemmas are those on the pages of the toolchain's std/lemmas, which any crate may cite. Answers to
-goals (proofs/MODULE/FUNCTION) are no lemmas, and crates/page proves copies of statements. It needs rt, python3, and
-two seconds. .ci/run runs it with --check.
+goals (proofs/MODULE/FUNCTION) are no lemmas, and crates/page proves copies of statements. It needs rt, python3, and two
+seconds.
 """
 
 import collections

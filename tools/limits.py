@@ -20,6 +20,7 @@ import signal
 import subprocess
 import tempfile
 import time
+from subprocess import PIPE
 
 import script
 from script import holding
@@ -87,11 +88,6 @@ class Trial(script.Trial):
         words = [self.program, *line.split()]
         done = subprocess.run(words, input=stdin, capture_output=True, timeout=LIMIT, check=False, **given)
         return done.returncode, done.stdout, done.stderr
-
-    def start(self, line, stdin, **given):
-        """A command line that runs on beside this, with standard input."""
-        pipe = subprocess.PIPE
-        return subprocess.Popen([self.program, *line.split()], stdin=stdin, stderr=pipe, **given)
 
     def same(self, what, line, **given):
         got = self.run(line, **given)
@@ -172,13 +168,12 @@ class Trial(script.Trial):
 
         status, out, _ = self.plain[line]
         with holding(b"") as file:
-            words = [self.program, *line.split()]
-            pipe = subprocess.PIPE
-            done = subprocess.run(words, input=LIST, stdout=file, stderr=pipe, preexec_fn=small, check=False)
+            child = self.start(line, stdin=PIPE, stdout=file, preexec_fn=small)
+            child.communicate(LIST, LIMIT)
             file.seek(0)
             text = file.read()
-        right = done.returncode == (3 if out else status) and out.startswith(text) and len(text) <= room
-        self.judge(f"a file of {room} bytes: gomod {line}", (done.returncode, text), right)
+        right = child.returncode == (3 if out else status) and out.startswith(text) and len(text) <= room
+        self.judge(f"a file of {room} bytes: gomod {line}", (child.returncode, text), right)
 
     def try_pipes(self):
         """Readers of a pipe that go, and one that is slow."""
@@ -189,7 +184,7 @@ class Trial(script.Trial):
                 def set_handler(handler=handler):
                     signal.signal(signal.SIGPIPE, handler)
 
-                child = self.start(READS, file, stdout=subprocess.PIPE, restore_signals=False, preexec_fn=set_handler)
+                child = self.start(READS, stdin=file, stdout=PIPE, restore_signals=False, preexec_fn=set_handler)
                 got = child.stdout.read(take)
                 child.stdout.close()
                 report = child.stderr.read()
@@ -198,7 +193,7 @@ class Trial(script.Trial):
             right = status == 3 and not report and wanted.startswith(got)
             self.judge(f"a reader that takes {take} bytes: gomod {READS}", (status, report), right)
         with holding(self.many) as file:
-            child = self.start(READS, file, stdout=subprocess.PIPE)
+            child = self.start(READS, stdin=file, stdout=PIPE)
             got = b""
             while piece := os.read(child.stdout.fileno(), 3001):
                 got += piece
@@ -210,13 +205,13 @@ class Trial(script.Trial):
         """The program is stopped and goes on, while it waits for input and while it writes."""
         wanted = self.run(READS, self.many)[1]
         for _ in range(20):
-            child = self.start(READS, subprocess.PIPE, stdout=subprocess.PIPE)
+            child = self.start(READS, stdin=PIPE, stdout=PIPE)
             child.stdin.write(self.many[:7])
             child.stdin.flush()
             self.stop(child)
             got, report = child.communicate(self.many[7:], timeout=LIMIT)
             self.judge(f"stopped: gomod {READS}", (child.returncode, report), (child.returncode, got) == (0, wanted))
-            child = self.start(READS, subprocess.PIPE, stdout=subprocess.PIPE)
+            child = self.start(READS, stdin=PIPE, stdout=PIPE)
             child.stdin.write(self.many)
             child.stdin.close()
             self.stop(child)

@@ -15,7 +15,7 @@ has each of them, and each call in a crate of its function that asks for as much
 same steps to the call, and what the functions and constants of the file and the variables are that say how much.
 
 It prints each failure or call that has no row, or another condition than its row, each row that is left, and how many
-there are. The status is 1 if one is wrong. Tests and the runner of cases are not looked at. It needs python3.
+there are. The status is 1 if one is wrong. Tests and the runner of cases are not looked at.
 """
 
 import re

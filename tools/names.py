@@ -9,8 +9,8 @@ is one that stands in another file too, or twice in a table. A string is a name 
 longer texts, such as help, aren't looked at, but for help's list of operations.
 
 Aside are crates that no program or library of users is made of (cases, tests, laws, page, library_example), and, by a
-list in tools/names.py, words that are spelled alike and are something else: the directives of a go.mod file, and
-`mod` of the go command. It needs python3. .ci/run runs it before the merge gate.
+list in tools/names.py, words that are spelled alike and are something else: the directives of a go.mod file, and `mod`
+of the go command.
 """
 
 import collections

@@ -14,7 +14,7 @@ the others doesn't count.
 
 A name counts if the file imports or declares it, even if a variable has it where it stands. So a definition may count
 as reached that isn't: give the variable another name. crates/page is left out, whose definitions are copies. It needs
-python3, and takes two seconds. .ci/run runs it before the merge gate.
+python3, and takes two seconds.
 """
 
 import collections

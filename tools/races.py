@@ -106,8 +106,7 @@ class Race(Trial):
         self.rows = {b"m.x/m", *map(str.encode, paths)}
 
     def start(self, line):
-        null, pipe = subprocess.DEVNULL, subprocess.PIPE
-        return subprocess.Popen([self.program, *line.split()], stdin=null, stdout=pipe, stderr=pipe)
+        return super().start(line, stdin=subprocess.DEVNULL, stdout=subprocess.PIPE)
 
     @staticmethod
     def end_of(child):

@@ -20,7 +20,7 @@ for words. Of a release the documents and the files of the examples are in share
 
 It needs bin/gomod (./build makes it), bash and python3, and unless --quick is given the toolchain of Rattle and 3.4 GB
 of memory. It prints each difference, how many of each were right and wrong, and how many examples were skipped for want
-of which commands. The status is 1 if one was wrong. .ci/run runs it after the merge gate.
+of which commands. The status is 1 if one was wrong.
 """
 
 import collections

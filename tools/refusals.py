@@ -18,8 +18,7 @@ For each edit it prints a line: `refused`, `other` with the goals where it was r
 twin `twin proved` or `twin REFUSED`. The status is 1 if an edit was not refused at its clause, names none, or its twin
 was not proved. A goal whose answer only names what the edit took away does not count. With --table the status is 1 if
 an edit names no clause, has no twin, or changes more than src/: an edit that takes answers out of proofs/ may be
-refused for that alone. .ci/run runs this table before the merge gate, which itself asks only whether an edit is
-refused.
+refused for that alone.
 
 It needs rt and python3, and the crates as ./build or `rt all check` leaves them (the libraries below a crate are enough
 for `--only`), and takes about half a minute a check.

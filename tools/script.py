@@ -47,6 +47,12 @@ def need_gomod():
         sys.exit(1)
 
 
+def git(*words, top="."):
+    """What git prints of a repository, or nothing if it fails."""
+    done = subprocess.run(["git", "-C", top, *words], capture_output=True, text=True)
+    return done.stdout.strip() if done.returncode == 0 else ""
+
+
 def read(name):
     """The text of a file; bytes that are not UTF-8 are kept."""
     with open(name, encoding="utf-8", errors="surrogateescape", newline="") as file:
@@ -104,6 +110,10 @@ class Trial:
 
     def __init__(self, program):
         self.program, self.runs, self.wrong = program, 0, 0
+
+    def start(self, line, **given):
+        """Starts a command line, whose report is read here."""
+        return subprocess.Popen([self.program, *line.split()], stderr=subprocess.PIPE, **given)
 
     def judge(self, what, got, is_right):
         """Counts a run, and prints it if it is wrong, each part of what came cut to 300 characters."""

@@ -7,7 +7,7 @@ verdict.
 They stand between the marks `<!-- show trusted -->` and `<!-- end -->`. What speeds a check up alone
 (`incremental=trusted`, which the gate's verdict doesn't have) is left out. If a log has no verdict of gomod, as when
 `rt ci` kept the crate from an earlier run, it says so, and there is nothing to compare. The status is 1 if the page
-differs, or has no marks. .ci/run runs --check after the merge gate. It needs python3.
+differs, or has no marks.
 """
 
 import os

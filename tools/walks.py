@@ -4,11 +4,10 @@ each with its file and line. docs/dev/WALKS.md tells them in words, and isn't re
     tools/walks.sh          prints the walks
     tools/walks.sh --check  prints only what is wrong
 
-The lists stand in tools/walks.py. It checks in the sources that the body of each function names the next one, and
-that the requirements of a vertex are lent, and a turn is appended, in `lend_at` alone, in which `lend` and `visit`
-end. The status is 1 if not, or if more than nine are on the stack when `load` is called, fourteen, from `load` on,
-when a requirement is put into the list, or twelve at the first change of a line. .ci/run runs it before the merge
-gate. It needs python3.
+The lists stand in tools/walks.py. It checks in the sources that the body of each function names the next one, and that
+the requirements of a vertex are lent, and a turn is appended, in `lend_at` alone, in which `lend` and `visit` end. The
+status is 1 if not, or if more than nine are on the stack when `load` is called, fourteen, from `load` on, when a
+requirement is put into the list, or twelve at the first change of a line.
 """
 
 import re
