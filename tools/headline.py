@@ -24,9 +24,9 @@ HEADLINE.md may have 45 definitions and 170 lines. A leaf is what another page d
 (NAMES.md), what bytes and answers say (DIRECTIVES.md), texts, the limit, the rest after a path and the go.sum
 (REPORTS.md); or what the code or the standard library does.
 
-The last lines count what one reads to believe a contract: that of `gomod_run::run`, and of all functions that the
-libraries export. A definition is reached if a name of it stands in a clause or in a definition that is reached, and it
-has as many lines as are neither empty nor a comment. A type of the code is private if its crate doesn't export it.
+The last lines count what one reads to believe the contract of `gomod_run::run`. A definition is reached if a name of it
+stands in a clause or in a definition that is reached, and it has as many lines as are neither empty nor a comment. A
+type of the code is private if its crate doesn't export it.
 
 The status of --check is 1 if a page or a copy is out of step.
 """
@@ -267,40 +267,22 @@ def linked(source):
 
 @functools.cache
 def offered(crate):
-    """The names that a crate exports, and its public modules."""
+    """The names that a crate exports."""
     root = CRATES / crate / "src/lib.rt"
     public = sources.public_items(root) if root.exists() else []
-    modules = {it.name for it in public if it.kind == "mod"}
-    return {it.name for it in public} - modules | (sources.exports(root).keys() if public else set()), modules
+    return {it.name for it in public if it.kind != "mod"} | (sources.exports(root).keys() if public else set())
 
 
 def is_private(leaf):
-    return bool(leaf.owner) and leaf.owner[1] not in offered(leaf.owner[0])[0]
-
-
-def exported():
-    """The functions with a contract that the libraries export: the crate's name and the function's, and what the names
-    in its clauses mean."""
-    for path in sources.files("src/**/*.rt"):
-        crate, module, text = path.parts[1], "/".join(path.parts[3:]).removesuffix(".rt"), path.read_text()
-        names, modules = offered(crate)
-        for function, block in functions(text) if crate != PAGE else ():
-            is_public = function.visibility == "pub"
-            if block:
-                is_public = (is_public or block.trait) and block.kind == "impl" and block.name in names
-            else:
-                is_public = is_public and (function.name in names or module in modules)
-            clauses = function.clauses().values() if is_public else ()
-            if clauses:
-                yield f"{crate}::{block.name + '::' if block else ''}{function.name}", used_in_clauses(path, clauses)
+    return bool(leaf.owner) and leaf.owner[1] not in offered(leaf.owner[0])
 
 
 def size_of(found):
-    """What these names reach, in words, and the private types among it."""
+    """What these names reach, in words, and how many private types are among it."""
     reached, leaves = reached_from(found)
     size, files = sum(it.size() for it in reached), {it.file for it in reached}
-    private = sorted({f"{it.owner[0]}::{it.owner[1]}" for it in leaves if is_private(it)})
-    return len(reached), f"{len(reached)} definitions, {size} lines, in {len(files)} files", private
+    private = {it.owner for it in leaves if is_private(it)}
+    return f"{len(reached)} definitions, {size} lines, in {len(files)} files", len(private)
 
 
 # ---- the crate that a reader can change
@@ -403,18 +385,12 @@ def counts(pages):
         [it for _, it in used_in_clauses(RUNNING, of)] for of in ([clauses["ends"]], clauses.values())
     )
     for title, found in (("`list`", [place(*it) for it in LIST]), ("clause `ends`", ends), ("all clauses", every)):
-        _, size, private = size_of(found)
+        size, private = size_of(found)
         left, used = unshown(found, pages)
         where = f"on {used} pages, {len(left)} on no page"
-        print(f"gomod_run::run, {title}: {size}, {where}; {len(private)} private types of the code")
+        print(f"gomod_run::run, {title}: {size}, {where}; {private} private types of the code")
         for it in left:
             print(f"  {it.name} of {it.file} is on no page")
-    rows, types = [], set()
-    for name, used in exported():
-        count, size, private = size_of(it for _, it in used)
-        rows.append((count, f"{name}: {size}"))
-        types.update(private)
-    print(f"all {len(rows)} exported contracts, the most for {max(rows)[1]}; {len(types)} private types of the code")
     return len(unshown(every, pages)[0])
 
 

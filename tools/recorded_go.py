@@ -111,7 +111,7 @@ def answer(file, real, *words):
     if real:
         given = question.ask(real)
         recorded["answers"].setdefault(key, given)
-        write(file, json.dumps(recorded, indent=1) + "\n")
+        write(file, json.dumps(recorded, indent=0) + "\n")
     elif key in recorded["answers"]:
         given = recorded["answers"][key]
         copied = {f"CACHE/{it}": question.in_proxy(it) for it in given.get("copied", [])}
