@@ -83,15 +83,10 @@ use Rattle.page.proofs.Saying.{file_is, said_of}
 against : PartsAreShown → OthersDoNotHold → ⊥
 unfolding is_fetchable
 against parts others = """
-VALUE, FACT, LAWFUL, NOTHING = "value", "fact", "law", "no outcome"
-SHAPE, PROVED, UNREAD = "proof", "proved", "not read"
-REFUSED = {
-    VALUE: "refuted by a value",
-    FACT: "refuted by a proof that a fact of a world is false now",
-    LAWFUL: "refuted by the law that a run has one outcome",
-    NOTHING: "refuted by a run that has no outcome",
-}
-SAID = {**REFUSED, SHAPE: "only a proof no longer fits", PROVED: "PROVED", UNREAD: "not read"}
+# what is said of a change that was tried
+VALUE, FACT = "refuted by a value", "refuted by a proof that a fact of a world is false now"
+LAWFUL, NOTHING = "refuted by the law that a run has one outcome", "refuted by a run that has no outcome"
+SHAPE, PROVED, UNREAD = "only a proof no longer fits", "PROVED", "not read"
 
 
 @dataclasses.dataclass
@@ -218,7 +213,7 @@ class Room:
 
 
 def is_right(change, kind):
-    return kind == PROVED if change.is_equal else kind in REFUSED
+    return kind == PROVED if change.is_equal else kind in (VALUE, FACT, LAWFUL, NOTHING)
 
 
 def try_all(chosen, most):
@@ -235,7 +230,7 @@ def try_all(chosen, most):
             kind, why = verdict(room.tried(change), names, change)
             tried += 1
             wrong += not is_right(change, kind)
-            print(f"{number} {change.title}: {SAID[kind]} ({room.last:.0f} s)\n  {why}".rstrip(), flush=True)
+            print(f"{number} {change.title}: {kind} ({room.last:.0f} s)\n  {why}".rstrip(), flush=True)
         print(f"{tried} changes tried, {wrong} of them not as they should be; {room.seconds:.0f} CPU seconds")
     return wrong
 

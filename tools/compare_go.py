@@ -51,8 +51,6 @@ from script import read, write
 TOP = os.path.dirname(os.path.dirname(os.path.abspath(__file__)))
 GOMOD = os.path.join(TOP, "bin", "gomod")
 SAME, BOTH = "the same", "refused by both"
-MISFITS = ("Versions in a list that do not fit the path, as `v2.0.0` of a path without `/v2`, or are not canonical, as "
-           "`v1.2`")
 SECONDS = 120
 # What go says about a file of a module, and what gomod then reports.
 FAULTS = [
@@ -63,18 +61,10 @@ FAULTS = [
     (r"declares its path as|missing module line", {"WrongPath"}),
     (r"parsing go\.mod|errors parsing|go\.mod:\d+", {"Malformed"}),
 ]
-NOT_CANONICAL = "Versions that are not canonical: `v1.2`, `latest`, a branch, a commit"
-EXCLUDED = "Versions that the main file excludes"
-TWICE = "A version that stands twice in a list"
-DROPPED = "What `go mod edit` drops as it formats"
-TWO_REPLACES = "Two `replace` of one left side"
-RETRACT_IN_ONE_CALL = "`retract` of what is there already; `dropretract` of what the same call added"
-NEWER = "`go` and `toolchain` lines of newer graphs"
-REPLACE_IN_ONE_CALL = "An operation on `P@V` after `replace=P=..` in one call"
 # What go says of a file that gomod reads, or refuses for another reason; what gomod says of one that go reads.
 GO_ALONE = [
     (r"invalid go version", go_rows.TO_GOMOD),
-    (r"unknown (directive|block type): (toolchain|godebug|tool|ignore)\b", NEWER),
+    (r"unknown (directive|block type): (toolchain|godebug|tool|ignore)\b", go_rows.NEWER),
     (r"unexpected input character '\\u", go_rows.MARKS),
     (r'version "\S+" invalid', go_rows.UNFIT),
     (r"appears to be Windows path", "Windows"),
@@ -231,7 +221,7 @@ class Comparison:
             newer = [it for it in theirs if re.search(r"(^| )(go|toolchain)@\S+", it)]
             theirs = sorted(set(theirs) - set(newer), key=lambda it: it.encode())
             if newer:
-                self.found.count("graph", NEWER)
+                self.found.count("graph", go_rows.NEWER)
             return sorted(set(ours), key=lambda it: it.encode()) == theirs and len(set(ours)) == len(ours)
         return ours == theirs
 
@@ -278,7 +268,7 @@ class Comparison:
         elif kind:
             pass
         elif re.search(r"^(\S+@\S+: Malformed|go\.mod:)[ \d]+:? BadVersion$", came.err, re.M):
-            kind = NOT_CANONICAL
+            kind = go_rows.NOT_CANONICAL
         elif came.status == 0 and self.is_untidy(command, main, wanted):
             kind = "An untidy main file"
         elif command == "list" and came.status == 0 and self.is_unneeded(came, wanted):
@@ -368,7 +358,7 @@ class Comparison:
         ours, theirs = came.out.split()[1:], row.split(" ")[1:]
         once = list(dict.fromkeys(theirs))
         if came.status == 0 and not error and ours == once:
-            return [SAME if once == theirs else TWICE]
+            return [SAME if once == theirs else go_rows.TWICE]
         lines = read(f"{self.commands.proxy}/{escaped(path)}/@v/list").splitlines()
         listed = [it.split()[0] for it in lines if re.match(r"v\d+(\.\d+){0,2}([-+]|\s|$)", it)]
         listed = [it for it in listed if not re.search(r"\d{14}-[0-9a-f]{12}", it)]
@@ -377,13 +367,14 @@ class Comparison:
             kept = [it for it in once if fits(path, it)]
             shown = [it for it in ours if (path, it) not in excludes]
             if kept == shown:
-                return [EXCLUDED] * (shown != ours) + [MISFITS] * (kept != once) + [TWICE] * (once != theirs)
+                differs = {go_rows.EXCLUDED: shown != ours, go_rows.MISFITS: kept != once, go_rows.TWICE: once != theirs}
+                return [name for name, is_met in differs.items() if is_met]
         if not error and fitting and all((path, it) in excludes for it in fitting):
-            return [EXCLUDED]
+            return [go_rows.EXCLUDED]
         if came.err.endswith("BadVersion\n"):
-            return [NOT_CANONICAL]
+            return [go_rows.NOT_CANONICAL]
         if not words and latest_of(listed) not in fitting:
-            return [MISFITS]
+            return [go_rows.MISFITS]
         if not words and "+incompatible" in latest_of(fitting):
             return ["The latest version with `+incompatible`"]
         return [BOTH] if came.status and error else []
@@ -405,8 +396,8 @@ class Comparison:
             if number and number[2] == "Misfit":
                 return ["`require=P@V` where V does not fit P"]
             if number and re.search(r"@(v\d+(\.\d+)?|latest|master)$", operations[int(number[1]) - 1]):
-                return [NOT_CANONICAL]
-            faults = {"ConflictingReplace": TWO_REPLACES, "BadVersion": NOT_CANONICAL}
+                return [go_rows.NOT_CANONICAL]
+            faults = {"ConflictingReplace": go_rows.TWO_REPLACES, "BadVersion": go_rows.NOT_CANONICAL}
             return [faults[it] for it in faults if re.fullmatch(rf"go\.mod:\d+: {it}\n", came.err)]
         if wanted.status:
             if "invalid -go" in wanted.err and any(re.fullmatch(r"go=.*(\..*\.|rc).*", it) for it in operations):
@@ -420,7 +411,7 @@ class Comparison:
         kinds = {"Words in grave accents; `replace=P=./x@y`"} if cut and "=> ./a b" in wanted else set()
         wanted = wanted.replace("=> ./a b", "=> ./a@b") if kinds else wanted
         whole = re.sub(r"( v\d+\.\d+)(?=\s)", r"\1.0", came)
-        kinds |= {NOT_CANONICAL} if whole != came else set()
+        kinds |= {go_rows.NOT_CANONICAL} if whole != came else set()
         (ours, our_comments), (theirs, their_comments) = pieces_of(whole), pieces_of(wanted)
         lost = our_comments - their_comments
         if their_comments - our_comments:
@@ -429,23 +420,23 @@ class Comparison:
             drops = any(it.startswith(("drop", "require", "replace")) for it in operations)
             kinds.add("A comment on a line before an entry that an edit drops" if drops else None)
         elif lost:
-            kinds.add(DROPPED)
+            kinds.add(go_rows.DROPPED)
         for verb, args, _ in ours - theirs:
             left = left_of(args)
             kept = [them for it, them, _ in theirs if it == verb and them[:len(left)] == left]
             again = [us for it, us, _ in ours.elements() if it == verb and us[:len(left)] == left]
             if verb == "replace" and is_rewritten(left[0], operations):
-                kinds.add(REPLACE_IN_ONE_CALL)
+                kinds.add(go_rows.REPLACE_IN_ONE_CALL)
             elif verb in ("exclude", "replace") and len(again) > 1 and kept:
-                kinds.add(DROPPED if args in kept else TWO_REPLACES)
+                kinds.add(go_rows.DROPPED if args in kept else go_rows.TWO_REPLACES)
             else:
                 kinds.add(None)
         for verb, args, _ in theirs - ours:
             if verb == "retract":
-                kinds.add(RETRACT_IN_ONE_CALL if any("retract=" in it for it in operations) else None)
+                kinds.add(go_rows.RETRACT_IN_ONE_CALL if any("retract=" in it for it in operations) else None)
             else:
                 is_named = verb == "replace" and is_rewritten(args[0], operations)
-                kinds.add(REPLACE_IN_ONE_CALL if is_named else None)
+                kinds.add(go_rows.REPLACE_IN_ONE_CALL if is_named else None)
         return [None] if None in kinds else sorted(kinds)
 
     def compare_layout(self, main, is_laid_out):
@@ -464,7 +455,7 @@ class Comparison:
             if came.status == 0 and self.both_refuse(strict, wanted):
                 return ["`fmt` of a file with a faulty directive"]
             if came.status == 0 and re.match(r"go\.mod:\d+: BadVersion$", strict.err, re.M):
-                return [NOT_CANONICAL]
+                return [go_rows.NOT_CANONICAL]
             return [read_by_one(came, wanted)]
         if came.out == wanted.out:
             return [SAME]

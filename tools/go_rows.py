@@ -14,6 +14,24 @@ MARK = "\ufeff"
 LATIN = "\udce9"  # a byte that is not UTF-8
 HUGE = 2**64
 LIST = "list -m all"
+# rows that compare_go.py counts; the last ones are of what one of the two reads and the other does not
+NOT_CANONICAL = "Versions that are not canonical: `v1.2`, `latest`, a branch, a commit"
+MISFITS = ("Versions in a list that do not fit the path, as `v2.0.0` of a path without `/v2`, or are not canonical, as "
+           "`v1.2`")
+EXCLUDED = "Versions that the main file excludes"
+TWICE = "A version that stands twice in a list"
+DROPPED = "What `go mod edit` drops as it formats"
+TWO_REPLACES = "Two `replace` of one left side"
+RETRACT_IN_ONE_CALL = "`retract` of what is there already; `dropretract` of what the same call added"
+NEWER = "`go` and `toolchain` lines of newer graphs"
+REPLACE_IN_ONE_CALL = "An operation on `P@V` after `replace=P=..` in one call"
+TO_GOMOD = "`go 1.17.1`, `go 1.21rc1` or `go \"1.17\"` in a main file; `go v1.17` or `go \"1.17\"` in a dependency"
+BLOCK = "`go (` in a dependency; a number of more than nine digits in a go version"
+INCOMPATIBLE = "`v1.0.0+incompatible`; `v2.0.0+incompatible` of a path with `/v2`"
+COMMENTS = "A comment that is not UTF-8"
+MARKS = "A byte order mark, or white space past ASCII, outside strings and comments"
+UNFIT = "A version that does not fit its path, in a `retract` or on the right of a `replace`"
+PROFILE = "Texts, paths, numbers and sizes that SPEC.md leaves out by its own choice"
 
 
 class Row(typing.NamedTuple):
@@ -40,7 +58,7 @@ ROWS = [
         proxy={"example.com/a v1.0.0": FILE_A + "go 1.17\nrequire example.com/b v1.0.0\n"}, words=LIST),
     Row("A file in the graph that the module cache lacks", "list --proxy empty", "example.com/a v1.0.0\n",
         "example.com/a@v1.0.0: Missing\n", words=LIST),
-    Row("Versions that are not canonical: `v1.2`, `latest`, a branch, a commit", "list", "example.com/b v1.0.0\n",
+    Row(NOT_CANONICAL, "list", "example.com/b v1.0.0\n",
         "example.com/a@v1.0.0: Malformed 2 BadVersion\n",
         proxy={"example.com/a v1.0.0": FILE_A + "require example.com/b v1.0\n", **B, "example.com/b list": "v1.0.0\n"}),
     Row("`require=P@V` where V does not fit P", "edit require=example.com/b@v2.0.0", "example.com/b v2.0.0\n",
@@ -50,29 +68,28 @@ ROWS = [
         main="module example.com/m\nrequire (\nexample.com/b v1.0.0\nexample.com/a v1.0.0\n)\n"),
     Row("`fmt` of a file with a faulty directive", "fmt", "usage: require module/path v1.2.3",
         "require example.com/b\n", main=MAIN + "\nrequire example.com/b\n"),
-    Row("What `go mod edit` drops as it formats", "fmt", "\nexclude example.com/b v1.0.0\n",
+    Row(DROPPED, "fmt", "\nexclude example.com/b v1.0.0\n",
         "\texample.com/b v1.0.0\n\texample.com/b v1.0.0\n",
         main=MAIN + "\nexclude (\n\texample.com/b v1.0.0\n\texample.com/b v1.0.0\n)\n"),
-    Row("Two `replace` of one left side", "edit go=1.18", "replace example.com/b => ./two\n",
+    Row(TWO_REPLACES, "edit go=1.18", "replace example.com/b => ./two\n",
         "go.mod:8: ConflictingReplace\n",
         main=MAIN + "\nreplace example.com/b => ./one\nreplace example.com/b => ./two\n"),
     Row("The place of a new `require`", "edit go.mod require=example.com/c@v1.0.0",
         "require (\n\texample.com/a v1.0.0\n\texample.com/c v1.0.0\n)\n",
         "require example.com/a v1.0.0\nrequire example.com/c v1.0.0\n",
         words="mod edit -print -require=example.com/c@v1.0.0 go.mod"),
-    Row("`go` and `toolchain` lines of newer graphs", "list", "go.mod:7: unknown directive: toolchain",
+    Row(NEWER, "list", "go.mod:7: unknown directive: toolchain",
         "example.com/a v1.0.0\n", main=MAIN + "\ntoolchain go1.21.1\n"),
     Row("The latest version with `+incompatible`", "versions example.com/a",
         "example.com/a v1.0.0 v2.0.0+incompatible\t", "example.com/a v2.0.0+incompatible\n",
         proxy={"example.com/a v1.0.0": FILE_A + "go 1.17\n",
                "example.com/a v2.0.0+incompatible": FILE_A + "retract v1.0.0\n",
                "example.com/a list": "v1.0.0\nv2.0.0+incompatible\n"}),
-    Row("Versions in a list that do not fit the path, as `v2.0.0` of a path without `/v2`, or are not canonical, as "
-        "`v1.2`", "versions example.com/a", "example.com/a v1.0.0 v2.0.0\t", "example.com/a v1.0.0\n",
+    Row(MISFITS, "versions example.com/a", "example.com/a v1.0.0 v2.0.0\t", "example.com/a v1.0.0\n",
         proxy={**A, "example.com/a list": "v1.0.0\nv2.0.0\n", "example.com/a v2.0.0": FILE_A}),
-    Row("A version that stands twice in a list", "versions example.com/a", "example.com/a v1.0.0 v1.0.0\t",
+    Row(TWICE, "versions example.com/a", "example.com/a v1.0.0 v1.0.0\t",
         "example.com/a v1.0.0\n", proxy={**A, "example.com/a list": "v1.0.0\nv1.0.0\n"}),
-    Row("Versions that the main file excludes", "versions example.com/a", "example.com/a v1.1.0\t",
+    Row(EXCLUDED, "versions example.com/a", "example.com/a v1.1.0\t",
         "example.com/a v1.0.0 v1.1.0\n", main=MAIN + "\nexclude example.com/a v1.0.0\n",
         proxy={**A, "example.com/a v1.1.0": FILE_A, "example.com/a list": "v1.0.0\nv1.1.0\n"}),
     Row("Operations", "edit go.mod -go=1.18", "go 1.18\n", "error: operations have no dash: go=1.18\n",
@@ -80,15 +97,15 @@ ROWS = [
     Row("A comment on a line before an entry that an edit drops", "edit droprequire=example.com/a",
         "go 1.19\n", "go 1.19\n\n// why\n", main=MAIN.replace("require", "// why\nrequire")),
     Row("A go version in `go mod edit -go`", "edit go=1.21.0", "invalid -go option", "go 1.21.0\n"),
-    Row("`retract` of what is there already; `dropretract` of what the same call added", "edit retract=v1.0.0",
+    Row(RETRACT_IN_ONE_CALL, "edit retract=v1.0.0",
         "retract (\n\tv1.0.0\n\tv1.0.0\n)\n", "\nretract v1.0.0\n", main=MAIN + "\nretract v1.0.0\n"),
-    Row("`retract` of what is there already; `dropretract` of what the same call added",
+    Row(RETRACT_IN_ONE_CALL,
         "edit retract=v1.0.0 dropretract=v1.0.0", "\nretract v1.0.0\n", "require example.com/a v1.0.0\n"),
-    Row("An operation on `P@V` after `replace=P=..` in one call",
+    Row(REPLACE_IN_ONE_CALL,
         "edit replace=example.com/b@v1.0.0=./a replace=example.com/b=./b replace=example.com/b@v1.0.0=./c",
         "v1.0.0\n\nreplace example.com/b v1.0.0 => ./c\n",
         "\nreplace example.com/b => ./b\nreplace example.com/b v1.0.0 => ./c\n"),
-    Row("An operation on `P@V` after `replace=P=..` in one call",
+    Row(REPLACE_IN_ONE_CALL,
         "edit replace=example.com/b=./b dropreplace=example.com/b@v1.0.0",
         "require example.com/a v1.0.0\n", "\nreplace example.com/b => ./b\n",
         main=MAIN + "\nreplace example.com/b v1.0.0 => ./a\n"),
@@ -108,14 +125,6 @@ ROWS = [
         main=MAIN + "\nreplace example.com/b => ./b\\c\n"),
 ]
 
-# What one of the two reads and the other does not.
-TO_GOMOD = "`go 1.17.1`, `go 1.21rc1` or `go \"1.17\"` in a main file; `go v1.17` or `go \"1.17\"` in a dependency"
-BLOCK = "`go (` in a dependency; a number of more than nine digits in a go version"
-INCOMPATIBLE = "`v1.0.0+incompatible`; `v2.0.0+incompatible` of a path with `/v2`"
-COMMENTS = "A comment that is not UTF-8"
-MARKS = "A byte order mark, or white space past ASCII, outside strings and comments"
-UNFIT = "A version that does not fit its path, in a `retract` or on the right of a `replace`"
-PROFILE = "Texts, paths, numbers and sizes that SPEC.md leaves out by its own choice"
 REFUSED = "invalid go version"
 LISTED = "example.com/a v1.0.0\n"
 
