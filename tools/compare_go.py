@@ -367,8 +367,8 @@ class Comparison:
             kept = [it for it in once if fits(path, it)]
             shown = [it for it in ours if (path, it) not in excludes]
             if kept == shown:
-                differs = {go_rows.EXCLUDED: shown != ours, go_rows.MISFITS: kept != once, go_rows.TWICE: once != theirs}
-                return [name for name, is_met in differs.items() if is_met]
+                told = {go_rows.EXCLUDED: shown != ours, go_rows.MISFITS: kept != once, go_rows.TWICE: once != theirs}
+                return [name for name, is_met in told.items() if is_met]
         if not error and fitting and all((path, it) in excludes for it in fitting):
             return [go_rows.EXCLUDED]
         if came.err.endswith("BadVersion\n"):

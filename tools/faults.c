@@ -145,20 +145,13 @@ int open(const char *name, int flags, ...) {
     return opened(AT_FDCWD, name, flags, mode);
 }
 
-int open64(const char *name, int flags, ...) {
-    MODE(flags)
-    return opened(AT_FDCWD, name, flags, mode);
-}
-
 int openat(int folder, const char *name, int flags, ...) {
     MODE(flags)
     return opened(folder, name, flags, mode);
 }
 
-int openat64(int folder, const char *name, int flags, ...) {
-    MODE(flags)
-    return opened(folder, name, flags, mode);
-}
+int open64(const char *, int, ...) __attribute__((alias("open")));
+int openat64(int, const char *, int, ...) __attribute__((alias("openat")));
 
 /* Whether a read or write fails. If not, the size becomes what it may move. */
 static int fails(enum call call, size_t *size) {
