@@ -12,7 +12,6 @@ import socket
 import stat
 import threading
 
-import script
 
 DATA = "crates/run_cases/data"
 ESCAPE = re.compile(rb'\\(?:(n|r|t|0|\\|"|x[0-9a-fA-F]{2})|\*([0-9]+)\*(?:\(([^)]*)\)|(.)))', re.S)
@@ -423,7 +422,3 @@ def remove(folder):
             if not os.path.islink(place):
                 os.chmod(place, 0o700)
     shutil.rmtree(folder)
-
-
-if __name__ == "__main__":
-    script.run()

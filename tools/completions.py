@@ -17,7 +17,6 @@ import subprocess
 import tempfile
 import time
 
-import script
 from script import read, write
 
 TOP = os.path.dirname(os.path.dirname(os.path.abspath(__file__)))
@@ -184,7 +183,3 @@ def main():
     for name in (it for it in SHELLS if it not in tried):
         print(f"skipped, for want of {name}: {len(PAIRS)} completed lines")
     return wrong > 0
-
-
-if __name__ == "__main__":
-    script.run()

@@ -115,7 +115,7 @@ class Line:
         self.stdin = read(stdin).encode() if isinstance(stdin, str) else stdin
         *self.plain, told = trial.run(self, [])
         self.plain, self.calls, files = tuple(self.plain), [], {"0": "-"}
-        for call, argument, result in (it.rsplit(" ", 1)[0].split(" ", 1) + [it.rsplit(" ", 1)[1]] for it in told[:-1]):
+        for call, argument, result in (re.fullmatch(r"(\w+) (.*) (-?\d+)", it).groups() for it in told[:-1]):
             if call == "open" and int(result) >= 0:
                 files[result] = argument
             self.calls.append(Call(call, argument if call == "open" else files.get(argument, argument), int(result)))

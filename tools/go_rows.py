@@ -2,7 +2,6 @@
 import os
 import typing
 
-import script
 from go_worlds import escaped, hash_of, lay_version
 from script import write
 
@@ -192,7 +191,3 @@ def lay(row, proxy, main):
     write(f"{main}/go.mod", row.main)
     for name, text in row.files.items():
         write(f"{main}/{name}", text)
-
-
-if __name__ == "__main__":
-    script.run()

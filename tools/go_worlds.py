@@ -8,7 +8,6 @@ import random
 import re
 import zipfile
 
-import script
 from script import write
 
 RELEASES = ["v0.1.0", "v0.2.0", "v1.0.0", "v1.1.0", "v1.2.0-rc.1", "v1.2.0", "v1.10.0"]
@@ -351,7 +350,3 @@ def operations(some, requires, replaces, excludes):
             *[f"require={one}@v1.2", f"replace={one}=./a@b"] * is_rare(0.2),
         ]))
     return found
-
-
-if __name__ == "__main__":
-    script.run()

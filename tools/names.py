@@ -18,7 +18,7 @@ import pathlib
 import re
 
 import script
-from sources import CRATES
+from sources import CRATES, files
 
 # each kind of names, the files with its tables, and what a row of each looks like
 TABLES = {
@@ -62,11 +62,9 @@ def places_of(names):
     """The files of src/ and of specs/ in which each name stands: how often, by the folder and the file."""
     places = {name: {"src": collections.Counter(), "specs": collections.Counter()} for name in names}
     unused = set(OTHERWISE)
-    for path in sorted(CRATES.glob("*/*/**/*")):
+    for path in [*files("src/**/*.rt"), *files("specs/**/*.antt")]:
         below = path.relative_to(CRATES)
         folder = below.parts[1]
-        if folder not in ("src", "specs") or path.suffix not in (".rt", ".antt"):
-            continue
         if is_like(pathlib.Path(below.parts[0]), ASIDE):
             continue
         found = [it for it in (re.sub(r"^--?|=$", "", it) for it in strings(path)) if it in places]

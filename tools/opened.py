@@ -13,7 +13,6 @@ import subprocess
 import sys
 from typing import NamedTuple
 
-import script
 
 CALLS = "%file,%network,%ipc,read,readv,pread64,preadv,preadv2,clone,clone3,fork,vfork,ftruncate,fchmod,fchown"
 LINE = re.compile(rb"(\d+) +(.*)\n")
@@ -177,7 +176,3 @@ def all_faults(path, program, started):
     if len(calls) != len(started):
         sys.exit(f"program: strace saw {len(calls)} commands, and {len(started)} were started")
     return {it.when: list(faults_of(own, it.allowed)) for it, own in zip(sorted(started), calls)}
-
-
-if __name__ == "__main__":
-    script.run()

@@ -106,16 +106,10 @@ def files_in(room):
     """What a folder has: each folder, link and file below it, with its bytes."""
     found = {}
     for folder, folders, names in os.walk(room):
-        for name in [*folders, *names]:
-            path = os.path.join(folder, name)
-            at = os.path.relpath(path, room)
-            if os.path.islink(path):
-                found[at] = os.readlink(path)
-            elif os.path.isdir(path):
-                found[at] = "a folder"
-            else:
-                with open(path, "rb") as it:
-                    found[at] = it.read()
+        for path in (os.path.join(folder, it) for it in [*folders, *names]):
+            is_link, is_folder = os.path.islink(path), os.path.isdir(path)
+            content = os.readlink(path) if is_link else "a folder" if is_folder else read(path)
+            found[os.path.relpath(path, room)] = content
     return found
 
 

@@ -1,6 +1,4 @@
-"""What the scripts in Python share. They begin with `script.run(main)`, in the file that is run.
-
-    NAME.py -h, NAME.py --help    print the docstring of that file, as they do here
+"""What the scripts in Python share. Those that are run begin with `script.run(main)`.
 
 What tools/NAME.sh does stands in NAME.py, if there is one with that name.
 """
@@ -18,11 +16,6 @@ import tempfile
 # how much there is side by side: from 24 on, cases that open descriptors 62 and 63 would meet those of a pool
 AT_ONCE = min(len(os.sched_getaffinity(0)), 16)
 NAME = pathlib.Path(sys.argv[0]).stem.replace("_", "-")
-
-
-def no_words(*_):
-    """The main function of a file that others import: it takes no words."""
-    return 2
 
 
 def misused(reason):
@@ -135,7 +128,7 @@ def checksum(text):
     return digits.translate(str.maketrans("0123456789abcdef", "ghijklmnopqrstuv"))
 
 
-def run(main=no_words, takes=".*"):
+def run(main, takes=".*"):
     """Ends with what the main function makes of the words, which have a form, each after a blank; or prints the
     docstring if it is asked for."""
     words = sys.argv[1:]
@@ -145,7 +138,3 @@ def run(main=no_words, takes=".*"):
     if not re.fullmatch(takes, "".join(f" {it}" for it in words), re.S):
         misused(f"it doesn't take '{' '.join(words)}'" if words else "it takes arguments")
     sys.exit(main(*words))
-
-
-if __name__ == "__main__":
-    run()

@@ -165,7 +165,3 @@ def accept(names):
     for name in sorted(unknown):
         print(f"documents: no sentence is bound to {name}", file=sys.stderr)
     return bool(unknown)
-
-
-if __name__ == "__main__":
-    script.run()

@@ -14,7 +14,6 @@ import functools
 import pathlib
 import re
 
-import script
 
 CRATES = pathlib.Path("crates")
 PAGE = "page"  # the crate whose definitions are copies of others
@@ -199,7 +198,3 @@ def functions(text):
             yield one, None
         elif one.kind in ("impl", "trait"):
             yield from ((it, one) for it in one.inner() if it.kind == "fn")
-
-
-if __name__ == "__main__":
-    script.run()
