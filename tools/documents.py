@@ -32,7 +32,7 @@ import re
 import sys
 
 import script
-import sentences as sentences_of_laws
+import sentences
 from script import Tally, git, read
 from sources import USE, code_of, exports, functions, items_of, names_in, public_items
 
@@ -452,10 +452,10 @@ def sections_of(path):
 def keep_budgets(tally):
     """Whether README.md and CHANGELOG.md are as short as they should be."""
     readme = sections_of("README.md")
-    sentences = [it[2:] for it in readme["What is verified"] if it.startswith("- ")]
+    claims = [it[2:] for it in readme["What is verified"] if it.startswith("- ")]
     budgets = [("README.md", sum(map(words_in, readme.values())), 800, "words"),
-               ("README.md, What is verified", len(sentences), 8, "sentences")]
-    budgets += [(f"README.md, '{it}'", len(it.split()), 30, "words") for it in sentences]
+               ("README.md, What is verified", len(claims), 8, "sentences")]
+    budgets += [(f"README.md, '{it}'", len(it.split()), 30, "words") for it in claims]
     budgets += [(f"CHANGELOG.md, {heading}", words_in(lines), 500, "words")
                 for heading, lines in sections_of("CHANGELOG.md").items()]
     for what, number, most, unit in budgets:
@@ -511,8 +511,8 @@ def keep_messages(tally):
 def main(*names):
     """Looks up what the documents name, prints what isn't there, and returns the status."""
     if names[:1] == ("--accept",):
-        return sentences_of_laws.accept(names[1:])
-    wrong = not names and sentences_of_laws.compare()
+        return sentences.accept(names[1:])
+    wrong = not names and sentences.compare()
     if not git("rev-parse", "HEAD"):
         sys.exit("documents: this is no repository of git, so nothing can be looked up")
     sources, tally = Sources(), Tally()

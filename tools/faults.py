@@ -272,18 +272,6 @@ class Trial(script.Trial):
             self.all_at(jobs)
 
 
-def main(*words):
-    """Tries all, and returns the status."""
-    program, words = script.program_of(words)
-    is_whole = words[:1] == ("--whole",)
-    numbers = ["300", *words[1:]] if is_whole else words
-    seconds, seed = [*numbers, *("20", "1")[len(numbers):]]
-    is_wrong = try_faults(program, int(seconds), int(seed))
-    for words in [["limits.py", program], ["races.py", program, "60", seed]] if is_whole else []:
-        is_wrong |= subprocess.run([sys.executable, "-B", f"tools/{words[0]}", *words[1:]]).returncode
-    return int(is_wrong > 0)
-
-
 def compiled(folder):
     compiler, library = os.environ.get("CC") or "cc", os.path.join(folder, "faults.so")
     if not shutil.which(compiler):
@@ -306,6 +294,18 @@ def try_faults(program, seconds, seed):
         trial.try_pairs(lines, seconds, seed)
         print(f"{single} runs with a fault, {trial.runs - single} with two, {trial.wrong} wrong")
         return trial.wrong > 0
+
+
+def main(*words):
+    """Tries all, and returns the status."""
+    program, words = script.program_of(words)
+    is_whole = words[:1] == ("--whole",)
+    numbers = ["300", *words[1:]] if is_whole else words
+    seconds, seed = [*numbers, *("20", "1")[len(numbers):]]
+    is_wrong = try_faults(program, int(seconds), int(seed))
+    for name, *more in [["limits"], ["races", "60", seed]] if is_whole else []:
+        is_wrong |= subprocess.run([sys.executable, "-B", f"tools/{name}.py", program, *more]).returncode != 0
+    return int(is_wrong)
 
 
 if __name__ == "__main__":
