@@ -6,7 +6,7 @@ use Rattle.std.specs.declared.cmp.Ordering.TheVariants.{Less, Equal, Greater}
 use Rattle.std.specs.Cmp.{IsTotalOrder}
 use Rattle.std.specs.FinMap.{nat_cmp-IsAntisymmetric}
 use Rattle.std.specs.List.Sorted.{IsNonDecreasingBy, IsPartitionPoint, IsSortedBy}
-use Rattle.std.specs.Option.{option_cmp}
+use Rattle.std.specs.Option.{option_cmp, option_map_or}
 use Rattle.std.specs.Ordering.{is_lt, nat_cmp, ordering_index, ordering_reverse}
 use Rattle.std.proofs.lemmas.Bool.{cases_lt, cond-true, lt-ltb}
 use Rattle.std.proofs.lemmas.Cmp.{nat_cmp_total, tied_itself}
@@ -22,10 +22,10 @@ use Rattle.gm_graph_select.specs.declared.step.Step.{Step}
 use Rattle.gm_graph_select.specs.declared.step.Step.TheVariants.{Main, Of}
 use Rattle.gm_graph_select.specs.Adjacency.{AreRanked, GraphView, IsBelow, IsNumbered, StepEdges, by_step, edges_from, edges_of, left_by, list_at, step_edges, step_with}
 use Rattle.gm_graph_select.specs.Graph.{edge, step_cmp}
-use Rattle.gm_graph_select.specs.Private.Numbering.{AreInList, AreLeaving, HasList, IsGraph, number_left, number_with, step_at, steps_of}
+use Rattle.gm_graph_select.specs.Private.Numbering.{AreInList, AreLeaving, HasList, IsGraph, number_left, step_at, steps_of}
 use Rattle.gm_graph_select.specs.Order.{IsAscending}
 use Rattle.gm_graph_select.specs.StepOrder.{step_total}
-use Rattle.gm_graph_select.proofs.Ascending.{less_itself}
+use Rattle.gm_graph_select.proofs.Ascending.{less_itself, no_member}
 use Rattle.gm_graph_select.proofs.Ranges.{lt_less}
 use Rattle.gm_graph_select.proofs.RankedLists.{edges_each, edges_only, from_mapped, in_mapped}
 
@@ -115,6 +115,10 @@ module _ {X K : Type 0} {cmp : K → K → Ordering} (total : IsTotalOrder cmp) 
 
 -- ---- a graph by ranks
 
+-- the number of a step by its rank
+abbrev number_with : Option ℕ → ℕ
+number_with from = option_map_or (λ (rank : ℕ). rank + 1) from 0
+
 -- the number of the step that edges leave
 abbrev left_number : StepEdges → ℕ
 left_number one = number_with one.from
@@ -195,14 +199,20 @@ module _ (vertices : List ModuleVersion) (all : List StepEdges) (sources : List 
       → AreLeaving (record { vertices = vertices; edges = edges_of vertices all; sources = sources }) number one.to
   list_leaves one number there is below = record {
     within = (numbered_list one there).to;
-    only = λ k d inside. edges_each vertices all one (edge (step_at (Main ∷ map Of vertices) number) (module_at vertices (get_or one.to k d))) there
-        (subst (λ (s : Step). Contains (edges_from vertices one) (edge s (module_at vertices (get_or one.to k d)))) left
-        (in_mapped (λ (n : ℕ). edge (left_by vertices one) (module_at vertices n)) one.to (get_or one.to k d) (Contains-get_or one.to k d inside)));
-    all = λ y h.
-        let (other, found, number_is, at) = list_with number below y h in
-        let same : other ≡ one = one_list other one found there (number_is ∙ sym is) in
-        subst (λ (s : Step). Contains (map (λ (n : ℕ). edge s (module_at vertices n)) one.to) (edge (step_at (Main ∷ map Of vertices) number) y)) left
-        (subst (λ (o : StepEdges). Contains (edges_from vertices o) (edge (step_at (Main ∷ map Of vertices) number) y)) same at);
+    each = λ y. (
+      (λ h.
+          let (rank, held, is) = from_mapped (module_at vertices) one.to y h in
+          edges_each vertices all one (edge (step_at (Main ∷ map Of vertices) number) y) there
+          (subst (λ (e : Edge). Contains (edges_from vertices one) e) (ap₂ edge left is)
+          (in_mapped (λ (n : ℕ). edge (left_by vertices one) (module_at vertices n)) one.to rank held))),
+      (λ h.
+          let (other, found, number_is, at) = list_with number below y h in
+          let same : other ≡ one = one_list other one found there (number_is ∙ sym is) in
+          let (rank, held, to) = from_mapped (λ (n : ℕ). edge (left_by vertices other) (module_at vertices n)) other.to
+          (edge (step_at (Main ∷ map Of vertices) number) y) at in
+          subst (λ (z : ModuleVersion). Contains (map (module_at vertices) one.to) z) (ap (λ (e : Edge). e.to) to)
+          (in_mapped (module_at vertices) one.to rank (subst (λ (o : StepEdges). Contains o.to rank) same held))),
+    );
   }
     where
       left : left_by vertices one ≡ step_at (Main ∷ map Of vertices) number
@@ -214,8 +224,7 @@ module _ (vertices : List ModuleVersion) (all : List StepEdges) (sources : List 
       → AreLeaving (record { vertices = vertices; edges = edges_of vertices all; sources = sources }) number []
   none_leave number none below = record {
     within = λ k d inside. absurd (omega (arith, inside));
-    only = λ k d inside. absurd (omega (arith, inside));
-    all = λ y h. absurd (let (one, there, is, at) = list_with number below y h in none one there is);
+    each = λ y. ((λ h. absurd (no_member y h)), (λ h. absurd (let (one, there, is, at) = list_with number below y h in none one there is)));
   }
 
 -- ---- sources by ranks

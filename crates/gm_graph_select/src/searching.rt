@@ -7,17 +7,16 @@
 //! If steps share a list, their edges lead to the same vertices, so those of a later one find nothing new. Each list is
 //! passed over once.
 
-ghost use Rattle.std.specs.Prelude.{◌≡◌, ◌<◌, ◌≤◌, ◌++◌, ◌∷◌, [], false, true, ℕ, Bool, IfNone, IfOk, IfSome, List, OnOk, length, slice_index_or, slice_set};
+ghost use Rattle.std.specs.Prelude.{◌≡◌, ◌<◌, ◌≤◌, ◌++◌, ◌∷◌, [], false, true, ℕ, IfNone, IfOk, IfSome, OnOk, length, replicate, slice_index_or, slice_set};
 ghost use Rattle.std.specs.List.Sorted.{IsNonDecreasingBy};
-ghost use Rattle.gm_name.specs.ModuleVersion.{ModuleVersion, module_at};
+ghost use Rattle.gm_name.specs.ModuleVersion.{module_at};
 ghost use Rattle.gm_graph_select.specs.Graph.{among};
-ghost use Rattle.gm_graph_select.specs.declared.step.Edge.{Edge};
 ghost use Rattle.gm_graph_select.specs.declared.step.Step.TheVariants.{Of};
-ghost use Rattle.gm_graph_select.specs.Adjacency.{GraphView};
 ghost use Rattle.gm_graph_select.specs.Order.{HaveSame};
 ghost use Rattle.gm_graph_select.specs.Chains.{IsReached};
-ghost use Rattle.gm_graph_select.specs.Private.Numbering.{IsGraph, steps_of};
-ghost use Rattle.gm_graph_select.specs.Private.Searching.{AreTried, IsFollowed, IsNextEdge, IsSearchedTo, IsTracedTo, IsVisitedNext, first_state, state_of};
+ghost use Rattle.gm_graph_select.specs.Private.Marking.{HasMark};
+ghost use Rattle.gm_graph_select.specs.Private.Numbering.{IsGraph, step_at, steps_of};
+ghost use Rattle.gm_graph_select.specs.Private.Searching.{AreEndsFound, AreNewVisits, ArePassed, IsEdgeTo, IsFollowed, IsSearchedTo, IsTracedTo};
 
 use crate::graph::Graph;
 use crate::sorting::sorted;
@@ -49,8 +48,11 @@ struct Search {
 impl Search {
     /// The state before the first level, whose only step is the main module.
     fn new(alloc: Global, graph: &Graph) -> Result<Search, AllocError>
-        ensures { IfOk result (λ search. (lists : ℕ)
-            × (state_of search ≡ first_state (length (steps_of graph.now)) lists)) }
+        ensures found { IfOk result (λ search.
+            search.is_found.items ≡ slice_set (replicate (length (steps_of graph.now)) false) 0 true) }
+        ensures visits { IfOk result (λ search. search.visits.items ≡ []) }
+        ensures next { IfOk result (λ search. search.next.items ≡ []) }
+        ensures passed { IfOk result (λ search. (list : ℕ) → ¬ (HasMark search.is_passed.items list)) }
     {
         let mut is_found = vec![in alloc; false; graph.step_count()]?;
         is_found[0] = true;
@@ -75,8 +77,8 @@ impl Search {
 
     /// Notes that the list at this place was passed. There is nothing to note at a place past the end.
     fn pass(&mut self, list: usize)
-        ensures { state_of self.new
-            ≡ record (state_of self.old) { passed = slice_set self.old.is_passed.items list true } }
+        ensures others { self.new ≡ record self.old { is_passed = self.new.is_passed } }
+        ensures passed { self.new.is_passed.items ≡ slice_set self.old.is_passed.items list true }
     {
         if list < self.is_passed.len() {
             self.is_passed[list] = true;
@@ -87,13 +89,9 @@ impl Search {
     /// the goal.
     fn follow(&mut self, before: usize, number: usize) -> Result<(), AllocError>
         requires { number < length self.old.is_found.items }
-        ensures size { length self.new.is_found.items ≡ length self.old.is_found.items }
-        ensures visits { self.new.visits ≡ self.old.visits }
-        ensures followed { OnOk result ((graph : GraphView) (goal : ModuleVersion) (level : ℕ) (found : List Bool)
-            (tried : List Edge) (e : Edge) → IsGraph graph
-            → IsNextEdge graph goal level found tried self.old.visits.items before number e
-            → IsFollowed graph goal level found tried (state_of self.old)
-            → IsFollowed graph goal level found (tried ++ e ∷ []) (state_of self.new)) }
+        ensures others { self.new ≡ record self.old { is_found = self.new.is_found; next = self.new.next } }
+        ensures found { HasMark self.new.is_found.items number }
+        ensures followed { OnOk result (AreNewVisits before (λ found. found ≡ number) self.old self.new) }
     {
         if self.is_found[number] {
             return Ok(());
@@ -110,15 +108,14 @@ impl Search {
         requires goal { goal < length graph.now.vertices }
         requires size { length self.old.is_found.items ≡ length (steps_of graph.now) }
         requires inside { visit.number < length (steps_of graph.now) }
-        ensures size { length self.new.is_found.items ≡ length (steps_of graph.now) }
         ensures visits { OnOk result (self.new.visits.items ≡ self.old.visits.items ++ visit ∷ []) }
-        ensures found { IfOk result (λ is_goal. is_goal ≡ true → (level : ℕ) (found : List Bool) (tried : List Edge)
-            → IsVisitedNext graph.now (module_at graph.now.vertices goal) level found tried (state_of self.old) visit
-            → IsTracedTo graph.now (module_at graph.now.vertices goal) self.new.visits.items) }
-        ensures missed { IfOk result (λ is_goal. is_goal ≡ false → (level : ℕ) (found : List Bool) (tried : List Edge)
-            → IsVisitedNext graph.now (module_at graph.now.vertices goal) level found tried (state_of self.old) visit
-            → (more : List Edge) × IsFollowed graph.now (module_at graph.now.vertices goal) level found (tried ++ more)
-            (state_of self.new) × AreTried graph.now (visit ∷ []) more) }
+        ensures found { IfOk result (λ is_goal. is_goal ≡ true
+            → among graph.now.edges (step_at (steps_of graph.now) visit.number) (module_at graph.now.vertices goal)) }
+        ensures missed { IfOk result (λ is_goal. is_goal ≡ false
+            → AreNewVisits (length self.old.visits.items) (IsEdgeTo graph.now visit.number) self.old self.new
+            × (ArePassed graph.now (module_at graph.now.vertices goal) self.old.is_found.items self.old.is_passed.items
+            → ArePassed graph.now (module_at graph.now.vertices goal) self.new.is_found.items self.new.is_passed.items
+            × AreEndsFound graph.now (module_at graph.now.vertices goal) self.new.is_found.items visit.number)) }
     {
         let before = self.visits.len();
         self.visits.push(visit)?;
@@ -146,14 +143,12 @@ impl Search {
         requires graph { IsGraph graph.now }
         requires goal { goal < length graph.now.vertices }
         requires searched { (level : ℕ)
-            × IsSearchedTo graph.now (module_at graph.now.vertices goal) level (state_of self.old) due.now }
+            × IsSearchedTo graph.now (module_at graph.now.vertices goal) level self.old due.now }
         ensures found { IfOk result (λ is_goal. is_goal ≡ true
             → IsTracedTo graph.now (module_at graph.now.vertices goal) self.new.visits.items) }
         ensures missed { IfOk result (λ is_goal. is_goal ≡ false → (level : ℕ)
-            → IsSearchedTo graph.now (module_at graph.now.vertices goal) level (state_of self.old) due.now
-            → (tried : List Edge) × AreTried graph.now due.now tried
-            × IsFollowed graph.now (module_at graph.now.vertices goal) level self.old.is_found.items tried
-            (state_of self.new)) }
+            → IsSearchedTo graph.now (module_at graph.now.vertices goal) level self.old due.now
+            → IsFollowed graph.now (module_at graph.now.vertices goal) level self.old.is_found.items due.now self.new) }
     {
         for visit in due {
             if self.visit(graph, goal, *visit)? {
@@ -165,7 +160,8 @@ impl Search {
 
     /// Takes the visits to the next level, in ascending order of their steps.
     fn take_level(&mut self, alloc: Global) -> Vec<Visit>
-        ensures state { state_of self.new ≡ record (state_of self.old) { next = [] } }
+        ensures others { self.new ≡ record self.old { next = self.new.next } }
+        ensures none { self.new.next.items ≡ [] }
         ensures members { HaveSame self.old.next.items result.items }
         ensures fewer { length result.items ≤ length self.old.next.items }
         ensures ascending { IsNonDecreasingBy (λ visit. visit.number) result.items }

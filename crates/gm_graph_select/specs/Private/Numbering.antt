@@ -1,12 +1,13 @@
 -- Numbers for the steps of a module graph: 0 for the main module, and for each vertex one more than its rank.
-use Rattle.std.specs.Prelude.{◌≡◌, ◌<◌, ◌+◌, ℕ, All, Contains, List, ◌∷◌, Option, None, Some, length, map, slice_index_or}
+use Rattle.std.specs.Prelude.{◌≡◌, ◌↔◌, ◌<◌, ◌+◌, ℕ, All, Contains, List, ◌∷◌, length, map, slice_index_or}
+use Rattle.std.specs.Option.{option_map_or}
 use Rattle.gm_name.specs.ModuleVersion.{ModuleVersion, module_at, pair_cmp}
 use Rattle.gm_graph_select.specs.declared.adjacency.Source.{Source}
 use Rattle.gm_graph_select.specs.declared.step.Edge.{Edge}
 use Rattle.gm_graph_select.specs.declared.step.Step.{Step}
 use Rattle.gm_graph_select.specs.declared.step.Step.TheVariants.{Main, Of}
 use Rattle.gm_graph_select.specs.Adjacency.{GraphView}
-use Rattle.gm_graph_select.specs.Graph.{edge}
+use Rattle.gm_graph_select.specs.Graph.{among}
 use Rattle.gm_graph_select.specs.Order.{IsAscending}
 
 -- the steps, by number
@@ -22,29 +23,15 @@ pub record IsGraph (graph : GraphView) : Type 0 where
   pub left : (e : Edge) → Contains graph.edges e → Contains (steps_of graph) e.from
   pub ends : (e : Edge) → Contains graph.edges e → Contains graph.vertices e.to
 
--- the number of a step: the main module has no rank
-abbrev pub number_with : Option ℕ → ℕ
-number_with None = 0
-number_with (Some rank) = rank + 1
-
--- the number of the step that is a source
+-- the number of the step that is a source: the main module has no rank
 abbrev pub number_left : Source → ℕ
-number_left one = number_with one.from
-
--- the edge from the step with a number to the vertex with a rank
-abbrev pub edge_leaving : GraphView → ℕ → ℕ → Edge
-edge_leaving graph number rank = edge (step_at (steps_of graph) number) (module_at graph.vertices rank)
-
--- the edges from the step with a number to the vertices with these ranks
-abbrev pub edges_leaving : GraphView → ℕ → List ℕ → List Edge
-edges_leaving graph number ranks = map (edge_leaving graph number) ranks
+number_left one = option_map_or (λ rank. rank + 1) one.from 0
 
 -- These are the ranks of the vertices that edges lead to from the step with a number.
 pub record AreLeaving (graph : GraphView) (number : ℕ) (ranks : List ℕ) : Type 0 where
   pub within : All (λ rank. rank < length graph.vertices) ranks
-  pub only : All (λ rank. Contains graph.edges (edge_leaving graph number rank)) ranks
-  pub all : (y : ModuleVersion) → Contains graph.edges (edge (step_at (steps_of graph) number) y)
-      → Contains (edges_leaving graph number ranks) (edge (step_at (steps_of graph) number) y)
+  pub each : (y : ModuleVersion) → Contains (map (module_at graph.vertices) ranks) y
+      ↔ among graph.edges (step_at (steps_of graph) number) y
 
 -- The list at this place is that of the step with a number.
 abbrev pub HasList : GraphView → ℕ → ℕ → Type 0

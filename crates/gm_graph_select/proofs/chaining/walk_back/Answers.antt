@@ -25,7 +25,7 @@ back-preserved c =
     let steps = steps_of c.args.graph.now in
     let visits = c.args.visits.now in
     let k = c.back.place in
-    let (below, chain) = back_more E steps visits k c.in-Some.vertex.now (c.requires.traced.each.traced k c.back.invariant.inside) c.in-Some.ensures.some in
+    let (below, chain) = back_more E steps visits k c.in-Some.vertex.now (c.requires.traced.each k c.back.invariant.inside) c.in-Some.ensures.some in
     let more : c.push_step-in-Some.new.steps.items ≡ c.back.steps.items ++ Of c.in-Some.vertex.now ∷ [] = c.in_ok-push_step-2.ensures in
     record {
       inside = let room = c.back.invariant.inside in omega (arith, below, room);

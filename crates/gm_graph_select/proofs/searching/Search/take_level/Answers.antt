@@ -2,13 +2,11 @@ use Rattle.std.proofs.Common.{◌∙◌, List, ap, arith, length, subst}
 use Rattle.std.specs.Ordering.{nat_cmp}
 use Rattle.gm_graph_select.specs.declared.searching.Visit.{Visit}
 use Rattle.gm_graph_select.specs.Order.{HaveSame}
-use Rattle.gm_graph_select.specs.Private.Searching.{state_of}
 use Rattle.gm_graph_select.proofs.Sorts.{numbers_ascend}
 use Rattle.gm_graph_select.proofs.searching.Search.take_level.Goals as goal
 
-pub returns-clause-state : goal.returns-clause-state
-returns-clause-state c = ap (λ (visits : List Visit). record (state_of c.args.self.now) { next = visits })
-    (ap (λ v. v.items) c.replace.ensures.after ∙ c.new.ensures.items)
+pub returns-clause-none : goal.returns-clause-none
+returns-clause-none c = ap (λ v. v.items) c.replace.ensures.after ∙ c.new.ensures.items
 
 pub returns-clause-members : goal.returns-clause-members
 returns-clause-members c = subst (λ (next : List Visit). HaveSame next c.sorted.result.items)

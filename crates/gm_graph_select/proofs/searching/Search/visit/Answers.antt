@@ -1,134 +1,125 @@
-use Rattle.std.proofs.Common.{◌≡◌, ◌≢◌, ◌++◌, ◌∙◌, [], List, ℕ, append-nil, ap, get_or, length, refl, take, subst, sym, arith}
+use Rattle.std.proofs.Common.{◌≡◌, ◌≢◌, ◌+◌, ◌∙◌, [], Bool, false, List, ℕ, ap, get_or, length, refl, take, subst, sym, arith}
+use Rattle.std.specs.Prelude.{All}
 use Rattle.std.proofs.lemmas.Grind.{common_steps}
 use Rattle.std.proofs.lemmas.List.{length-map}
-use Rattle.gm_name.specs.ModuleVersion.{ModuleVersion, module_at}
+use Rattle.std.proofs.lemmas.List.Elements.{Contains-get_or}
+use Rattle.gm_name.specs.ModuleVersion.{module_at}
 use Rattle.gm_graph_select.specs.Graph.{among}
-use Rattle.gm_graph_select.specs.declared.step.Edge.{Edge}
+use Rattle.gm_graph_select.specs.declared.searching.Search.{Search}
 use Rattle.gm_graph_select.specs.declared.step.Step.TheVariants.{Of}
-use Rattle.gm_graph_select.specs.Private.Numbering.{edge_leaving, edges_leaving, step_at, steps_of}
-use Rattle.gm_graph_select.specs.Private.Searching.{IsFollowed, State, state_of}
-use Rattle.gm_graph_select.proofs.BreadthFirst.{found_here, last_visit, list_passed, one_more, one_tried, turn_later, visited_now, with_passed}
-use Rattle.gm_graph_select.proofs.NumberedSteps.{same_rank, step_of_rank}
+use Rattle.gm_graph_select.specs.Private.Marking.{HasMark}
+use Rattle.gm_graph_select.specs.Private.Numbering.{step_at, steps_of}
+use Rattle.gm_graph_select.specs.Private.Searching.{AreEndsFound, AreNewVisits, ArePassed, IsEdgeTo, numbers_visited}
+use Rattle.gm_graph_select.proofs.BreadthFirst.{both_new, ends_found, ends_later, list_passed, none_new, rank_followed}
+use Rattle.gm_graph_select.proofs.NumberedSteps.{step_of_rank}
+use Rattle.gm_graph_select.proofs.RankedLists.{in_mapped}
 use Rattle.gm_graph_select.proofs.searching.Search.visit.Goals as goal
 
 pub returns-in_default-clause-missed : goal.returns-in_default-clause-missed
-returns-in_default-clause-missed c = λ e level found tried due.
-    let old = c.args.self.now in
-    let graph = c.args.graph.now in
-    let goal = module_at graph.vertices c.args.goal in (
-      [],
-      subst (λ (es : List Edge). IsFollowed graph goal level found es (record (state_of old) { visits = c.push.new.self.items })) (sym (append-nil tried))
-          (visited_now graph goal level found tried (state_of old) c.push.new.self.items c.args.visit c.requires.inside c.in_ok-push.ensures.items due),
-      one_tried graph c.args.visit [] c.in_default.ensures.none.all,
+returns-in_default-clause-missed c = λ e.
+    let old = c.args.self.now in (
+      none_new (length old.visits.items) _ old _ refl refl,
+      (λ passed. (
+        passed,
+        ends_found c.args.graph.now c.requires.graph c.args.goal c.requires.goal old.is_found.items []
+            (λ k d below. absurd (omega (arith, below))) c.args.visit.number c.in_default.ensures.none,
+      )),
     )
 
 pub returns-then-has_passed-clause-missed : goal.returns-then-has_passed-clause-missed
-returns-then-has_passed-clause-missed c = λ e level found tried due.
-    let old = c.args.self.now in
-    let graph = c.args.graph.now in
-    let goal = module_at graph.vertices c.args.goal in
-    let number = c.args.visit.number in
-    let list = c.in-Some.list in
-    let ranks = c.ranks_in-ranks.result.now in
-    let leaving = c.ranks_in-ranks.ensures number c.requires.inside c.in-Some.ensures.some in (
-      edges_leaving graph number ranks,
-      with_passed graph goal level found tried (record (state_of old) { visits = c.push.new.self.items }) number list
-          ranks c.requires.inside c.in-Some.ensures.some leaving (sym c.has_passed.ensures ∙ c.if-has_passed.true)
-          (visited_now graph goal level found tried (state_of old) c.push.new.self.items c.args.visit c.requires.inside c.in_ok-push.ensures.items due),
-      one_tried graph c.args.visit (edges_leaving graph number ranks) leaving.all,
+returns-then-has_passed-clause-missed c = λ e.
+    let old = c.args.self.now in (
+      none_new (length old.visits.items) _ old _ refl refl,
+      (λ passed. (
+        passed,
+        passed c.args.visit.number c.in-Some.list c.requires.inside c.in-Some.ensures.some (sym c.has_passed.ensures ∙ c.if-has_passed.true),
+      )),
     )
 
 pub loop-rank-init : goal.loop-rank-init
 loop-rank-init c = record {
-  size = c.requires.size;
   visits = c.in_ok-push.ensures.items;
-  followed = λ level found tried due.
-      let old = c.args.self.now in
-      let graph = c.args.graph.now in
-      let goal = module_at graph.vertices c.args.goal in
-      subst (λ (es : List Edge). IsFollowed graph goal level found es (record (state_of old) { visits = c.push.new.self.items })) (sym (append-nil tried))
-      (visited_now graph goal level found tried (state_of old) c.push.new.self.items c.args.visit c.requires.inside c.in_ok-push.ensures.items due);
+  passed = refl;
+  new = none_new (length c.args.self.now.visits.items) _ c.args.self.now _ refl refl;
+  each = λ k d below. absurd (omega (arith, below));
 }
 
 pub returns-then-rank-goal-clause-found : goal.returns-then-rank-goal-clause-found
-returns-then-rank-goal-clause-found c = λ e level found tried due.
+returns-then-rank-goal-clause-found c = λ e.
     let graph = c.args.graph.now in
-    let goal = module_at graph.vertices c.args.goal in
     let number = c.args.visit.number in
     let k = c.loop-rank.rank-index in
     let ranks = c.ranks_in-ranks.result.now in
-    let rank = get_or ranks k 0 in
     let leaving = c.ranks_in-ranks.ensures number c.requires.inside c.in-Some.ensures.some in
-    let there = leaving.only k 0 (omega arith) in
-    let same : module_at graph.vertices rank ≡ goal = ap (λ (n : ℕ). module_at graph.vertices n) c.if-rank-goal.true in
-    found_here graph goal level found (tried ++ edges_leaving graph number (take k ranks)) (state_of c.loop-rank.self)
-    c.args.self.now.visits.items c.args.visit c.loop-rank.invariant.visits
-    (subst (λ (y : ModuleVersion). among graph.edges (step_at (steps_of graph) number) y) same there)
-    (turn_later graph goal level found tried (edges_leaving graph number (take k ranks))
-    (step_at (steps_of graph) number) due.turn) due.far (c.loop-rank.invariant.followed level found tried due)
+    subst (λ (rank : ℕ). among graph.edges (step_at (steps_of graph) number) (module_at graph.vertices rank)) c.if-rank-goal.true
+    ((leaving.each (module_at graph.vertices (get_or ranks k 0))).0
+    (in_mapped (module_at graph.vertices) ranks (get_or ranks k 0) (Contains-get_or ranks k 0 (omega arith))))
 
 pub follow-requires : goal.follow-requires
 follow-requires c =
     let vertices = c.args.graph.now.vertices in
     let leaving = c.ranks_in-ranks.ensures c.args.visit.number c.requires.inside c.in-Some.ensures.some in
     let inside = leaving.within c.loop-rank.rank-index 0 (omega arith) in
-    let size = c.loop-rank.invariant.size in
+    let size = c.loop-rank.invariant.new.found.count ∙ c.requires.size in
     omega (arith, inside, size, length-map vertices Of)
 
 pub loop-rank-preserved : goal.loop-rank-preserved
-loop-rank-preserved c = record {
-  size = c.follow.ensures.size ∙ c.loop-rank.invariant.size;
-  visits = ap (λ v. v.items) c.follow.ensures.visits ∙ c.loop-rank.invariant.visits;
-  followed = λ level found tried due.
-      let graph = c.args.graph.now in
-      let goal = module_at graph.vertices c.args.goal in
-      let number = c.args.visit.number in
-      let k = c.loop-rank.rank-index in
-      let ranks = c.ranks_in-ranks.result.now in
-      let rank = get_or ranks k 0 in
-      let done = tried ++ edges_leaving graph number (take k ranks) in
-      let leaving = c.ranks_in-ranks.ensures number c.requires.inside c.in-Some.ensures.some in
-      let there = leaving.only k 0 (omega arith) in
-      let inside = leaving.within k 0 (omega arith) in
-      let miss : module_at graph.vertices rank ≢ goal = λ same.
-      c.if-rank-goal.false (same_rank graph.vertices c.requires.graph.ascending rank c.args.goal inside
-      c.requires.goal same) in
-      let (here, room) = last_visit (steps_of graph) c.args.self.now.visits.items c.args.visit
-      c.loop-rank.self.visits.items c.len-before.result c.loop-rank.invariant.visits
-      (let long = c.args.self.now.visits.ok.0 in let is = c.len-before.ensures in omega (arith, long, is)) in
-      subst (λ (es : List Edge). IsFollowed graph goal level found es (state_of c.follow.new.self))
-      (one_more graph number tried ranks k rank (omega arith) refl)
-      (c.in_ok-follow.ensures.followed graph goal level found done (edge_leaving graph number rank) c.requires.graph (record {
-        there = there;
-        turn = turn_later graph goal level found tried (edges_leaving graph number (take k ranks)) (step_at (steps_of graph) number) due.turn;
-        visited = room;
-        inside = omega (arith, inside, length-map graph.vertices Of);
-        from = here;
-        to = step_of_rank graph.vertices rank inside;
-        miss = miss;
-      }) (c.loop-rank.invariant.followed level found tried due));
-}
-
-pub returns-clause-size : goal.returns-clause-size
-returns-clause-size c = ap (λ (state : State). length state.found) c.pass.ensures ∙ c.loop-rank.invariant.size
+loop-rank-preserved c =
+    let graph = c.args.graph.now in
+    let number = c.args.visit.number in
+    let old = c.args.self.now in
+    let mid = c.loop-rank.self in
+    let new = c.follow.new.self in
+    let k = c.loop-rank.rank-index in
+    let ranks = c.ranks_in-ranks.result.now in
+    let rank = get_or ranks k 0 in
+    let leaving = c.ranks_in-ranks.ensures number c.requires.inside c.in-Some.ensures.some in
+    let inside = leaving.within k 0 (omega arith) in
+    let edge : IsEdgeTo graph number (rank + 1) = (
+      omega (arith, inside, length-map graph.vertices Of),
+      module_at graph.vertices rank,
+      step_of_rank graph.vertices rank inside,
+      (leaving.each (module_at graph.vertices rank)).0 (in_mapped (module_at graph.vertices) ranks rank (Contains-get_or ranks k 0 (omega arith))),
+    ) in
+    let place : c.len-before.result ≡ length old.visits.items = omega (arith, c.len-before.ensures, old.visits.ok.0) in
+    let followed = c.in_ok-follow.ensures.followed in
+    record {
+      visits = ap (λ (s : Search). s.visits.items) c.follow.ensures.others ∙ c.loop-rank.invariant.visits;
+      passed = ap (λ (s : Search). s.is_passed) c.follow.ensures.others ∙ c.loop-rank.invariant.passed;
+      new = both_new (length old.visits.items) (IsEdgeTo graph number) old mid new (λ (n : ℕ). n ≡ rank + 1)
+          (λ n same. subst (λ (m : ℕ). IsEdgeTo graph number m) (sym same) edge) c.loop-rank.invariant.new
+          (subst (λ (p : ℕ). AreNewVisits p (λ (n : ℕ). n ≡ rank + 1) mid new) place followed);
+      each = rank_followed c.args.goal mid.is_found.items new.is_found.items (numbers_visited followed.more) ranks k followed.found
+          (omega arith) c.if-rank-goal.false c.follow.ensures.found c.loop-rank.invariant.each;
+    }
 
 pub returns-clause-visits : goal.returns-clause-visits
-returns-clause-visits c = ap (λ (state : State). state.visits) c.pass.ensures ∙ c.loop-rank.invariant.visits
+returns-clause-visits c = ap (λ (s : Search). s.visits.items) c.pass.ensures.others ∙ c.loop-rank.invariant.visits
 
 pub returns-clause-missed : goal.returns-clause-missed
-returns-clause-missed c = λ e level found tried due.
+returns-clause-missed c = λ e.
     let graph = c.args.graph.now in
     let goal = module_at graph.vertices c.args.goal in
     let number = c.args.visit.number in
     let list = c.in-Some.list in
+    let old = c.args.self.now in
+    let mid = c.loop-rank.self in
+    let new = c.pass.new.self in
     let ranks = c.ranks_in-ranks.result.now in
-    let leaving = c.ranks_in-ranks.ensures number c.requires.inside c.in-Some.ensures.some in
-    let old = c.loop-rank.self in
+    let so = c.loop-rank.invariant in
     let whole : take c.loop-rank.rank-index ranks ≡ ranks = grind (arith, common_steps) in
-    let done = subst (λ (rs : List ℕ). IsFollowed graph goal level found (tried ++ edges_leaving graph number rs)
-    (state_of old)) whole (c.loop-rank.invariant.followed level found tried due) in (
-      edges_leaving graph number ranks,
-      subst (λ (state : State). IsFollowed graph goal level found (tried ++ edges_leaving graph number ranks) state) (sym c.pass.ensures)
-          (list_passed graph goal level found tried (state_of old) number list ranks c.ranks_in-ranks.ensures done),
-      one_tried graph c.args.visit (edges_leaving graph number ranks) leaving.all,
+    let same : new.is_found.items ≡ mid.is_found.items = ap (λ (s : Search). s.is_found.items) c.pass.ensures.others in
+    let each = subst (λ (rs : List ℕ). All (λ (rank : ℕ). (rank ≢ c.args.goal) × HasMark mid.is_found.items (rank + 1)) rs) whole so.each in (
+      both_new (length old.visits.items) (IsEdgeTo graph number) old mid new (IsEdgeTo graph number) (λ n is. is) so.new
+          (none_new (length old.visits.items) (IsEdgeTo graph number) mid new same (ap (λ (s : Search). s.next.items) c.pass.ensures.others)),
+      (λ passed. (
+        subst (λ (marks : List Bool). ArePassed graph goal marks new.is_passed.items) (sym same)
+            (subst (λ (marks : List Bool). ArePassed graph goal mid.is_found.items marks) (sym c.pass.ensures.passed)
+            (list_passed graph c.requires.graph c.args.goal c.requires.goal mid.is_found.items ranks each mid.is_passed.items list c.ranks_in-ranks.ensures
+            (λ other place low has mark. ends_later graph goal old.is_found.items mid.is_found.items (numbers_visited so.new.more) other so.new.found
+            (passed other place low has (sym (ap (λ v. get_or v.items place false) so.passed) ∙ mark))))),
+        subst (λ (marks : List Bool). AreEndsFound graph goal marks number) (sym same)
+            (ends_found graph c.requires.graph c.args.goal c.requires.goal mid.is_found.items ranks each number
+            (c.ranks_in-ranks.ensures number c.requires.inside c.in-Some.ensures.some)),
+      )),
     )
