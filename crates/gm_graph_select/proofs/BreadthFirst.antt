@@ -20,7 +20,7 @@ use Rattle.gm_graph_select.specs.Private.Marking.{AreMarked, HasMark}
 use Rattle.gm_graph_select.specs.Private.Numbering.{AreInList, AreLeaving, HasList, IsGraph, step_at, steps_of}
 use Rattle.gm_graph_select.specs.Order.{HaveSame}
 use Rattle.gm_graph_select.specs.Private.Searching.{AreEndsFound, AreNewVisits, ArePassed, AreTraced, IsEdgeTo, IsFollowed, IsSearchedTo, IsTraced, IsTracedTo, IsVisitDue, IsWithin, count_left, numbers_visited, visit_at, visited_step}
-use Rattle.gm_graph_select.proofs.Ascending.{no_member, one_member}
+use Rattle.gm_graph_select.proofs.Ascending.{member_head, no_member, one_member}
 use Rattle.gm_graph_select.proofs.Marks.{both_marked, count_set, none_marked, none_more, one_marked}
 use Rattle.gm_graph_select.proofs.NumberedSteps.{less_number, same_number, same_rank, step_number, step_of_rank, steps_ascend}
 use Rattle.gm_graph_select.proofs.RankedLists.{from_mapped}
@@ -74,15 +74,9 @@ module _ (E : Edges) (steps : List Step) (visits : List Visit) (v : Visit) where
   traced_later : (place later : ℕ) (w : Visit) → place ≤ length visits → place ≤ later → IsTraced E steps visits place w
       → IsTraced E steps (visits ++ v ∷ []) later w
   traced_later place later w inside le (low, inl main) = (low, inl main)
-  traced_later place later w inside le (low, inr (y, is, below, before)) = (
-    low,
-    inr (
-      y,
-      is,
-      omega (arith, below, le),
-      subst (λ (u : Visit). IsPredecessor E (step_at steps u.number) y) (sym (visit_kept visits v w.before (omega (arith, below, inside)))) before,
-    ),
-  )
+  traced_later place later w inside le (low, inr (y, is, below, before)) =
+      let kept = sym (visit_kept visits v w.before (omega (arith, below, inside))) in
+      (low, inr (y, is, omega (arith, below, le), subst (λ (u : Visit). IsPredecessor E (step_at steps u.number) y) kept before))
 
   pub traced_more : (w : Visit) → IsTraced E steps visits (length visits) w → IsTraced E steps (visits ++ v ∷ []) (length (visits ++ v ∷ [])) w
   traced_more w h = traced_later (length visits) (length (visits ++ v ∷ [])) w (omega arith) (omega (arith, length-append visits (v ∷ []))) h
@@ -99,6 +93,12 @@ module _ (E : Edges) (steps : List Step) (visits : List Visit) (v : Visit) where
   ]
 
 -- ---- new visits to the next level
+
+visits_marked : {old mid new : List Bool} (first second : List Visit) → AreMarked old (numbers_visited first) mid
+    → AreMarked mid (numbers_visited second) new → AreMarked old (numbers_visited (first ++ second)) new
+visits_marked {old} {mid} {new} first second a b =
+    subst (λ (ns : List ℕ). AreMarked old ns new) (sym (map-append (λ (v : Visit). v.number) first second))
+    (both_marked old mid new (numbers_visited first) (numbers_visited second) a b)
 
 module _ (place : ℕ) (IsSuch : ℕ → Type 0) (old : Search) where
   pub none_new : (new : Search) → new.is_found.items ≡ old.is_found.items → new.next.items ≡ old.next.items
@@ -132,8 +132,7 @@ module _ (place : ℕ) (IsSuch : ℕ → Type 0) (old : Search) where
   both_new mid new Is wider a b = record {
     more = a.more ++ b.more;
     next = b.next ∙ ap (λ (vs : List Visit). vs ++ b.more) a.next ∙ append_assoc old.next.items a.more b.more;
-    found = subst (λ (ns : List ℕ). AreMarked old.is_found.items ns new.is_found.items) (sym (map-append (λ (v : Visit). v.number) a.more b.more))
-        (both_marked old.is_found.items mid.is_found.items new.is_found.items (numbers_visited a.more) (numbers_visited b.more) a.found b.found);
+    found = visits_marked a.more b.more a.found b.found;
     count = (let first = a.count in let second = b.count in omega (arith, first, second, length-append a.more b.more));
     each = λ v h. elim (Contains-append_cases a.more b.more v h) [
       | inl first ↦ a.each v first
@@ -172,15 +171,16 @@ module _ (G : GraphView) (are : IsGraph G) (goal : ℕ) (inside : goal < length 
   ]
 
 -- One more edge was followed.
-pub rank_followed : (goal : ℕ) (old new : List Bool) (numbers ranks : List ℕ) (i : ℕ) → AreMarked old numbers new → i < length ranks
-    → get_or ranks i 0 ≢ goal → HasMark new (get_or ranks i 0 + 1)
+pub rank_followed : (goal : ℕ) (old new : List Bool) (ranks : List ℕ) (i : ℕ) → AreMarked old ((get_or ranks i 0 + 1) ∷ []) new
+    → i < length ranks → get_or ranks i 0 ≢ goal
     → All (λ (rank : ℕ). (rank ≢ goal) × HasMark old (rank + 1)) (take i ranks)
     → All (λ (rank : ℕ). (rank ≢ goal) × HasMark new (rank + 1)) (take (i + 1) ranks)
-rank_followed goal old new numbers ranks i marked below miss mark each =
+rank_followed goal old new ranks i marked below miss each =
     subst (λ (rs : List ℕ). All (λ (rank : ℕ). (rank ≢ goal) × HasMark new (rank + 1)) rs) (sym (take_more ranks i 0 below))
     (All-push (λ (rank : ℕ). (rank ≢ goal) × HasMark new (rank + 1)) (take i ranks) (get_or ranks i 0)
     (All-weaker (λ (rank : ℕ). (rank ≢ goal) × HasMark old (rank + 1)) (λ (rank : ℕ). (rank ≢ goal) × HasMark new (rank + 1))
-    (λ rank (apart, h). (apart, (marked.each (rank + 1)).1 (inl h))) (take i ranks) each) (miss, mark))
+    (λ rank (apart, h). (apart, (marked.each (rank + 1)).1 (inl h))) (take i ranks) each)
+    (miss, (marked.each (get_or ranks i 0 + 1)).1 (inr (member_head (get_or ranks i 0 + 1) []))))
 
 -- ---- one more visit of a level
 
@@ -267,18 +267,11 @@ module _ {G : GraphView} {goal : ModuleVersion} {level : ℕ} {start : Search} {
           let (place, (low, y, at, e), none) = new.each u there in
           let far : IsWithin E level (Of y) → ⊥ = λ w.
           none ((f.found.each u.number).1 (inl ((h.found u.number low).1 (subst (λ (a : Step). IsWithin E level a) (sym at) w)))) in
-          let long = ap length longer in (
-            subst (λ (a : Step). IsLevel E a (suc level)) (sym at) (is_further E level y far (step_at steps v.number) on_level e),
-            (
-              low,
-              inr (
-                y,
-                at,
-                omega (arith, place, long, length-append s.visits.items (v ∷ [])),
-                predecessor y e far (λ w made a. none ((f.ends w made y a).1 u.number low at)) u.before place,
-              ),
-            ),
-          )
+          let long = ap length longer in
+          let before : u.before < length t.visits.items = omega (arith, place, long, length-append s.visits.items (v ∷ [])) in
+          let from = predecessor y e far (λ w made a. none ((f.ends w made y a).1 u.number low at)) u.before place in
+          let further = is_further E level y far (step_at steps v.number) on_level e in
+          (subst (λ (a : Step). IsLevel E a (suc level)) (sym at) further, (low, inr (y, at, before, from)))
 
       -- It doesn't.
       pub visit_made : (ArePassed G goal s.is_found.items s.is_passed.items → ArePassed G goal t.is_found.items t.is_passed.items
@@ -286,8 +279,7 @@ module _ {G : GraphView} {goal : ModuleVersion} {level : ℕ} {start : Search} {
           → IsFollowed G goal level start.is_found.items (take (i + 1) due) t
       visit_made ends = record {
         found = subst (λ (vs : List Visit). AreMarked start.is_found.items (numbers_visited vs) t.is_found.items) (sym new.next)
-            (subst (λ (ns : List ℕ). AreMarked start.is_found.items ns t.is_found.items) (sym (map-append (λ (u : Visit). u.number) s.next.items new.more))
-            (both_marked start.is_found.items s.is_found.items t.is_found.items (numbers_visited s.next.items) (numbers_visited new.more) f.found new.found));
+            (visits_marked s.next.items new.more f.found new.found);
         count = (let old = f.count in let fewer = new.count in omega (arith, old, fewer, ap length new.next, length-append s.next.items new.more));
         each = λ u there. elim (Contains-append_cases s.next.items new.more u (subst (λ (vs : List Visit). Contains vs u) new.next there)) [
           | inl before ↦ (
@@ -368,23 +360,21 @@ module _ {G : GraphView} {goal : ModuleVersion} {level : ℕ} {start : Search} {
 
 -- ---- the first level
 
-pub first_level : (G : GraphView) (goal : ModuleVersion) (begun : Search) (due : List Visit) → IsGraph G
-    → 0 < length (steps_of G) → step_at (steps_of G) 0 ≡ Main → due ≡ record { number = 0; before = 0 } ∷ []
+pub first_level : (G : GraphView) (goal : ModuleVersion) (begun : Search) (due : List Visit) → IsGraph G → due ≡ record { number = 0; before = 0 } ∷ []
     → begun.is_found.items ≡ set (replicate (length (steps_of G)) false) 0 true → begun.visits.items ≡ [] → begun.next.items ≡ []
     → ((list : ℕ) → HasMark begun.is_passed.items list → ⊥) → IsSearchedTo G goal 0 begun due
-first_level G goal begun due are some main is found visits next passed = subst (λ (d : List Visit). IsSearchedTo G goal 0 begun d) (sym is) (record {
+first_level G goal begun due are is found visits next passed = subst (λ (d : List Visit). IsSearchedTo G goal 0 begun d) (sym is) (record {
   size = marked.count ∙ length-replicate (length steps) false;
   found = λ i inside. (
     (λ g. elim ((marked.each i).0 g) [
       | inl old ↦ absurd (none_marked (length steps) i old)
-      | inr first ↦ subst (λ (n : ℕ). IsWithin E 0 (step_at steps n)) (one_member 0 i first)
-          (subst (λ (s : Step). IsWithin E 0 s) (sym main) (0, omega arith, at_main))
+      | inr first ↦ subst (λ (n : ℕ). IsWithin E 0 (step_at steps n)) (one_member 0 i first) (0, omega arith, at_main)
     ]),
     (λ w. (marked.each i).1 (inr (0, omega arith, sym (only i inside w)))),
   );
   listed = λ i inside l. (v, (0, omega arith, refl), sym (only i inside (0, omega arith, l.leads)));
   each = λ w there. subst (λ (u : Visit). IsVisitDue G 0 begun.visits.items u) (one_member v w there)
-      (subst (λ (s : Step). IsLevel E s 0) (sym main) (record { leads = at_main; least = λ m h. omega arith }), (some, inl main));
+      (record { leads = at_main; least = λ m h. omega arith }, (omega arith, inl refl));
   ascending = IsNonDecreasingBy-short (λ (u : Visit). u.number) (v ∷ []) (omega arith);
   visits = λ k below. absurd (let nil = ap length visits in omega (arith, below, nil));
   far = λ w. absurd (let same : Of goal ≡ Main = within_none E (Of goal) w in cc same);
@@ -403,10 +393,10 @@ first_level G goal begun due are some main is found visits next passed = subst (
 
     marked : AreMarked (replicate (length steps) false) (0 ∷ []) begun.is_found.items
     marked = subst (λ (marks : List Bool). AreMarked (replicate (length steps) false) (0 ∷ []) marks) (sym found)
-        (one_marked (replicate (length steps) false) 0 (omega (arith, length-replicate (length steps) false, some)))
+        (one_marked (replicate (length steps) false) 0 (omega (arith, length-replicate (length steps) false)))
 
     only : (i : ℕ) → i < length steps → IsWithin E 0 (step_at steps i) → i ≡ 0
-    only i inside w = same_number steps (steps_ascend G are) i 0 inside some (within_none E (step_at steps i) w ∙ sym main)
+    only i inside w = same_number steps (steps_ascend G are) i 0 inside (omega arith) (within_none E (step_at steps i) w)
 
 -- Nothing leads to a vertex that the graph has not.
 pub no_vertex : (G : GraphView) (goal : ModuleVersion) → IsGraph G → (Contains G.vertices goal → ⊥) → IsReached (among G.edges) (Of goal) → ⊥
@@ -433,24 +423,21 @@ module _ (E : Edges) (steps : List Step) (visits : List Visit) where
   back_begins goal p items is before c h = subst (λ (l : List Step). IsChain E (Of goal) (c ++ reverse l)) (sym is) (goes_on h before)
 
   -- one step back
-  pub back_more : (k : ℕ) (x : ModuleVersion) → IsTraced E steps visits k (visit_at visits k)
-      → visited_step steps visits k ≡ Of x → ((visit_at visits k).before < k)
-      × ((c : List Step) → IsChain E (visited_step steps visits (visit_at visits k).before) c
-      → IsChain E (visited_step steps visits k) (c ++ Of x ∷ []))
-  back_more k x (low, inl main) at = absurd (let wrong : Main ≡ Of x = sym main ∙ at in cc wrong)
-  back_more k x (low, inr (y, is, below, before)) at = (
-    below,
-    λ c h.
-        let same : y ≡ x = (let e : Of y ≡ Of x = sym is ∙ at in cc e) in
-        subst (λ (s : Step). IsChain E s (c ++ Of x ∷ [])) (sym at)
-        (goes_on h (subst (λ (z : ModuleVersion). IsPredecessor E
-        (visited_step steps visits (visit_at visits k).before) z) same before)),
-  )
-
-  pub back_longer : (goal : ModuleVersion) (at s : Step) (items more : List Step) → more ≡ items ++ s ∷ []
-      → (c : List Step) → IsChain E (Of goal) ((c ++ s ∷ []) ++ reverse items) → IsChain E (Of goal) (c ++ reverse more)
-  back_longer goal at s items more is c h = subst (λ (l : List Step). IsChain E (Of goal) l)
-      (append_assoc c (s ∷ []) (reverse items) ∙ ap (λ (l : List Step). c ++ l) (sym (ap reverse is ∙ reverse-append items (s ∷ [])))) h
+  pub back_more : (goal : ModuleVersion) (k : ℕ) (x : ModuleVersion) (items more : List Step) → IsTraced E steps visits k (visit_at visits k)
+      → visited_step steps visits k ≡ Of x → more ≡ items ++ Of x ∷ []
+      → ((c : List Step) → IsChain E (visited_step steps visits k) c → IsChain E (Of goal) (c ++ reverse items))
+      → ((visit_at visits k).before < k) × ((c : List Step)
+      → IsChain E (visited_step steps visits (visit_at visits k).before) c → IsChain E (Of goal) (c ++ reverse more))
+  back_more goal k x items more (low, inl main) at is chain = absurd (let wrong : Main ≡ Of x = sym main ∙ at in cc wrong)
+  back_more goal k x items more (low, inr (y, same, below, before)) at is chain = (below, λ c h. longer c (goes_on h before))
+    where
+      longer : (c : List Step) → IsChain E (Of y) (c ++ Of y ∷ []) → IsChain E (Of goal) (c ++ reverse more)
+      longer c h =
+          let alike : Of y ≡ Of x = sym same ∙ at in
+          subst (λ (l : List Step). IsChain E (Of goal) l)
+          (append_assoc c (Of x ∷ []) (reverse items) ∙ ap (λ (l : List Step). c ++ l) (sym (ap reverse is ∙ reverse-append items (Of x ∷ []))))
+          (chain (c ++ Of x ∷ []) (subst (λ (s : Step). IsChain E s (c ++ Of x ∷ [])) (sym at)
+          (subst (λ (s : Step). IsChain E s (c ++ s ∷ [])) alike h)))
 
   -- The main module was reached.
   pub back_done : (goal : ModuleVersion) (at : Step) (items all : List Step) → at ≡ Main

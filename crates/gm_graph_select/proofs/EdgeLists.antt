@@ -4,29 +4,30 @@ use Rattle.std.specs.Prelude.{All}
 use Rattle.gm_graph_select.specs.declared.step.Edge.{Edge}
 use Rattle.gm_graph_select.specs.Adjacency.{HaveNumbers, IsBelow, IsNumbered, StepEdges, edges_from, edges_of}
 use Rattle.gm_graph_select.specs.EdgeList.{AreEndsBelow, NumberedEdge, edge_with}
-use Rattle.gm_graph_select.specs.Private.Adjacency.{numbered_from, numbered_edges}
+use Rattle.gm_graph_select.specs.Private.Adjacency.{numbered_edges}
 use Rattle.gm_name.specs.ModuleVersion.{ModuleVersion}
 use Rattle.std.proofs.lemmas.List.{map-append}
 use Rattle.std.proofs.lemmas.List.Elements.{All-append, All-head, All-map, All-nil, All-tail}
 
-edges_with : (vertices : List ModuleVersion) (one : StepEdges) → edges_from vertices one ≡ map (edge_with vertices) (numbered_from one.from one.to)
+edges_with : (vertices : List ModuleVersion) (one : StepEdges) → edges_from vertices one
+    ≡ map (edge_with vertices) (map (λ (number : ℕ). (one.from, number)) one.to)
 edges_with vertices one = along one.to
   where
-    along : (to : List ℕ) → map (λ number. edge_with vertices (one.from, number)) to ≡ map (edge_with vertices) (numbered_from one.from to)
+    along : (to : List ℕ) → map (λ number. edge_with vertices (one.from, number)) to ≡ map (edge_with vertices) (map (λ (number : ℕ). (one.from, number)) to)
     along [] = refl
     along (number ∷ to) = ap (λ (edges : List Edge). edge_with vertices (one.from, number) ∷ edges) (along to)
 
 pub edges_of-numbered : (vertices : List ModuleVersion) (all : List StepEdges) → map (edge_with vertices) (numbered_edges all) ≡ edges_of vertices all
 edges_of-numbered vertices [] = refl
 edges_of-numbered vertices (one ∷ all) =
-    map-append (edge_with vertices) (numbered_from one.from one.to) (numbered_edges all)
+    map-append (edge_with vertices) (map (λ (number : ℕ). (one.from, number)) one.to) (numbered_edges all)
     ∙ ap₂ (λ (xs ys : List Edge). xs ++ ys) (sym (edges_with vertices one)) (edges_of-numbered vertices all)
 
 pub pairs_below : (count : ℕ) (all : List StepEdges) → HaveNumbers count all → All (AreEndsBelow count) (numbered_edges all)
 pairs_below count [] numbered = All-nil (AreEndsBelow count)
 pairs_below count (one ∷ all) numbered =
     let here = All-head (IsNumbered count) one all numbered in
-    All-append (AreEndsBelow count) (numbered_from one.from one.to) (numbered_edges all)
+    All-append (AreEndsBelow count) (map (λ (number : ℕ). (one.from, number)) one.to) (numbered_edges all)
     (All-map (AreEndsBelow count) (λ (number : ℕ). (one.from, number)) one.to (λ k d below. (here.from, here.to k d below)))
     (pairs_below count all (All-tail (IsNumbered count) one all numbered))
 

@@ -15,7 +15,6 @@ use Rattle.gm_graph_select.specs.Graph.{among}
 use Rattle.gm_graph_select.specs.Greatest.{greatest_of}
 use Rattle.gm_graph_select.specs.Laws.{SomeBuildList}
 use Rattle.gm_graph_select.specs.Order.{HaveSame, IsAscending}
-use Rattle.gm_graph_select.specs.Private.StepOrder.{in_order}
 use Rattle.gm_graph_select.proofs.Ascending.{member_cases, member_head, member_tail, no_member, pairs_head, pairs_tail}
 use Rattle.gm_graph_select.proofs.LastVersions.{are_selected, listed}
 use Rattle.gm_graph_select.proofs.Same.{ends_of, ends_same}
@@ -89,14 +88,19 @@ inserted e (y ∷ ys) up = by_order (pair_cmp e y) refl (inserted e ys (pairs_ta
           ];
         }
 
-pub in_order_ascends : (xs : List ModuleVersion) → IsAscending pair_cmp (in_order pair_cmp xs)
-in_order_ascends [] = λ i j d lt below. absurd (omega (arith, below))
-in_order_ascends (e ∷ xs) = (inserted e (in_order pair_cmp xs) (in_order_ascends xs)).ascending
+-- the members of a list in ascending order
+abbrev in_order : List ModuleVersion → List ModuleVersion
+in_order [] = []
+in_order (x ∷ xs) = insert_key pair_cmp (in_order xs) x
 
-pub in_order_same : (xs : List ModuleVersion) → HaveSame xs (in_order pair_cmp xs)
+pub in_order_ascends : (xs : List ModuleVersion) → IsAscending pair_cmp (in_order xs)
+in_order_ascends [] = λ i j d lt below. absurd (omega (arith, below))
+in_order_ascends (e ∷ xs) = (inserted e (in_order xs) (in_order_ascends xs)).ascending
+
+pub in_order_same : (xs : List ModuleVersion) → HaveSame xs (in_order xs)
 in_order_same [] x = ((λ h. h), (λ h. h))
 in_order_same (e ∷ xs) x =
-    let is = inserted e (in_order pair_cmp xs) (in_order_ascends xs) in
+    let is = inserted e (in_order xs) (in_order_ascends xs) in
     let same = in_order_same xs x in (
       (λ h. is.kept x (elim (member_cases e x xs h) [ inl first ↦ inl first | inr later ↦ inr (same.0 later) ])),
       (λ h. elim (is.only x h) [
@@ -108,7 +112,7 @@ in_order_same (e ∷ xs) x =
 pub some_build_list : {R : Type 0} → SomeBuildList R
 some_build_list main replaces edges =
     let to = map (λ (e : Edge). e.to) edges in
-    let ends = in_order pair_cmp to in
+    let ends = in_order to in
     let selected = greatest_of main ends in (
       main_entry ∷ map (entry_of replaces) selected,
       listed replaces (are_selected main ends (in_order_ascends to) (among edges) (ends_same to ends (among edges) (in_order_same to) (ends_of edges))),

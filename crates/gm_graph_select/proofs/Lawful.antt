@@ -17,7 +17,7 @@ use Rattle.gm_graph_select.specs.declared.step.Step.{Step}
 use Rattle.gm_graph_select.specs.declared.step.Step.TheVariants.{Main, Of}
 use Rattle.gm_graph_select.specs.Graph.{Edges, among, step_cmp}
 use Rattle.gm_graph_select.specs.StepOrder.{step_total}
-use Rattle.gm_graph_select.specs.Private.StepOrder.{step-anti}
+use Rattle.gm_name.specs.Private.ModuleVersion.{pair-anti}
 use Rattle.gm_graph_select.specs.BuildList.{IsAt, IsBuildList, IsEntryOf, IsSelected, entry_of, main_entry, path_cmp, path_of}
 use Rattle.gm_graph_select.specs.Chains.{at_main, along, IsPredecessor, IsChain, begins, goes_on, IsLevel, IsReached, IsRooted}
 use Rattle.gm_graph_select.specs.Laws.{EntryWith, ArePages, no_more, one_more, entries_of_pages, ChainIsShortest, EntriesAreReached, MainIsFirst, OneBuildList, OneChain, OneRest, PagesExist, PagesJoin, RowsAreEnds, RowsSatisfy}
@@ -150,6 +150,13 @@ shortest E _ _ (goes_on {s} {y} {steps} chain before) =
 
 pub chain_is_shortest : ChainIsShortest
 chain_is_shortest edges s steps chain = shortest (among edges) s steps chain
+
+-- Two steps that compare as equal are the same.
+step-anti : (s t : Step) → step_cmp s t ≡ Equal → s ≡ t
+step-anti Main Main e = refl
+step-anti Main (Of y) e = cc
+step-anti (Of x) Main e = cc
+step-anti (Of x) (Of y) e = ap Of (pair-anti x y e)
 
 not_either : (s t : Step) → is_lt (step_cmp s t) ≡ false → is_lt (step_cmp t s) ≡ false → s ≡ t
 not_either s t h g = go (step_cmp s t) refl

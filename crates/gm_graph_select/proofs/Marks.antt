@@ -58,6 +58,15 @@ one_marked marks number inside = record { count = length-set marks number true; 
       ]
     ]
 
+pub marked_already : (marks : List Bool) (number : ℕ) → HasMark marks number → AreMarked marks (number ∷ []) marks
+marked_already marks number mark = record {
+  count = refl;
+  each = λ k. (
+    (λ h. inl h),
+    (λ so. elim so [ inl h ↦ h | inr here ↦ subst (λ (n : ℕ). HasMark marks n) (one_member number k here) mark ]),
+  );
+}
+
 -- Some numbers were marked, and then others.
 pub both_marked : (old mid new : List Bool) (first second : List ℕ) → AreMarked old first mid → AreMarked mid second new → AreMarked old (first ++ second) new
 both_marked old mid new first second a b = record {

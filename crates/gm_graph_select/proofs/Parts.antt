@@ -9,7 +9,7 @@ use borrow.Rule.Slice.PartMut.{post_of, put_mid}
 use Rattle.gm_graph_select.specs.declared.number_lists.Span.{Span}
 use Rattle.gm_graph_select.specs.Private.Adjacency.{IsByRanks}
 use Rattle.gm_graph_select.specs.Spans.{AreSpansApart, lists_at, part_at}
-use Rattle.gm_graph_select.specs.Private.Spans.{IsPartByRanks, IsSpanWithin}
+use Rattle.gm_graph_select.specs.Private.Spans.{IsPartByRanks}
 use Rattle.gm_graph_select.proofs.Moving.{same_here, same_later}
 
 -- ---- spans that lie apart
@@ -19,10 +19,11 @@ apart_order [] from to h = h
 apart_order (span ∷ spans) from to (low, order, rest) = omega (arith, low, order, apart_order spans span.end to rest)
 
 -- each of them
-pub all_within : (spans : List Span) (from to : ℕ) → AreSpansApart from spans to → All (IsSpanWithin to) spans
-all_within [] from to h = All-nil (IsSpanWithin to)
+pub all_within : (spans : List Span) (from to : ℕ) → AreSpansApart from spans to → All (λ (span : Span). AreSpansApart 0 (span ∷ []) to) spans
+all_within [] from to h = All-nil (λ (span : Span). AreSpansApart 0 (span ∷ []) to)
 all_within (span ∷ spans) from to (low, order, rest) =
-    All-cons (IsSpanWithin to) span spans (record { order = order; within = apart_order spans span.end to rest }) (all_within spans span.end to rest)
+    All-cons (λ (one : Span). AreSpansApart 0 (one ∷ []) to) span spans (omega arith, order, apart_order spans span.end to rest)
+    (all_within spans span.end to rest)
 
 apart_further : (spans : List Span) (from to more : ℕ) → AreSpansApart from spans to → to ≤ more → AreSpansApart from spans more
 apart_further [] from to more h le = omega (arith, h, le)
@@ -74,8 +75,8 @@ module _ (ranks old : List ℕ) (spans : List Span) (now : List ℕ) (left : Lis
     next = subst (λ (all : List Span). AreSpansApart are.end all (length old))
         (drop_more spans place one inside ∙ ap (λ (s : Span). s ∷ drop (place + 1) spans) (sym here)) are.ahead
 
-    pub within_now : IsSpanWithin (length now) one
-    within_now = record { order = next.1; within = omega (arith, are.size, apart_order (drop (place + 1) spans) one.end (length old) next.2) }
+    pub within_now : AreSpansApart 0 (one ∷ []) (length now)
+    within_now = (omega arith, next.1, omega (arith, are.size, apart_order (drop (place + 1) spans) one.end (length old) next.2))
 
     pub part_is : part_at now one ≡ part_at old (get_or spans place one)
     part_is = part_after now old one are.end next.0 are.rest ∙ ap (λ (s : Span). part_at old s) here
@@ -89,8 +90,8 @@ module _ (ranks old : List ℕ) (spans : List Span) (now : List ℕ) (left : Lis
       end = one.end;
       done = subst (λ (all : List Span). AreSpansApart 0 all one.end) (sym front)
           (apart_further (take place left ++ given ∷ []) 0 given.end one.end
-          (apart_push (take place left) given 0 are.end are.done (omega (arith, by.start, next.0)) by.order)
-          by.end);
+          (apart_push (take place left) given 0 are.end are.done (omega (arith, by.inside.0, next.0)) by.inside.1)
+          by.inside.2);
       ahead = next.2;
       rest = by.after ∙ same_later now old are.end are.rest one.end (omega (arith, next.0, next.1));
       zip = subst (λ (all : List (List ℕ)). AllZip (IsByRanks ranks) (lists_at old (take (place + 1) spans)) all)
@@ -140,11 +141,11 @@ module _ (ranks old : List ℕ) (span : Span) (part : List ℕ) (count : ℕ) wh
   abbrev new : List ℕ
   new = put_mid start width old part
 
-  module _ (within : IsSpanWithin (length old) span) (size : length part ≡ width) (few : count ≤ width) where
+  module _ (within : AreSpansApart 0 (span ∷ []) (length old)) (size : length part ≡ width) (few : count ≤ width) where
     front : between start (start + count) new ≡ take count part
     front = ap (λ (n : ℕ). take n (drop start new)) (let same : start + count - start ≡ count = omega arith in same)
         ∙ sym (take-take count width (drop start new) few)
-        ∙ ap (λ (xs : List ℕ). take count xs) (between-put_mid start width old part span.end (omega (arith, within.order, within.within)) size)
+        ∙ ap (λ (xs : List ℕ). take count xs) (between-put_mid start width old part span.end (omega (arith, within.1, within.2)) size)
 
     new_size : length new ≡ length old
     new_size = omega (
@@ -152,22 +153,21 @@ module _ (ranks old : List ℕ) (span : Span) (part : List ℕ) (count : ℕ) wh
       length-append (take start old) (part ++ post_of start width old),
       length-append part (post_of start width old),
       length-take-le start old
-          (omega (arith, within.order, within.within)),
+          (omega (arith, within.1, within.2)),
       length-drop width (drop start old),
       length-drop start old,
       size,
-      within.order,
-      within.within,
+      within.1,
+      within.2,
     )
 
     -- The ranks are at the front of the part.
     pub part_ranked : IsByRanks ranks (part_at old span) (take count part) → IsPartByRanks ranks old span new (record { start = start; end = start + count })
     part_ranked by = record {
       start = refl;
-      order = omega arith;
-      end = omega (arith, few, within.order);
+      inside = (omega arith, omega arith, omega (arith, few, within.1));
       is = subst (λ (xs : List ℕ). IsByRanks ranks (part_at old span) xs) (sym front) by;
       size = new_size;
-      before = take-put_mid_below start width old part start (omega arith) (omega (arith, within.order, within.within));
-      after = drop-put_mid start width old part span.end (omega (arith, within.order)) (omega (arith, within.order, within.within)) size;
+      before = take-put_mid_below start width old part start (omega arith) (omega (arith, within.1, within.2));
+      after = drop-put_mid start width old part span.end (omega (arith, within.1)) (omega (arith, within.1, within.2)) size;
     }

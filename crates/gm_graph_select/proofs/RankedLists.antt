@@ -1,5 +1,5 @@
 -- Lists and sources by ranks: they have the same edges, in ascending order.
-use Rattle.std.proofs.Common.{◌≡◌, ◌+◌, ◌<◌, ℕ, zero, suc, Bool, true, false, List, [], ◌∷◌, Option, Some, None, length, map, get_or, Contains, ap, ap₂, ◌∙◌, sym, refl, subst, inl, inr, arith}
+use Rattle.std.proofs.Common.{◌≡◌, ◌+◌, ◌<◌, ℕ, zero, suc, Bool, true, false, List, [], ◌∷◌, Option, Some, None, length, map, get_or, Contains, ap, ap₂, ◌∙◌, sym, refl, subst, inl, inr, arith, slice_index}
 use Rattle.std.specs.Prelude.{⊤, All, AllPairs}
 use Rattle.std.specs.declared.cmp.Ordering.{Ordering}
 use Rattle.std.specs.declared.cmp.Ordering.TheVariants.{Less, Equal, Greater}
@@ -22,11 +22,11 @@ use Rattle.gm_graph_select.specs.declared.step.Edge.{Edge}
 use Rattle.gm_graph_select.specs.declared.step.Step.{Step}
 use Rattle.gm_graph_select.specs.declared.step.Step.TheVariants.{Of}
 use Rattle.gm_graph_select.specs.Adjacency.{AreRanked, HaveNumbers, IsBelow, IsNumbered, LeavesLower, StepEdges, by_step, edges_from, edges_of, left_by, list_at, same_step, step_edges, step_with}
-use Rattle.gm_graph_select.specs.Private.Adjacency.{AreSourcesByRanks, IsByRanks, rank_of, source_by_ranks}
+use Rattle.gm_graph_select.specs.Private.Adjacency.{IsByRanks, source_by_ranks}
 use Rattle.gm_graph_select.specs.Graph.{edge, edge_cmp, step_cmp}
 use Rattle.gm_graph_select.specs.Private.Marking.{HasMark}
 use Rattle.gm_graph_select.specs.Order.{HaveSame, IsAscending}
-use Rattle.gm_graph_select.specs.Private.Ranking.{AreRanks}
+use Rattle.gm_graph_select.specs.Private.Ranking.{IsRanked}
 use Rattle.gm_graph_select.specs.StepOrder.{step_eq, step_equiv}
 use Rattle.gm_graph_select.proofs.Ascending.{pairs_append, pairs_head, pairs_tail, same_append}
 use Rattle.gm_graph_select.proofs.Ranges.{step_itself}
@@ -162,9 +162,9 @@ same_options (Some a) (Some b) e = ap Some (nat_cmp-IsAntisymmetric a b ((Equal-
 
 -- The new edges have ranks in the places of the old ones' numbers, those of their ends in ascending order.
 pub record HasRanks (ranks : List ℕ) (old new : StepEdges) : Type 0 where
-  pub from : new.from ≡ option_map (rank_of ranks) old.from
+  pub from : new.from ≡ option_map (slice_index ranks) old.from
   pub ascending : IsAscending nat_cmp new.to
-  pub members : HaveSame (map (rank_of ranks) old.to) new.to
+  pub members : HaveSame (map (slice_index ranks) old.to) new.to
 
 -- All edges have ranks in the places of numbers, and are in ascending order of the steps that they leave.
 pub record AreByRanks (ranks : List ℕ) (old new : List StepEdges) : Type 0 where
@@ -176,7 +176,7 @@ pub record AreByRanks (ranks : List ℕ) (old new : List StepEdges) : Type 0 whe
 module _ (ranks : List ℕ) where
   -- The same holds at each place, also past the end.
   list_ranked : (olds news : List (List ℕ)) → AllZip (IsByRanks ranks) olds news → (place : ℕ)
-      → IsAscending nat_cmp (list_at news place) × HaveSame (map (rank_of ranks) (list_at olds place))
+      → IsAscending nat_cmp (list_at news place) × HaveSame (map (slice_index ranks) (list_at olds place))
       (list_at news place)
   list_ranked [] [] zip place = ((λ i j d lt below. absurd (omega (arith, below))), (λ x. ((λ h. h), (λ h. h))))
   list_ranked [] (b ∷ news) zip place = absurd zip
@@ -201,12 +201,13 @@ module _ (ranks : List ℕ) where
         (get_or-map (step_edges news) sources (k + 1) none d (omega (arith, count, high)))
         ∙ sorted k none low (omega (arith, count, high))
 
-    pub steps_by_ranks : (old new : List Source) → AreSourcesByRanks ranks old new → AreByRanks ranks (by_step olds old) (by_step news new)
-    steps_by_ranks old new by = record {
+    pub steps_by_ranks : (old new : List Source) → IsPermutation (map (source_by_ranks ranks) old) new
+        → IsSortedByKey (λ (one : Source). one.from) (option_cmp nat_cmp) new → AreByRanks ranks (by_step olds old) (by_step news new)
+    steps_by_ranks old new permutation sorted = record {
       lists = by_step news (map (source_by_ranks ranks) old);
       each = zip_steps old;
-      permutation = IsPermutation-map (step_edges news) (map (source_by_ranks ranks) old) new by.permutation;
-      sorted = steps_sorted new by.sorted;
+      permutation = IsPermutation-map (step_edges news) (map (source_by_ranks ranks) old) new permutation;
+      sorted = steps_sorted new sorted;
     }
 
 -- ---- lists with ranks in the places of numbers
@@ -220,21 +221,26 @@ pub record NamesMarked (marks : List Bool) (one : StepEdges) : Type 0 where
   pub from : IsFromMarked marks one.from
   pub to : All (HasMark marks) one.to
 
-module _ (modules : List ModuleVersion) (marks : List Bool) (ordered : List ModuleVersion) (ranks : List ℕ) (are : AreRanks modules marks ordered ranks) where
-  step_kept : (from : Option ℕ) → IsFromMarked marks from → step_with ordered (option_map (rank_of ranks) from) ≡ step_with modules from
-  step_kept None within = refl
-  step_kept (Some number) within = ap Of (are.same number within)
+-- The rank of each marked module is its place among the vertices.
+abbrev pub AreRanks : List ModuleVersion → List Bool → List ModuleVersion → List ℕ → Type 0
+AreRanks modules marks vertices ranks = (number : ℕ) → HasMark marks number
+    → IsRanked vertices ranks (record { vertex = module_at modules number; number = number })
 
-  below_kept : (from : Option ℕ) → IsFromMarked marks from → IsBelow (length ordered) (option_map (rank_of ranks) from)
+module _ (modules : List ModuleVersion) (marks : List Bool) (ordered : List ModuleVersion) (ranks : List ℕ) (are : AreRanks modules marks ordered ranks) where
+  step_kept : (from : Option ℕ) → IsFromMarked marks from → step_with ordered (option_map (slice_index ranks) from) ≡ step_with modules from
+  step_kept None within = refl
+  step_kept (Some number) within = ap Of (are number within).is
+
+  below_kept : (from : Option ℕ) → IsFromMarked marks from → IsBelow (length ordered) (option_map (slice_index ranks) from)
   below_kept None within = within
-  below_kept (Some number) within = are.within number within
+  below_kept (Some number) within = (are number within).within
 
   module _ (old new : StepEdges) (numbered : NamesMarked marks old) (has : HasRanks ranks old new) where
     left_kept : left_by ordered new ≡ left_by modules old
     left_kept = ap (λ (from : Option ℕ). step_with ordered from) has.from ∙ step_kept old.from numbered.from
 
-    edge_kept : (number : ℕ) → Contains old.to number → leading ordered new (rank_of ranks number) ≡ leading modules old number
-    edge_kept number held = ap₂ edge left_kept (are.same number (All-contains (HasMark marks) old.to number numbered.to held))
+    edge_kept : (number : ℕ) → Contains old.to number → leading ordered new (slice_index ranks number) ≡ leading modules old number
+    edge_kept number held = ap₂ edge left_kept (are number (All-contains (HasMark marks) old.to number numbered.to held)).is
 
     same_edges_from : HaveSame (edges_from modules old) (edges_from ordered new)
     same_edges_from e = (there, back)
@@ -242,14 +248,14 @@ module _ (modules : List ModuleVersion) (marks : List Bool) (ordered : List Modu
         there : Contains (edges_from modules old) e → Contains (edges_from ordered new) e
         there h =
             let (number, held, is) = from_mapped (leading modules old) old.to e h in
-            let found = (has.members (rank_of ranks number)).0 (in_mapped (rank_of ranks) old.to number held) in
+            let found = (has.members (slice_index ranks number)).0 (in_mapped (slice_index ranks) old.to number held) in
             subst (λ (f : Edge). Contains (edges_from ordered new) f) (edge_kept number held ∙ is)
-            (in_mapped (leading ordered new) new.to (rank_of ranks number) found)
+            (in_mapped (leading ordered new) new.to (slice_index ranks number) found)
 
         back : Contains (edges_from ordered new) e → Contains (edges_from modules old) e
         back h =
             let (rank, held, is) = from_mapped (leading ordered new) new.to e h in
-            let (number, found, at) = from_mapped (rank_of ranks) old.to rank ((has.members rank).1 held) in
+            let (number, found, at) = from_mapped (slice_index ranks) old.to rank ((has.members rank).1 held) in
             subst (λ (f : Edge). Contains (edges_from modules old) f)
             (sym (edge_kept number found) ∙ ap (λ (n : ℕ). leading ordered new n) at ∙ is)
             (in_mapped (leading modules old) old.to number found)
@@ -259,8 +265,8 @@ module _ (modules : List ModuleVersion) (marks : List Bool) (ordered : List Modu
       from = subst (λ (from : Option ℕ). IsBelow (length ordered) from) (sym has.from) (below_kept old.from numbered.from);
       to = λ k d below.
           let rank = get_or new.to k d in
-          let (number, found, at) = from_mapped (rank_of ranks) old.to rank ((has.members rank).1 (Contains-get_or new.to k d below)) in
-          subst (λ (n : ℕ). n < length ordered) at (are.within number (All-contains (HasMark marks) old.to number numbered.to found));
+          let (number, found, at) = from_mapped (slice_index ranks) old.to rank ((has.members rank).1 (Contains-get_or new.to k d below)) in
+          subst (λ (n : ℕ). n < length ordered) at (are number (All-contains (HasMark marks) old.to number numbered.to found)).within;
     }
 
   all_same : (old new : List StepEdges) → All (NamesMarked marks) old → AllZip (HasRanks ranks) old new → HaveSame (edges_of modules old) (edges_of ordered new)

@@ -1,5 +1,5 @@
 -- The ranks of vertices: numbering, sorting, and what is then known of ranks.
-use Rattle.std.proofs.Common.{◌≡◌, ◌≢◌, ◌⊎◌, ◌+◌, ◌<◌, ◌≤◌, ◌↔◌, ℕ, Bool, true, false, List, [], ◌∷◌, ◌++◌, length, map, set, take, get_or, Contains, append_assoc, ap, ap₂, ◌∙◌, sym, refl, subst, inl, inr, arith}
+use Rattle.std.proofs.Common.{◌≡◌, ◌≢◌, ◌⊎◌, ◌+◌, ◌<◌, ◌≤◌, ◌↔◌, ℕ, Bool, true, false, List, [], ◌∷◌, ◌++◌, length, map, set, take, get_or, Contains, append_assoc, ap, ap₂, ◌∙◌, sym, refl, subst, inl, inr, arith, slice_index}
 use Rattle.std.specs.Prelude.{All, if◌then◌else◌}
 use Rattle.std.specs.declared.cmp.Ordering.{Ordering}
 use Rattle.std.specs.declared.cmp.Ordering.TheVariants.{Less, Equal, Greater}
@@ -8,18 +8,17 @@ use Rattle.std.specs.List.Sorted.{IsPermutation, IsSorted}
 use Rattle.std.specs.Ordering.{is_eq, is_lt, nat_cmp, ordering_reverse, ordering_then}
 use Rattle.std.proofs.lemmas.Bool.{cases_Bool, cases_eq, false≢true}
 use Rattle.std.proofs.lemmas.List.{get_or-map, get_or-set_other, get_or-set_same, get_or_append_left, get_or_at, get_or_default, get_or_push, length-append, length-map, length-take-le, length_push, take_more}
-use Rattle.std.proofs.lemmas.List.Elements.{All-contains, All-push, All-weaker, Contains-append_left, Contains-push}
+use Rattle.std.proofs.lemmas.List.Elements.{All-contains, Contains-append_left, Contains-get_or, Contains-push, Contains-push_cases}
 use Rattle.std.proofs.lemmas.List.Quantifiers.{all_pairs_push}
-use Rattle.std.proofs.lemmas.List.Sorted.{All-permutation, Contains-permutation, IsPermutation-map, length_permutation}
+use Rattle.std.proofs.lemmas.List.Sorted.{Contains-permutation, IsPermutation-map, IsPermutation-sym, length_permutation}
 use Rattle.std.proofs.lemmas.Map.Keys.{IsDistinct-IsPermutation, IsDistinct-from_apart, apart_from_distinct}
 use Rattle.gm_name.specs.ModuleVersion.{ModuleVersion, module_at, pair_cmp, pair_eq, pair_ties, pair_total}
 use Rattle.gm_graph_select.specs.declared.ranking.Numbered.{Numbered}
-use Rattle.gm_graph_select.specs.Private.Adjacency.{rank_of}
 use Rattle.gm_graph_select.specs.Private.Marking.{HasMark}
 use Rattle.gm_graph_select.specs.Order.{IsAscending}
-use Rattle.gm_graph_select.specs.Private.Ranking.{AreMarkedModules, AreRanks, HaveOneVertexEach, IsMarkedModule, IsPlaced, IsRanked}
+use Rattle.gm_graph_select.specs.Private.Ranking.{AreMarkedModules, IsMarkedModule, IsPlaced, IsRanked}
 use Rattle.gm_graph_select.proofs.Ascending.{member_cases}
-use Rattle.gm_graph_select.proofs.RankedLists.{from_mapped, in_mapped}
+use Rattle.gm_graph_select.proofs.RankedLists.{AreRanks, from_mapped, in_mapped}
 use Rattle.gm_graph_select.proofs.Marks.{marked_inside}
 use Rattle.gm_graph_select.proofs.Sorts.{from_adjacent}
 
@@ -32,7 +31,7 @@ module _ (vertices : List ModuleVersion) (ranks : List ℕ) (next one : Numbered
   pub rank_here : one.number ≡ next.number → one.vertex ≡ next.vertex → IsRanked (vertices ++ next.vertex ∷ []) (set ranks next.number (length vertices)) one
   rank_here e f =
       let new = set ranks next.number (length vertices) in
-      let rank : rank_of new one.number ≡ length vertices =
+      let rank : slice_index new one.number ≡ length vertices =
       ap (λ (n : ℕ). get_or new n 0) e ∙ get_or-set_same ranks next.number (length vertices) 0 inside in
       record {
         within = omega (arith, rank, length_push vertices next.vertex);
@@ -41,12 +40,12 @@ module _ (vertices : List ModuleVersion) (ranks : List ℕ) (next one : Numbered
 
   rank_kept : one.number ≢ next.number → IsRanked vertices ranks one → IsRanked (vertices ++ next.vertex ∷ []) (set ranks next.number (length vertices)) one
   rank_kept apart so =
-      let rank : rank_of (set ranks next.number (length vertices)) one.number ≡ rank_of ranks one.number =
+      let rank : slice_index (set ranks next.number (length vertices)) one.number ≡ slice_index ranks one.number =
       get_or-set_other ranks next.number one.number (length vertices) 0 apart in
       record {
         within = omega (arith, rank, so.within, length_push vertices next.vertex);
         is = ap (λ (n : ℕ). module_at (vertices ++ next.vertex ∷ []) n) rank
-            ∙ get_or_append_left vertices (next.vertex ∷ []) ([], []) (rank_of ranks one.number) so.within ∙ so.is;
+            ∙ get_or_append_left vertices (next.vertex ∷ []) ([], []) (slice_index ranks one.number) so.within ∙ so.is;
       }
 
   -- A vertex that has its rank keeps it.
@@ -73,7 +72,8 @@ next_vertices all before next rest is = append_assoc before (next.vertex ∷ [])
 
 -- After the next vertex each one has its rank or is left.
 pub next_ranked : (all : List Numbered) (before : List ModuleVersion) (ranks : List ℕ) (next : Numbered)
-    (rest : List Numbered) → HaveOneVertexEach all → Contains all next → next.number < length ranks
+    (rest : List Numbered) → ((a b : Numbered) → Contains all a → Contains all b → a.number ≡ b.number → a.vertex ≡ b.vertex)
+    → Contains all next → next.number < length ranks
     → (x : Numbered) → Contains all x → IsRanked before ranks x ⊎ Contains (next ∷ rest) x
     → IsRanked (before ++ next.vertex ∷ []) (set ranks next.number (length before)) x ⊎ Contains rest x
 next_ranked all before ranks next rest once in_all inside x there so = elim so [
@@ -94,15 +94,26 @@ module _ {front : List ModuleVersion} {marks : List Bool} {all : List Numbered} 
     is = placed.is ∙ sym (get_or_append_left front (x ∷ []) ([], []) one.number placed.within);
   }
 
+  narrower : (one : Numbered) → IsPlaced (front ++ x ∷ []) marks one → one.number ≢ length front → IsPlaced front marks one
+  narrower one placed apart =
+      let within : one.number < length front = omega (arith, placed.within, apart, length_push front x) in
+      record {
+        within = within;
+        marked = placed.marked;
+        is = placed.is ∙ get_or_append_left front (x ∷ []) ([], []) one.number within;
+      }
+
   -- One more module that is not marked.
   passed_over : (HasMark marks (length front) → ⊥) → AreMarkedModules (front ++ x ∷ []) marks all
   passed_over unmarked = record {
     few = omega (arith, are.few, length_push front x);
-    placed = All-weaker (IsPlaced front marks) (IsPlaced (front ++ x ∷ []) marks) wider all are.placed;
-    each = λ number below marked. elim (cases_eq number (length front)) [
-      | inl same ↦ absurd (unmarked (subst (λ (n : ℕ). HasMark marks n) same marked))
-      | inr apart ↦ are.each number (omega (arith, below, apart, length_push front x)) marked
-    ];
+    each = λ one. (
+      (λ h. wider one ((are.each one).0 h)),
+      (λ placed. elim (cases_eq one.number (length front)) [
+        | inl same ↦ absurd (unmarked (subst (λ (n : ℕ). HasMark marks n) same placed.marked))
+        | inr apart ↦ (are.each one).1 (narrower one placed apart)
+      ]),
+    );
     ascending = are.ascending;
   }
 
@@ -111,13 +122,16 @@ module _ {front : List ModuleVersion} {marks : List Bool} {all : List Numbered} 
       → AreMarkedModules (front ++ x ∷ []) marks (all ++ next ∷ [])
   numbered_too next number_is vertex_is marked = record {
     few = omega (arith, are.few, length_push front x, length_push all next);
-    placed = All-push (IsPlaced (front ++ x ∷ []) marks) all next
-        (All-weaker (IsPlaced front marks) (IsPlaced (front ++ x ∷ []) marks) wider all are.placed) last;
-    each = λ number below h. elim (cases_eq number (length front)) [
-      | inl same ↦ (next, Contains-push all next, number_is ∙ sym same)
-      | inr apart ↦ (let (one, there, is) = are.each number (omega (arith, below, apart, length_push front x)) h in
-          (one, Contains-append_left all (next ∷ []) one there, is))
-    ];
+    each = λ one. (
+      (λ h. elim (Contains-push_cases all next one h) [
+        | inl old ↦ wider one ((are.each one).0 old)
+        | inr new ↦ subst (λ (o : Numbered). IsPlaced (front ++ x ∷ []) marks o) new last
+      ]),
+      (λ placed. elim (cases_eq one.number (length front)) [
+        | inl same ↦ subst (λ (o : Numbered). Contains (all ++ next ∷ []) o) (is_next one placed same) (Contains-push all next)
+        | inr apart ↦ Contains-append_left all (next ∷ []) one ((are.each one).1 (narrower one placed apart))
+      ]),
+    );
     ascending = all_pairs_push (λ (a b : Numbered). a.number < b.number) all next are.ascending (λ k d below. lower k d below);
   }
     where
@@ -128,8 +142,15 @@ module _ {front : List ModuleVersion} {marks : List Bool} {all : List Numbered} 
         is = vertex_is ∙ sym (get_or_push front x ([], []) next.number (sym number_is));
       }
 
+      is_next : (one : Numbered) → IsPlaced (front ++ x ∷ []) marks one → one.number ≡ length front → next ≡ one
+      is_next one placed same =
+          ap₂ (λ (y : ModuleVersion) (n : ℕ). record { vertex = y; number = n })
+          (vertex_is ∙ sym (get_or_push front x ([], []) one.number (sym same)) ∙ sym placed.is) (number_is ∙ sym same)
+
       lower : All (λ (one : Numbered). one.number < next.number) all
-      lower k d below = let placed = are.placed k d below in omega (arith, placed.within, number_is)
+      lower k d below =
+          let placed = (are.each (get_or all k d)).0 (Contains-get_or all k d below) in
+          omega (arith, placed.within, number_is)
 
   -- One more, by its mark.
   pub next_numbered : (next : Numbered) → next.number ≡ length front → next.vertex ≡ x
@@ -168,7 +189,7 @@ module _ {modules : List ModuleVersion} {marks : List Bool} {all : List Numbered
     where
       vertex_is : (k : ℕ) (d : ModuleVersion) (e : Numbered) → k < length all → get_or (map vertex_of all) k d ≡ get_or modules (get_or all k e).number d
       vertex_is k d e below =
-          let placed = are.placed k e below in
+          let placed = (are.each (get_or all k e)).0 (Contains-get_or all k e below) in
           get_or-map vertex_of all k e d below ∙ placed.is ∙ get_or_default modules (get_or all k e).number ([], []) d placed.within
 
       apart : (i j : ℕ) (d : ModuleVersion) → i < j → j < length (map vertex_of all)
@@ -178,27 +199,23 @@ module _ {modules : List ModuleVersion} {marks : List Bool} {all : List Numbered
           let inside : j < length all = omega (arith, below, length-map all vertex_of) in
           ap₂ pair_eq (vertex_is i d e (omega (arith, lt, inside))) (vertex_is j d e inside)
           ∙ apart_from_distinct pair_eq modules (get_or all i e).number (get_or all j e).number d distinct
-          (are.ascending i j e lt inside) (are.placed j e inside).within
+          (are.ascending i j e lt inside) ((are.each (get_or all j e)).0 (Contains-get_or all j e inside)).within
 
   module _ (ordered : List Numbered) (same : IsPermutation all ordered) where
-    ordered_placed : All (IsPlaced modules marks) ordered
-    ordered_placed = All-permutation (IsPlaced modules marks) all ordered same are.placed
+    its_place : (one : Numbered) → Contains ordered one → IsPlaced modules marks one
+    its_place one h = (are.each one).0 (Contains-permutation ordered all one (IsPermutation-sym all ordered same) h)
+
+    its_entry : (one : Numbered) → IsPlaced modules marks one → Contains ordered one
+    its_entry one placed = Contains-permutation all ordered one same ((are.each one).1 placed)
 
     pub few_ordered : length ordered ≤ length modules
     few_ordered = omega (arith, are.few, length_permutation all ordered same)
 
     pub numbers_within : All (λ (one : Numbered). one.number < length modules) ordered
-    numbers_within k d below = (ordered_placed k d below).within
+    numbers_within k d below = (its_place (get_or ordered k d) (Contains-get_or ordered k d below)).within
 
-    pub one_vertex_each : HaveOneVertexEach ordered
-    one_vertex_each a b in_a in_b e =
-        let first = All-contains (IsPlaced modules marks) ordered a ordered_placed in_a in
-        let second = All-contains (IsPlaced modules marks) ordered b ordered_placed in_b in
-        first.is ∙ ap (λ (n : ℕ). module_at modules n) e ∙ sym second.is
-
-    -- The entry of a marked module.
-    its_entry : (number : ℕ) → number < length modules → HasMark marks number → (one : Numbered) × Contains ordered one × (one.number ≡ number)
-    its_entry number below marked = let (one, there, is) = are.each number below marked in (one, Contains-permutation all ordered one same there, is)
+    pub one_vertex_each : (a b : Numbered) → Contains ordered a → Contains ordered b → a.number ≡ b.number → a.vertex ≡ b.vertex
+    one_vertex_each a b in_a in_b e = (its_place a in_a).is ∙ ap (λ (n : ℕ). module_at modules n) e ∙ sym (its_place b in_b).is
 
     pub marked_modules : (x : ModuleVersion) → Contains (map vertex_of ordered) x ↔ IsMarkedModule modules marks x
     marked_modules x = (there, back)
@@ -206,33 +223,20 @@ module _ {modules : List ModuleVersion} {marks : List Bool} {all : List Numbered
         there : Contains (map vertex_of ordered) x → IsMarkedModule modules marks x
         there h =
             let (one, found, is) = from_mapped vertex_of ordered x h in
-            let placed = All-contains (IsPlaced modules marks) ordered one ordered_placed found in
-            (one.number, placed.within, placed.marked, sym placed.is ∙ is)
+            let placed = its_place one found in
+            (one.number, record { within = placed.within; marked = placed.marked; is = sym is ∙ placed.is })
 
         back : IsMarkedModule modules marks x → Contains (map vertex_of ordered) x
-        back (number, below, marked, is) =
-            let (one, found, number_is) = its_entry number below marked in
-            let placed = All-contains (IsPlaced modules marks) ordered one ordered_placed found in
-            subst (λ (y : ModuleVersion). Contains (map vertex_of ordered) y)
-            (placed.is ∙ ap (λ (n : ℕ). module_at modules n) number_is ∙ is) (in_mapped vertex_of ordered one found)
+        back (number, placed) =
+            let one : Numbered = record { vertex = x; number = number } in
+            in_mapped vertex_of ordered one (its_entry one placed)
 
-    module _ (ranks : List ℕ) (each : All (IsRanked (map vertex_of ordered) ranks) ordered) where
-      pub ranks_are : length ranks ≡ length modules → length marks ≡ length modules → AreRanks modules marks (map vertex_of ordered) ranks
-      ranks_are count marks_count = record {
-        count = count;
-        within = λ number marked.
-            let (one, there, e) = its_entry number (below number marked) marked in
-            subst (λ (n : ℕ). rank_of ranks n < length (map vertex_of ordered)) e
-            (All-contains (IsRanked (map vertex_of ordered) ranks) ordered one each there).within;
-        same = λ number marked.
-            let (one, there, e) = its_entry number (below number marked) marked in
-            let placed = All-contains (IsPlaced modules marks) ordered one ordered_placed there in
-            subst (λ (n : ℕ). module_at (map vertex_of ordered) (rank_of ranks n) ≡ module_at modules n) e
-            ((All-contains (IsRanked (map vertex_of ordered) ranks) ordered one each there).is ∙ placed.is);
-      }
-        where
-          below : (number : ℕ) → HasMark marks number → number < length modules
-          below number marked = omega (arith, marked_inside marks number marked, marks_count)
+    pub ranks_are : (ranks : List ℕ) → All (IsRanked (map vertex_of ordered) ranks) ordered → length marks ≡ length modules
+        → AreRanks modules marks (map vertex_of ordered) ranks
+    ranks_are ranks each count number marked =
+        let one : Numbered = record { vertex = module_at modules number; number = number } in
+        All-contains (IsRanked (map vertex_of ordered) ranks) ordered one each
+        (its_entry one (record { within = omega (arith, marked_inside marks number marked, count); marked = marked; is = refl }))
 
     -- ---- sorted vertices
 

@@ -1,8 +1,10 @@
 -- The vertices of a graph: the modules that its sources and lists name.
-use Rattle.std.proofs.Common.{◌≡◌, ◌⊎◌, ◌↔◌, ◌∙◌, ◌<◌, ◌++◌, ◌∷◌, [], ℕ, zero, suc, Bool, List, Option, None, Some, Contains, get_or, length, ap, arith, inl, inr, refl, subst, sym}
+use Rattle.std.specs.Ordering.{nat_cmp}
+use Rattle.std.specs.List.Sorted.{IsPermutation, IsSortedByKey}
+use Rattle.std.proofs.Common.{◌≡◌, ◌⊎◌, ◌↔◌, ◌∙◌, ◌<◌, ◌++◌, ◌∷◌, [], ℕ, zero, suc, Bool, List, Option, None, Some, Contains, get_or, length, map, ap, arith, inl, inr, refl, subst, sym}
 use Rattle.std.specs.Prelude.{All}
 use Rattle.std.specs.List.{AllZip, IsDistinct}
-use Rattle.std.specs.Option.{option_to_list}
+use Rattle.std.specs.Option.{option_to_list, option_cmp}
 use Rattle.std.proofs.lemmas.List.{get_or-map, get_or_default, length-map}
 use Rattle.std.proofs.lemmas.List.Elements.{All-contains, Contains-append_cases, Contains-append_left, Contains-append_right, Contains-get_or}
 use Rattle.gm_name.specs.ModuleVersion.{ModuleVersion, module_at, pair_cmp}
@@ -11,14 +13,14 @@ use Rattle.gm_graph_select.specs.declared.step.Edge.{Edge}
 use Rattle.gm_graph_select.specs.declared.step.Step.{Step}
 use Rattle.gm_graph_select.specs.declared.step.Step.TheVariants.{Main, Of}
 use Rattle.gm_graph_select.specs.Adjacency.{AreRanked, AreUsed, HaveNumbers, IsBelow, IsNumbered, StepEdges, by_step, edges_of, left_by, list_at, same_step, sources_of, step_edges, step_with}
-use Rattle.gm_graph_select.specs.Private.Adjacency.{AreSourcesByRanks, IsByRanks, IsNumberedList}
+use Rattle.gm_graph_select.specs.Private.Adjacency.{IsByRanks, source_by_ranks}
 use Rattle.gm_graph_select.specs.Graph.{IsEdgeEnd, among, edge}
 use Rattle.gm_graph_select.specs.Private.Marking.{HasMark, numbers_left, numbers_listed}
 use Rattle.gm_graph_select.specs.Order.{HaveSame, IsAscending}
-use Rattle.gm_graph_select.specs.Private.Ranking.{AreRanks, IsMarkedModule}
+use Rattle.gm_graph_select.specs.Private.Ranking.{IsMarkedModule}
 use Rattle.gm_graph_select.proofs.Ascending.{no_member}
 use Rattle.gm_graph_select.proofs.Marks.{marked_inside, named_by, named_from, named_only, names_from, names_only, names_to, numbers_named}
-use Rattle.gm_graph_select.proofs.RankedLists.{AreByRanks, IsFromMarked, NamesMarked, edges_each, edges_only, from_mapped, in_mapped, lists_are_ranked, same_edges, steps_by_ranks}
+use Rattle.gm_graph_select.proofs.RankedLists.{AreByRanks, IsFromMarked, NamesMarked, edges_each, edges_only, from_mapped, in_mapped, lists_are_ranked, same_edges, steps_by_ranks, AreRanks}
 
 module _ (modules : List ModuleVersion) (marks : List Bool) (all : List StepEdges)
     (are : (number : ℕ) → HasMark marks number ↔ Contains (numbers_named all) number) where
@@ -43,16 +45,16 @@ module _ (modules : List ModuleVersion) (marks : List Bool) (all : List StepEdge
   module _ (edges : List Edge) (same : HaveSame (edges_of modules all) edges) where
     -- A marked module is an end of an edge, or a list leaves it.
     end_or_source : (x : ModuleVersion) → IsMarkedModule modules marks x → IsEdgeEnd (among edges) x ⊎ Contains (sources_of modules all) (Of x)
-    end_or_source x (number, below, marked, is) =
-        let (one, there, named) = named_only named_by all number ((are number).0 marked) in
+    end_or_source x (number, placed) =
+        let (one, there, named) = named_only named_by all number ((are number).0 placed.marked) in
         elim (names_only one number named) [
           | inl left ↦ inr (subst (λ (s : Step). Contains (sources_of modules all) s)
-              (ap (λ (from : Option ℕ). step_with modules from) left ∙ ap Of is)
+              (ap (λ (from : Option ℕ). step_with modules from) left ∙ ap Of (sym placed.is))
               (in_mapped (left_by modules) all one there))
           | inr found ↦ inl (
             left_by modules one,
             (same (edge (left_by modules one) x)).0
-                (subst (λ (y : ModuleVersion). Contains (edges_of modules all) (edge (left_by modules one) y)) is
+                (subst (λ (y : ModuleVersion). Contains (edges_of modules all) (edge (left_by modules one) y)) (sym placed.is)
                 (edges_each modules all one (edge (left_by modules one) (module_at modules number)) there
                 (in_mapped (λ (n : ℕ). edge (left_by modules one) (module_at modules n)) one.to number found))),
           )
@@ -62,7 +64,7 @@ module _ (modules : List ModuleVersion) (marks : List Bool) (all : List StepEdge
         → (number : ℕ) → Contains (named_by one) number → module_at modules number ≡ x → IsMarkedModule modules marks x
     marked_module count x one there number named is =
         let marked : HasMark marks number = (are number).1 (named_from named_by all one number there named) in
-        (number, subst (λ (n : ℕ). number < n) count (marked_inside marks number marked), marked, is)
+        (number, record { within = subst (λ (n : ℕ). number < n) count (marked_inside marks number marked); marked = marked; is = sym is })
 
     an_end : length marks ≡ length modules → (x : ModuleVersion) → IsEdgeEnd (among edges) x → IsMarkedModule modules marks x
     an_end count x (s, h) =
@@ -148,7 +150,7 @@ module _ (lists : List (List ℕ)) (sources : List Source) where
         let is = numbered k (step_edges lists d) (omega (arith, below, length-map sources (step_edges lists))) in
         subst (λ (e : StepEdges). IsBelow count e.from) (get_or-map (step_edges lists) sources k d (step_edges lists d) below) is.from
 
-    pub lists_below : AreUsed lists sources → All (IsNumberedList count) lists
+    pub lists_below : AreUsed lists sources → All (All (λ (number : ℕ). number < count)) lists
     lists_below used place d below k e inside =
         let list = get_or lists place d in
         let here : list ≡ list_at lists place = get_or_default lists place d [] below in
@@ -192,11 +194,12 @@ pub is_graph_of : {modules : List ModuleVersion} {marks is_vertex : List Bool} {
     → length marks ≡ length modules → ((number : ℕ) → HasMark marks number ↔ Contains (numbers_left sources ++ numbers_listed lists) number)
     → ((x : ModuleVersion) → Contains vertices x ↔ IsMarkedModule modules is_vertex x) → IsAscending pair_cmp vertices
     → AreRanks modules is_vertex vertices ranks
-    → AllZip (IsByRanks places) lists new_lists → AreSourcesByRanks others old_sources new_sources
+    → AllZip (IsByRanks places) lists new_lists → IsPermutation (map (source_by_ranks others) old_sources) new_sources
+    → IsSortedByKey (λ one. one.from) (option_cmp nat_cmp) new_sources
     → IsDistinct (same_step modules) (by_step old_lists old_sources)
     → IsGraphOf modules (by_step old_lists old_sources) vertices (by_step new_lists new_sources)
 is_graph_of {modules} {marks} {is_vertex} {vertices} {ranks} {places} {others} {old_lists} {lists} new_lists
-    {old_sources} {sources} {new_sources} lists_are sources_are marks_are places_are others_are used count are contains up ranked zip by once =
+    {old_sources} {sources} {new_sources} lists_are sources_are marks_are places_are others_are used count are contains up ranked zip permutation sorted once =
     from_steps modules marks vertices ranks (by_step old_lists old_sources) (by_step new_lists new_sources) count named
     (subst (λ (bs : List Bool). (x : ModuleVersion) → Contains vertices x ↔ IsMarkedModule modules bs x) marks_are contains)
     up
@@ -204,7 +207,7 @@ is_graph_of {modules} {marks} {is_vertex} {vertices} {ranks} {places} {others} {
     (steps_by_ranks ranks old_lists new_lists
     (subst (λ (ls : List (List ℕ)). AllZip (IsByRanks ranks) ls new_lists) lists_are
     (subst (λ (ns : List ℕ). AllZip (IsByRanks ns) lists new_lists) places_are zip)) old_sources new_sources
-    (subst (λ (ns : List ℕ). AreSourcesByRanks ns old_sources new_sources) others_are by))
+    (subst (λ (ns : List ℕ). IsPermutation (map (source_by_ranks ns) old_sources) new_sources) others_are permutation) sorted)
     once
   where
     given : (number : ℕ) → HasMark marks number ↔ Contains (numbers_left old_sources ++ numbers_listed old_lists) number

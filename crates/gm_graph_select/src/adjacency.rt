@@ -3,10 +3,12 @@
 //! A vertex may be as long as a file. While a graph is made a vertex is its number, which takes four bytes, and is
 //! compared at once. Steps with the same requirements share a list of these, so that it is held and sorted once.
 
-ghost use Rattle.std.specs.Prelude.{◌≡◌, ◌<◌, ◌≤◌, All, length, map, take};
-ghost use Rattle.std.specs.Option.{option_map};
+ghost use Rattle.std.specs.Prelude.{◌≡◌, ◌<◌, ◌≤◌, All, length, map, slice_index, take};
+ghost use Rattle.std.specs.List.Sorted.{IsPermutation, IsSortedByKey};
+ghost use Rattle.std.specs.Option.{option_cmp, option_map};
+ghost use Rattle.std.specs.Ordering.{nat_cmp};
 ghost use Rattle.gm_graph_select.specs.Adjacency.{IsBelow};
-ghost use Rattle.gm_graph_select.specs.Private.Adjacency.{AreSourcesByRanks, IsByRanks, IsNumberedList, rank_of, source_by_ranks};
+ghost use Rattle.gm_graph_select.specs.Private.Adjacency.{IsByRanks, source_by_ranks};
 
 use crate::sorting::put_in_order;
 
@@ -23,7 +25,7 @@ pub struct Source {
 /// The rank at this number, if it is one.
 fn rank_of(number: Option<u32>, ranks: &[u32]) -> Option<u32>
     requires { IsBelow (length ranks.now) number }
-    ensures { result ≡ option_map (rank_of ranks.now) number }
+    ensures { result ≡ option_map (slice_index ranks.now) number }
 {
     match number {
         None => None,
@@ -34,7 +36,7 @@ fn rank_of(number: Option<u32>, ranks: &[u32]) -> Option<u32>
 /// Puts the rank of each of these numbers in its place.
 fn put_ranks(numbers: &mut [u32], ranks: &[u32])
     requires { All (λ number. number < length ranks.now) numbers.old }
-    ensures { numbers.new ≡ map (rank_of ranks.now) numbers.old }
+    ensures { numbers.new ≡ map (slice_index ranks.now) numbers.old }
 {
     for number in numbers.iter_mut() {
         *number = ranks[*number as usize];
@@ -45,7 +47,7 @@ fn put_ranks(numbers: &mut [u32], ranks: &[u32])
 /// the front. It takes no memory. For n numbers it takes n log n comparisons, or only n if the ranks come in ascending
 /// order.
 pub(crate) fn rank_list(numbers: &mut [u32], ranks: &[u32]) -> usize
-    requires { IsNumberedList (length ranks.now) numbers.old }
+    requires { All (λ number. number < length ranks.now) numbers.old }
     ensures count { result ≤ length numbers.old }
     ensures ranks { IsByRanks ranks.now numbers.old (take result numbers.new) }
 {
@@ -66,7 +68,8 @@ fn rank_sources(sources: &mut [Source], ranks: &[u32])
 /// These sources by ranks, in ascending order.
 pub(crate) fn sources_by_ranks(mut sources: Vec<Source>, ranks: &[u32]) -> Vec<Source>
     requires { All (λ one. IsBelow (length ranks.now) one.from) sources.items }
-    ensures { AreSourcesByRanks ranks.now sources.items result.items }
+    ensures permutation { IsPermutation (map (source_by_ranks ranks.now) sources.items) result.items }
+    ensures sorted { IsSortedByKey (λ one. one.from) (option_cmp nat_cmp) result.items }
 {
     rank_sources(&mut sources, ranks);
     sources.sort_unstable_by_key(|one| one.from);

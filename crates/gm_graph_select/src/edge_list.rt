@@ -27,14 +27,14 @@ pub(crate) struct Pairs<'a> {
 }
 
 impl<'a> Model for Pairs<'a> {
-    ghost use Rattle.std.specs.Prelude.{◌++◌, List};
+    ghost use Rattle.std.specs.Prelude.{◌∷◌, List};
     ghost use Rattle.gm_graph_select.specs.Adjacency.{by_step};
     ghost use Rattle.gm_graph_select.specs.EdgeList.{NumberedEdge};
-    ghost use Rattle.gm_graph_select.specs.Private.Adjacency.{numbered_from, numbered_edges};
+    ghost use Rattle.gm_graph_select.specs.Private.Adjacency.{numbered_edges};
 
     ghost Value = { List NumberedEdge };
 
-    ghost view = { λ p. numbered_from p.from p.to.now ++ numbered_edges (by_step p.lists.now p.sources.now) };
+    ghost view = { λ p. numbered_edges (record { from = p.from; to = p.to.now } ∷ by_step p.lists.now p.sources.now) };
 }
 
 impl<'a> Pairs<'a> {

@@ -3,7 +3,6 @@
 ghost use Rattle.std.specs.Prelude.{◌≡◌, ◌↔◌, ◌<◌, ◌++◌, All, Contains, IfOk, length, ℕ};
 ghost use Rattle.std.specs.Option.{option_to_list};
 ghost use Rattle.gm_graph_select.specs.Adjacency.{IsBelow};
-ghost use Rattle.gm_graph_select.specs.Private.Adjacency.{IsNumberedList};
 ghost use Rattle.gm_graph_select.specs.Private.Marking.{AreMarked, HasMark, numbers_left, numbers_listed};
 
 use crate::adjacency::Source;
@@ -42,7 +41,7 @@ fn mark_sources(marks: &mut [bool], sources: &[Source])
 
 /// Marks the numbers that any of these lists has.
 fn mark_lists(marks: &mut [bool], lists: &NumberLists)
-    requires { All (IsNumberedList (length marks.old)) lists.now }
+    requires { All (All (λ number. number < length marks.old)) lists.now }
     ensures { AreMarked marks.old (numbers_listed lists.now) marks.new }
 {
     for place in 0..lists.len() {
@@ -58,7 +57,7 @@ pub(crate) fn marks_of(
     sources: &[Source],
 ) -> Result<Vec<bool>, AllocError>
     requires sources { All (λ one. IsBelow count one.from) sources.now }
-    requires lists { All (IsNumberedList count) lists.now }
+    requires lists { All (All (λ number. number < count)) lists.now }
     ensures count { IfOk result (λ marks. length marks.items ≡ count) }
     ensures marks { IfOk result (λ marks. (number : ℕ) → HasMark marks.items number
         ↔ Contains (numbers_left sources.now ++ numbers_listed lists.now) number) }

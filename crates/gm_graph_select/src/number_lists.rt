@@ -2,12 +2,12 @@
 //!
 //! One long list takes two allocations, however many lists there are, and whoever made it gives it away without a copy.
 
-ghost use Rattle.std.specs.Prelude.{◌≡◌, ◌≤◌, All, length};
+ghost use Rattle.std.specs.Prelude.{◌≡◌, ◌<◌, ◌∷◌, [], All, length};
 ghost use Rattle.std.specs.List.{AllZip};
 ghost use Rattle.gm_graph_select.specs.Adjacency.{list_at};
-ghost use Rattle.gm_graph_select.specs.Private.Adjacency.{IsByRanks, IsNumberedList};
+ghost use Rattle.gm_graph_select.specs.Private.Adjacency.{IsByRanks};
 ghost use Rattle.gm_graph_select.specs.Spans.{AreSpansApart, lists_at, part_at};
-ghost use Rattle.gm_graph_select.specs.Private.Spans.{IsPartByRanks, IsSpanWithin};
+ghost use Rattle.gm_graph_select.specs.Private.Spans.{IsPartByRanks};
 
 use crate::adjacency::rank_list;
 use std::marker::Model;
@@ -23,7 +23,7 @@ pub struct Span {
 
 /// The numbers at a span.
 fn part(numbers: &[u32], span: Span) -> &[u32]
-    requires { IsSpanWithin (length numbers.now) span }
+    requires { AreSpansApart 0 (span ∷ []) (length numbers.now) }
     ensures { result.now ≡ part_at numbers.now span }
 {
     &numbers[span.start as usize..span.end as usize]
@@ -32,8 +32,8 @@ fn part(numbers: &[u32], span: Span) -> &[u32]
 /// Puts ranks in the places of the numbers at a span, in ascending order, each once, and returns where they are: at the
 /// front of the span.
 fn rank_part(numbers: &mut [u32], span: Span, ranks: &[u32]) -> Span
-    requires within { IsSpanWithin (length numbers.old) span }
-    requires numbered { IsNumberedList (length ranks.now) (part_at numbers.old span) }
+    requires within { AreSpansApart 0 (span ∷ []) (length numbers.old) }
+    requires numbered { All (λ number. number < length ranks.now) (part_at numbers.old span) }
     ensures { IsPartByRanks ranks.now numbers.old span numbers.new result }
 {
     let Span { start, end } = span;
@@ -48,7 +48,7 @@ fn rank_part(numbers: &mut [u32], span: Span, ranks: &[u32]) -> Span
 /// if there are fewer ranks than numbers.
 fn rank_parts(numbers: &mut [u32], spans: &mut [Span], ranks: &[u32])
     requires apart { AreSpansApart 0 spans.old (length numbers.old) }
-    requires numbered { All (IsNumberedList (length ranks.now)) (lists_at numbers.old spans.old) }
+    requires numbered { All (All (λ number. number < length ranks.now)) (lists_at numbers.old spans.old) }
     ensures size { length numbers.new ≡ length numbers.old }
     ensures apart { AreSpansApart 0 spans.new (length numbers.old) }
     ensures ranks { AllZip (IsByRanks ranks.now) (lists_at numbers.old spans.old) (lists_at numbers.new spans.new) }
@@ -107,7 +107,7 @@ impl NumberLists {
     /// These lists by ranks, each in ascending order. It takes no memory. For n numbers it takes n log n comparisons, or
     /// only n if the ranks of each list come in ascending order.
     pub(crate) fn by_ranks(mut self, ranks: &[u32]) -> NumberLists
-        requires { All (IsNumberedList (length ranks.now)) self }
+        requires { All (All (λ number. number < length ranks.now)) self }
         ensures { AllZip (IsByRanks ranks.now) self result }
     {
         rank_parts(&mut self.numbers, &mut self.spans, ranks);

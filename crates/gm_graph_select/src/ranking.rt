@@ -1,10 +1,12 @@
 //! The ranks of vertices: their places in ascending order.
 
-ghost use Rattle.std.specs.Prelude.{◌≡◌, ◌↔◌, ◌<◌, ◌≤◌, ◌++◌, ◌∷◌, [], All, Contains, IfOk, OnOk, if◌then◌else◌, length, map};
+ghost use Rattle.std.specs.Prelude.{◌≡◌, ◌↔◌, ◌<◌, ◌≤◌, ◌++◌, ◌∷◌, [], All, Contains, IfOk, OnOk, if◌then◌else◌, length, map, ℕ};
 ghost use Rattle.std.specs.List.{IsDistinct};
-ghost use Rattle.gm_name.specs.ModuleVersion.{ModuleVersion, pair_cmp, pair_eq};
+ghost use Rattle.gm_name.specs.ModuleVersion.{ModuleVersion, module_at, pair_cmp, pair_eq};
+ghost use Rattle.gm_graph_select.specs.declared.ranking.Numbered.{Numbered};
 ghost use Rattle.gm_graph_select.specs.Order.{IsAscending};
-ghost use Rattle.gm_graph_select.specs.Private.Ranking.{AreMarkedModules, AreRanks, HaveOneVertexEach, IsMarkedModule, IsRanked};
+ghost use Rattle.gm_graph_select.specs.Private.Marking.{HasMark};
+ghost use Rattle.gm_graph_select.specs.Private.Ranking.{AreMarkedModules, IsMarkedModule, IsRanked};
 
 use gm_name::ModVer;
 use std::alloc::{AllocError, Global};
@@ -61,7 +63,8 @@ fn with_numbers(
 fn ranking_of(alloc: Global, all: Vec<Numbered>, modules: usize) -> Result<Ranking, AllocError>
     requires few { length all.items ≤ 4294967295 }
     requires within { All (λ one. one.number < modules) all.items }
-    requires once { HaveOneVertexEach all.items }
+    requires once { (a b : Numbered) → Contains all.items a → Contains all.items b → a.number ≡ b.number
+        → a.vertex ≡ b.vertex }
     ensures vertices { IfOk result (λ ranking. ranking.vertices.items ≡ map (λ one. one.vertex) all.items) }
     ensures count { IfOk result (λ ranking. length ranking.ranks.items ≡ modules) }
     ensures ranks { IfOk result (λ ranking. All (IsRanked ranking.vertices.items ranking.ranks.items) all.items) }
@@ -87,8 +90,10 @@ pub(crate) fn ranked(
     ensures vertices { IfOk result (λ ranking. (x : ModuleVersion) → Contains ranking.vertices.items x
         ↔ IsMarkedModule modules.items is_vertex.now x) }
     ensures ascending { IfOk result (λ ranking. IsAscending pair_cmp ranking.vertices.items) }
-    ensures ranks { IfOk result (λ ranking.
-        AreRanks modules.items is_vertex.now ranking.vertices.items ranking.ranks.items) }
+    ensures count { IfOk result (λ ranking. length ranking.ranks.items ≡ length modules.items) }
+    ensures ranks { IfOk result (λ ranking. (number : ℕ) → HasMark is_vertex.now number
+        → IsRanked ranking.vertices.items ranking.ranks.items
+        (record { vertex = module_at modules.items number; number = number })) }
 {
     let mut all = with_numbers(alloc, modules, is_vertex)?;
     all.sort_unstable();

@@ -14,7 +14,7 @@ ghost use Rattle.gm_graph_select.specs.Graph.{among};
 ghost use Rattle.gm_graph_select.specs.declared.step.Step.TheVariants.{Of};
 ghost use Rattle.gm_graph_select.specs.Order.{HaveSame};
 ghost use Rattle.gm_graph_select.specs.Chains.{IsReached};
-ghost use Rattle.gm_graph_select.specs.Private.Marking.{HasMark};
+ghost use Rattle.gm_graph_select.specs.Private.Marking.{AreMarked, HasMark};
 ghost use Rattle.gm_graph_select.specs.Private.Numbering.{IsGraph, step_at, steps_of};
 ghost use Rattle.gm_graph_select.specs.Private.Searching.{AreEndsFound, AreNewVisits, ArePassed, IsEdgeTo, IsFollowed, IsSearchedTo, IsTracedTo};
 
@@ -90,7 +90,7 @@ impl Search {
     fn follow(&mut self, before: usize, number: usize) -> Result<(), AllocError>
         requires { number < length self.old.is_found.items }
         ensures others { self.new ≡ record self.old { is_found = self.new.is_found; next = self.new.next } }
-        ensures found { HasMark self.new.is_found.items number }
+        ensures found { AreMarked self.old.is_found.items (number ∷ []) self.new.is_found.items }
         ensures followed { OnOk result (AreNewVisits before (λ found. found ≡ number) self.old self.new) }
     {
         if self.is_found[number] {
@@ -108,6 +108,7 @@ impl Search {
         requires goal { goal < length graph.now.vertices }
         requires size { length self.old.is_found.items ≡ length (steps_of graph.now) }
         requires inside { visit.number < length (steps_of graph.now) }
+        ensures size { length self.new.is_found.items ≡ length (steps_of graph.now) }
         ensures visits { OnOk result (self.new.visits.items ≡ self.old.visits.items ++ visit ∷ []) }
         ensures found { IfOk result (λ is_goal. is_goal ≡ true
             → among graph.now.edges (step_at (steps_of graph.now) visit.number) (module_at graph.now.vertices goal)) }

@@ -5,7 +5,7 @@ use Rattle.gm_graph_select.specs.declared.step.Step.{Step}
 use Rattle.gm_graph_select.specs.declared.step.Step.TheVariants.{Main, Of}
 use Rattle.gm_graph_select.specs.Private.Numbering.{steps_of}
 use Rattle.gm_graph_select.specs.Private.Searching.{visited_step}
-use Rattle.gm_graph_select.proofs.BreadthFirst.{back_begins, back_done, back_longer, back_more}
+use Rattle.gm_graph_select.proofs.BreadthFirst.{back_begins, back_done, back_more}
 use Rattle.gm_graph_select.proofs.chaining.walk_back.Goals as goal
 
 pub back-init : goal.back-init
@@ -21,18 +21,12 @@ back-init c =
 
 pub back-preserved : goal.back-preserved
 back-preserved c =
-    let E = among c.args.graph.now.edges in
-    let steps = steps_of c.args.graph.now in
-    let visits = c.args.visits.now in
     let k = c.back.place in
-    let (below, chain) = back_more E steps visits k c.in-Some.vertex.now (c.requires.traced.each k c.back.invariant.inside) c.in-Some.ensures.some in
-    let more : c.push_step-in-Some.new.steps.items ≡ c.back.steps.items ++ Of c.in-Some.vertex.now ∷ [] = c.in_ok-push_step-2.ensures in
-    record {
-      inside = let room = c.back.invariant.inside in omega (arith, below, room);
-      chain = λ l h. back_longer E steps visits (module_at c.args.graph.now.vertices c.args.goal)
-          (visited_step steps visits k) (Of c.in-Some.vertex.now) c.back.steps.items c.push_step-in-Some.new.steps.items
-          more l (c.back.invariant.chain (l ++ Of c.in-Some.vertex.now ∷ []) (chain l h));
-    }
+    let (below, chain) = back_more (among c.args.graph.now.edges) (steps_of c.args.graph.now) c.args.visits.now
+    (module_at c.args.graph.now.vertices c.args.goal) k c.in-Some.vertex.now c.back.steps.items
+    c.push_step-in-Some.new.steps.items (c.requires.traced.each k c.back.invariant.inside) c.in-Some.ensures.some
+    c.in_ok-push_step-2.ensures c.back.invariant.chain in
+    record { inside = let room = c.back.invariant.inside in omega (arith, below, room); chain = chain }
 
 pub returns : goal.returns
 returns c =

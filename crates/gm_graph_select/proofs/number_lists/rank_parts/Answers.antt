@@ -1,7 +1,6 @@
-use Rattle.std.proofs.Common.{◌<◌, ◌∙◌, List, arith, get_or, length, subst, sym, ℕ}
+use Rattle.std.proofs.Common.{◌<◌, ◌∙◌, List, arith, get_or, length, subst, sym, ℕ, All}
 use Rattle.std.proofs.lemmas.List.{get_or-map, get_or_default, length-map}
 use Rattle.gm_graph_select.specs.declared.number_lists.Span.{Span}
-use Rattle.gm_graph_select.specs.Private.Adjacency.{IsNumberedList}
 use Rattle.gm_graph_select.specs.Spans.{part_at}
 use Rattle.gm_graph_select.proofs.Parts.{all_apart, all_ranked, one_ranked, part_is, within_now}
 use Rattle.gm_graph_select.proofs.number_lists.rank_parts.Goals as goal
@@ -23,7 +22,7 @@ rank_part-requires-clause-numbered c =
     let one = get_or at.spans at.span-index none in
     let inside : at.span-index < length spans = omega (arith, at.invariant.count) in
     let here = get_or-map (part_at old) spans at.span-index one (part_at old one) inside in
-    subst (λ (xs : List ℕ). IsNumberedList (length c.args.ranks.now) xs)
+    subst (λ (xs : List ℕ). All (λ (number : ℕ). number < length c.args.ranks.now) xs)
     (here ∙ sym (part_is c.args.ranks.now old spans at.numbers at.spans at.span-index at.invariant one inside
     (get_or_default at.spans at.span-index none one (omega arith))))
     (c.requires.numbered at.span-index (part_at old one) (omega (arith, inside, length-map spans (part_at old))))

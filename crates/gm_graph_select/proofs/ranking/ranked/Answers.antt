@@ -1,10 +1,11 @@
-use Rattle.std.proofs.Common.{◌≡◌, ◌<◌, ◌∙◌, ℕ, List, Result, Ok, Err, arith, length, map, subst, sym}
+use Rattle.std.proofs.Common.{◌≡◌, ◌<◌, ℕ, List, Result, Ok, Err, arith, length, map, subst, sym}
 use Rattle.std.specs.Prelude.{All, Contains, IfOk, ◌↔◌}
 use Rattle.gm_name.specs.ModuleVersion.{ModuleVersion, pair_cmp}
 use Rattle.gm_graph_select.specs.declared.ranking.Numbered.{Numbered}
 use Rattle.gm_graph_select.specs.declared.ranking.Ranking.{Ranking}
 use Rattle.gm_graph_select.specs.Order.{IsAscending}
-use Rattle.gm_graph_select.specs.Private.Ranking.{AreRanks, IsMarkedModule, IsRanked}
+use Rattle.gm_graph_select.specs.Private.Ranking.{IsMarkedModule, IsRanked}
+use Rattle.gm_graph_select.proofs.RankedLists.{AreRanks}
 use Rattle.gm_graph_select.proofs.Ranks.{few_ordered, marked_modules, numbers_within, one_vertex_each, ranks_are, vertices_ascend}
 use Rattle.gm_graph_select.proofs.ranking.ranked.Goals as goal
 
@@ -28,14 +29,14 @@ of_vertices (Ok ranking) xs Q is q = subst Q (sym is) q
 of_vertices (Err e) xs Q is q = tt
 
 -- what holds of these vertices and any such ranks holds of the ranking
-of_ranking : {E : Type 0} (made : Result Ranking E) (xs : List ModuleVersion) (all : List Numbered) (n : ℕ) (Q : List ModuleVersion → List ℕ → Type 0)
-    → IfOk made (λ ranking. ranking.vertices.items ≡ xs) → IfOk made (λ ranking. length ranking.ranks.items ≡ n)
+of_ranking : {E : Type 0} (made : Result Ranking E) (xs : List ModuleVersion) (all : List Numbered) (Q : List ModuleVersion → List ℕ → Type 0)
+    → IfOk made (λ ranking. ranking.vertices.items ≡ xs)
     → IfOk made (λ ranking. All (IsRanked ranking.vertices.items ranking.ranks.items) all)
-    → ((ranks : List ℕ) → All (IsRanked xs ranks) all → length ranks ≡ n → Q xs ranks) → IfOk made (λ ranking. Q ranking.vertices.items ranking.ranks.items)
-of_ranking (Ok ranking) xs all n Q is count each f =
+    → ((ranks : List ℕ) → All (IsRanked xs ranks) all → Q xs ranks) → IfOk made (λ ranking. Q ranking.vertices.items ranking.ranks.items)
+of_ranking (Ok ranking) xs all Q is each f =
     let ranks = ranking.ranks.items in
-    subst (λ (ys : List ModuleVersion). Q ys ranks) (sym is) (f ranks (subst (λ (ys : List ModuleVersion). All (IsRanked ys ranks) all) is each) count)
-of_ranking (Err e) xs all n Q is count each f = tt
+    subst (λ (ys : List ModuleVersion). Q ys ranks) (sym is) (f ranks (subst (λ (ys : List ModuleVersion). All (IsRanked ys ranks) all) is each))
+of_ranking (Err e) xs all Q is each f = tt
 
 abbrev vertices_in : List Numbered → List ModuleVersion
 vertices_in all = map (λ (one : Numbered). one.vertex) all
@@ -53,10 +54,12 @@ returns-clause-ascending c =
     of_vertices c.ranking_of.result (vertices_in all) (IsAscending pair_cmp) c.ranking_of.ensures.vertices
     (vertices_ascend c.in_ok-all.ensures all c.sort_unstable.ensures.permutation c.sort_unstable.ensures.sorted c.requires.distinct)
 
+pub returns-clause-count : goal.returns-clause-count
+returns-clause-count c = subst (λ (n : ℕ). IfOk c.ranking_of.result (λ ranking. length ranking.ranks.items ≡ n)) c.requires.marks c.ranking_of.ensures.count
+
 pub returns-clause-ranks : goal.returns-clause-ranks
 returns-clause-ranks c =
     let all = c.sort_unstable.new.self.items in
-    of_ranking c.ranking_of.result (vertices_in all) all (length c.args.is_vertex.now)
-    (AreRanks c.args.modules.items c.args.is_vertex.now) c.ranking_of.ensures.vertices c.ranking_of.ensures.count
-    c.ranking_of.ensures.ranks
-    (λ ranks each count. ranks_are c.in_ok-all.ensures all c.sort_unstable.ensures.permutation ranks each (count ∙ c.requires.marks) c.requires.marks)
+    of_ranking c.ranking_of.result (vertices_in all) all
+    (AreRanks c.args.modules.items c.args.is_vertex.now) c.ranking_of.ensures.vertices c.ranking_of.ensures.ranks
+    (λ ranks each. ranks_are c.in_ok-all.ensures all c.sort_unstable.ensures.permutation ranks each c.requires.marks)

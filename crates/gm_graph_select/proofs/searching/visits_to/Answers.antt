@@ -1,4 +1,4 @@
-use Rattle.std.proofs.Common.{◌∙◌, suc, List, ap, refl, subst, sym, arith, vec_len}
+use Rattle.std.proofs.Common.{◌∙◌, suc, List, ap, subst, sym, arith, vec_len}
 use Rattle.std.proofs.lemmas.Bool.{eqb-false}
 use Rattle.gm_name.specs.ModuleVersion.{module_at}
 use Rattle.gm_graph_select.specs.declared.searching.Search.{Search}
@@ -12,7 +12,7 @@ levels-init c =
     let graph = c.args.graph.now in
     let made = c.in_ok-search.ensures in (
       0,
-      first_level graph (module_at graph.vertices c.args.goal) c.in_ok-search.search c.in_ok-due.due.items c.requires.graph (omega arith) refl
+      first_level graph (module_at graph.vertices c.args.goal) c.in_ok-search.search c.in_ok-due.due.items c.requires.graph
           c.in_ok-due.ensures.items made.found made.visits made.next made.passed,
     )
 

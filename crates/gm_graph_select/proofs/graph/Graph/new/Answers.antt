@@ -1,8 +1,7 @@
-use Rattle.std.proofs.Common.{◌≡◌, ◌∙◌, List, ap, arith, length, ℕ, subst, sym}
+use Rattle.std.proofs.Common.{◌≡◌, ◌∙◌, List, ap, arith, length, ℕ, subst, sym, ◌<◌}
 use Rattle.std.specs.Prelude.{All}
 use Rattle.gm_graph_select.specs.declared.adjacency.Source.{Source}
 use Rattle.gm_graph_select.specs.Adjacency.{IsBelow, by_step}
-use Rattle.gm_graph_select.specs.Private.Adjacency.{IsNumberedList}
 use Rattle.gm_graph_select.specs.Spans.{lists_at}
 use Rattle.gm_graph_select.proofs.RankedLists.{ranked_edges_ascend}
 use Rattle.gm_graph_select.proofs.Vertices.{IsGraphOf, is_graph_of, lists_below, sources_below}
@@ -20,22 +19,22 @@ pub marks_of-requires-clause-lists : goal.marks_of-requires-clause-lists
 marks_of-requires-clause-lists c =
     let lists = lists_at c.args.numbers.items c.args.spans.items in
     let count : length c.args.modules.items ≡ c.len.result = omega (arith, c.len.ensures, c.args.modules.ok) in
-    subst (λ (ls : List (List ℕ)). All (IsNumberedList c.len.result) ls) (sym c.new-lists.ensures)
-    (subst (λ (n : ℕ). All (IsNumberedList n) lists) count
+    subst (λ (ls : List (List ℕ)). All (All (λ (number : ℕ). number < c.len.result)) ls) (sym c.new-lists.ensures)
+    (subst (λ (n : ℕ). All (All (λ (number : ℕ). number < n)) lists) count
     (lists_below lists c.args.sources.items (length c.args.modules.items) c.requires.numbered c.requires.used))
 
 pub by_ranks-lists-requires : goal.by_ranks-lists-requires
 by_ranks-lists-requires c =
     let lists = lists_at c.args.numbers.items c.args.spans.items in
-    subst (λ (ls : List (List ℕ)). All (IsNumberedList (length c.deref-3.result.now)) ls) (sym c.new-lists.ensures)
-    (subst (λ (n : ℕ). All (IsNumberedList n) lists) (sym (ap length c.deref-3.ensures.value ∙ c.in_ok-ranking.ensures.ranks.count))
+    subst (λ (ls : List (List ℕ)). All (All (λ (number : ℕ). number < (length c.deref-3.result.now))) ls) (sym c.new-lists.ensures)
+    (subst (λ (n : ℕ). All (All (λ (number : ℕ). number < n)) lists) (sym (ap length c.deref-3.ensures.value ∙ c.in_ok-ranking.ensures.count))
     (lists_below lists c.args.sources.items (length c.args.modules.items) c.requires.numbered c.requires.used))
 
 pub sources_by_ranks-sources-requires : goal.sources_by_ranks-sources-requires
 sources_by_ranks-sources-requires c =
     let lists = lists_at c.args.numbers.items c.args.spans.items in
     subst (λ (n : ℕ). All (λ (one : Source). IsBelow n one.from) c.args.sources.items)
-    (sym (ap length c.deref-4.ensures.value ∙ c.in_ok-ranking.ensures.ranks.count))
+    (sym (ap length c.deref-4.ensures.value ∙ c.in_ok-ranking.ensures.count))
     (sources_below lists c.args.sources.items (length c.args.modules.items) c.requires.numbered)
 
 pub invariant_of-result : goal.invariant_of-result
@@ -44,7 +43,7 @@ invariant_of-result c =
     c.new-lists.ensures c.deref.ensures.value c.deref-2.ensures.value c.deref-3.ensures.value c.deref-4.ensures.value c.requires.used
     (omega (arith, c.in_ok-is_vertex.ensures.count, c.len.ensures, c.args.modules.ok)) c.in_ok-is_vertex.ensures.marks
     c.in_ok-ranking.ensures.vertices c.in_ok-ranking.ensures.ascending c.in_ok-ranking.ensures.ranks
-    c.by_ranks-lists.ensures c.sources_by_ranks-sources.ensures c.requires.once in
+    c.by_ranks-lists.ensures c.sources_by_ranks-sources.ensures.permutation c.sources_by_ranks-sources.ensures.sorted c.requires.once in
     made.ranked
 
 -- what is returned is the graph of the edges by their numbers
@@ -56,7 +55,7 @@ made c =
     c.deref-4.ensures.value c.requires.used
     (omega (arith, c.in_ok-is_vertex.ensures.count, c.len.ensures, c.args.modules.ok)) c.in_ok-is_vertex.ensures.marks
     c.in_ok-ranking.ensures.vertices c.in_ok-ranking.ensures.ascending c.in_ok-ranking.ensures.ranks
-    c.by_ranks-lists.ensures c.sources_by_ranks-sources.ensures c.requires.once
+    c.by_ranks-lists.ensures c.sources_by_ranks-sources.ensures.permutation c.sources_by_ranks-sources.ensures.sorted c.requires.once
 
 pub returns-clause-vertices : goal.returns-clause-vertices
 returns-clause-vertices c = (made c).vertices_are

@@ -89,9 +89,13 @@ loop-rank-preserved c =
       new = both_new (length old.visits.items) (IsEdgeTo graph number) old mid new (λ (n : ℕ). n ≡ rank + 1)
           (λ n same. subst (λ (m : ℕ). IsEdgeTo graph number m) (sym same) edge) c.loop-rank.invariant.new
           (subst (λ (p : ℕ). AreNewVisits p (λ (n : ℕ). n ≡ rank + 1) mid new) place followed);
-      each = rank_followed c.args.goal mid.is_found.items new.is_found.items (numbers_visited followed.more) ranks k followed.found
-          (omega arith) c.if-rank-goal.false c.follow.ensures.found c.loop-rank.invariant.each;
+      each = rank_followed c.args.goal mid.is_found.items new.is_found.items ranks k c.follow.ensures.found
+          (omega arith) c.if-rank-goal.false c.loop-rank.invariant.each;
     }
+
+pub returns-clause-size : goal.returns-clause-size
+returns-clause-size c =
+    ap (λ (s : Search). length s.is_found.items) c.pass.ensures.others ∙ c.loop-rank.invariant.new.found.count ∙ c.requires.size
 
 pub returns-clause-visits : goal.returns-clause-visits
 returns-clause-visits c = ap (λ (s : Search). s.visits.items) c.pass.ensures.others ∙ c.loop-rank.invariant.visits
