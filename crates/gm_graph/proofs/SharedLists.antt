@@ -1,6 +1,6 @@
 -- Files with the requirements of an earlier one.
 use Rattle.std.proofs.Common.{◌≡◌, ◌∙◌, ◌<◌, ◌≤◌, ◌-◌, ◌⊎◌, ◌++◌, ◌∷◌, [], ℕ, zero, suc, Bool, true, List, None, Option, Some, ap, append-nil, arith, drop, false, inl, inr, length, refl, sym, take}
-use Rattle.std.specs.Prelude.{is_some, nat_eq, not, slice_get}
+use Rattle.std.specs.Prelude.{is_some, nat_eq, not, slice_get, Err, IfOk, Ok, Result}
 use Rattle.std.specs.Cmp.Lexicographic.{pointwise, same_text}
 use Rattle.std.specs.Option.{option_and_then}
 use Rattle.std.proofs.lemmas.List.{length-drop, length-map, take-append-drop, take-map, take_all, take_at}
@@ -19,7 +19,7 @@ use Rattle.gm_graph.specs.declared.cache.summary.Kept.TheVariants.{Valid, Faulty
 use Rattle.gm_graph.specs.declared.cache.summary.ListSpan.{ListSpan}
 use Rattle.gm_graph.specs.declared.cache.summary.Summary.{Summary}
 use Rattle.gm_graph.specs.Summaries.{at_span, own_span, own_span_at, span_unless}
-use Rattle.gm_graph.specs.Private.Summaries.{IsWithinList, AreKeptIn, AreWithinList, Grows, GrowsFrom, IsSameList, IsSummaryIn, IsKeptIn, list_place, span_found}
+use Rattle.gm_graph.specs.Private.Summaries.{IsSummary, IsWithinList, AreKeptIn, AreWithinList, Grows, GrowsFrom, IsSameList, IsSummaryIn, IsKeptIn, list_place, span_found}
 use Rattle.gm_graph.proofs.Ordered.{own_spans}
 use Rattle.gm_graph.proofs.Spans.{IsKept, kept_still, span_still, within_still}
 
@@ -180,6 +180,13 @@ same_listed main old front new files numbers file same are cut has =
           record { all_within = was.all_within; kept_within = was.kept_within; without = was.without }),
       λ place e. rw (← same_Some same.place place e, has.there) refl,
     )
+
+-- A summary of a file that shares no list is listed.
+pub own_listed : {E : Type 0} (main : Main) (modules : List ModuleVersion) (files : List Kept) (result : Result Summary E)
+    → IfOk result (IsSummary main modules) → IfOk result (λ summary. summary.same_as ≡ None)
+    → IfOk result (IsSummaryIn main modules files)
+own_listed main modules files (Ok summary) is own = (is, λ place e. absurd (cc (own, e)))
+own_listed main modules files (Err fault) is own = tt
 
 -- Within the list are the requirements of all files that are listed in its front.
 pub all_within : (main : Main) (old : NumberedList) (start : ℕ) (files : List Kept) → AreKeptIn main (take start (modules_of old)) files

@@ -3,7 +3,7 @@ use Rattle.std.specs.Prelude.{Ok}
 use Rattle.gm_name_table.specs.Listed.{modules_of}
 use Rattle.gm_file.specs.Listed.{with_requirements}
 use Rattle.gm_file.specs.Main.{main_of}
-use Rattle.gm_graph.proofs.SharedLists.{all_within, cut_front, cut_grows, cut_same, front, same_listed}
+use Rattle.gm_graph.proofs.SharedLists.{all_within, cut_front, cut_grows, cut_same, front, own_listed, same_listed}
 use Rattle.gm_graph.proofs.cache.shared_summary.Goals as goal
 
 pub find-requires-clause-within : goal.find-requires-clause-within
@@ -29,3 +29,8 @@ returns-in-Some-clause-listed c =
 pub returns-in-Some-clause-grows : goal.returns-in-Some-clause-grows
 returns-in-Some-clause-grows c =
     cut_grows c.args.modules.now c.args.start c.truncate.new.self c.truncate.ensures.modules c.truncate.ensures.numbers
+
+pub returns-clause-listed : goal.returns-clause-listed
+returns-clause-listed c =
+    own_listed (main_of c.args.main.now) (modules_of c.summary_of.new.modules) c.args.files.now c.summary_of.result
+    c.summary_of.ensures.kept c.summary_of.ensures.own
