@@ -26,8 +26,8 @@ use Rattle.gm_graph.specs.declared.cache.summary.ListSpan.{ListSpan}
 use Rattle.gm_graph.specs.Summaries.{at_span, listed_span, summary_reading}
 use Rattle.gm_graph.specs.Private.Summaries.{IsWithinList, span_found}
 use Rattle.gm_graph.proofs.Spans.{IsKept, span_within}
-use Rattle.gm_graph.specs.Cached.{AreRequirements, IsSound, Knows, file_count, its_requirements, main_in, run_in, summary_at, table_in}
-use Rattle.gm_graph.specs.Private.Cached.{Follows, module_numbered}
+use Rattle.gm_graph.specs.Cached.{AreRequirements, IsSound, Knows, file_count, its_requirements, main_in, no_requirements, run_in, summary_at, table_in}
+use Rattle.gm_graph.specs.Private.Cached.{Follows, IsLender, module_numbered}
 use Rattle.gm_graph.specs.Private.FileTable.{IsPlacedAt}
 use Rattle.gm_graph.specs.Private.CacheVisits.{IsSaid, IsVisit, file_said, visit_of}
 use Rattle.gm_graph.specs.Lent.{lent_modules}
@@ -67,11 +67,13 @@ list_is cache pairs x place file knows at says =
 abbrev pub span_at : Cache → Option ℕ → ListSpan
 span_at cache place = span_found (option_and_then (slice_get cache.files.files.items) place)
 
--- The requirements returned from the place of a vertex's list are its requirements.
-pub lent_kept : (cache : Cache) (pairs : List (Name × Reply)) (x : ModuleVersion) (place : ℕ) → Knows cache pairs
-    → IsSound cache (run_in cache pairs) x place
-    → AreRequirements (run_in cache pairs) x (at_span (modules_of cache.modules) (span_at cache (Some place)))
-lent_kept cache pairs x place knows sound =
+-- The requirements returned from the place of a vertex's list, or from none if the vertex has a fault, are its
+-- requirements.
+pub lent_kept : (cache : Cache) (pairs : List (Name × Reply)) (x : ModuleVersion) (place : Option ℕ) → Knows cache pairs
+    → IsLender cache (run_in cache pairs) x place
+    → AreRequirements (run_in cache pairs) x (at_span (modules_of cache.modules) (span_at cache place))
+lent_kept cache pairs x None knows faulty = no_requirements faulty.1
+lent_kept cache pairs x (Some place) knows sound =
     rw (found_own (slice_get cache.files.files.items place) sound.span sound.own, list_is cache pairs x place sound.file knows sound sound.says)
     (its_requirements sound.says)
 
@@ -109,11 +111,12 @@ module _ (cache : Cache) (pairs : List (Name × Reply)) (number : ℕ) (d : Dept
 
 -- ---- what all known answers say
 
--- Some answers are known, so what is so of a place by all that the cache knows is so.
-pub by_some : (cache : Cache) (place : Option ℕ)
-    → ((pairs : List (Name × Reply)) → Knows cache pairs → IfSome place (λ there. there < file_count cache))
+-- Some answers are known, so a place that lends by all that the cache knows is that of a file.
+pub lender_there : (cache : Cache) (x : ModuleVersion) (place : Option ℕ)
+    → ((pairs : List (Name × Reply)) → Knows cache pairs → IsLender cache (run_in cache pairs) x place)
     → IfSome place (λ there. there < file_count cache)
-by_some cache place is = ∥∥₁_elim cache.consistent.holds_some (hlevel props) (λ some. is some.0 some.1)
+lender_there cache x None is = tt
+lender_there cache x (Some place) is = ∥∥₁_elim cache.consistent.holds_some (hlevel props) (λ some. (is some.0 some.1).within)
 
 -- What was lent has the number of each module that had one, and is what each vertex requires that had this list by the
 -- run before the visit.

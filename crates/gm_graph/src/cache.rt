@@ -28,7 +28,7 @@ pub(crate) mod summary;
 pub(crate) mod turn_history;
 pub(crate) mod visit;
 
-ghost use Rattle.std.specs.Prelude.{◌≡◌, ◌≤◌, ◌<◌, ◌+◌, ◌++◌, ◌∷◌, [], List, IfOk, IfSome, OnErr, IsSome, IsSomeAnd, MatchResult, None, Err, Ok, drop, length, slice_get, take};
+ghost use Rattle.std.specs.Prelude.{◌≡◌, ◌≤◌, ◌<◌, ◌+◌, ◌++◌, ◌∷◌, [], List, IfOk, IfSome, OnErr, IsSome, MatchResult, None, Err, Ok, drop, length, slice_get, take};
 ghost use Rattle.std.proofs.Props.{props};
 ghost use Rattle.std.specs.Option.{option_and_then, option_copied};
 ghost use Rattle.gm_name_table.specs.Listed.{modules_of};
@@ -184,7 +184,7 @@ impl<'a> Cache<'a> {
     ghost use Rattle.std.specs.List.{IsDistinct};
     ghost use Rattle.gm_name.specs.ModuleVersion.{pair_eq};
     ghost use Rattle.gm_graph.specs.Cached.{HasMoreTurns, HoldsSame, Knows, LentSame, file_count, main_in, run_in, sums_in, table_in, turns_in};
-    ghost use Rattle.gm_graph.specs.Private.Cached.{ArePartsOf, BorrowEnds, Follows, IsPlaceFor, module_numbered};
+    ghost use Rattle.gm_graph.specs.Private.Cached.{ArePartsOf, Follows, HasFailedOn, HoldsAfterBorrow, IsPlaceFor, module_numbered};
     ghost use Rattle.gm_graph.specs.Private.Held.{lent_table};
     ghost use Rattle.gm_graph.specs.declared.cache.Cache.{Cache};
     ghost use Rattle.gm_graph.specs.Private.CacheVisits.{HasVisited, IsSaid, IsVisit};
@@ -295,8 +295,7 @@ impl<'a> Cache<'a> {
             (F.may_answer files.old) (F.may_answer files.new) (F.state files.old) (F.state files.new)
             (refused_for (file_of (main_in self.old) (module_numbered self.old number)) result) }
         ensures failed { result ≡ Err AskFault.Device
-            → IsSomeAnd self.new.failed
-            (λ name. name_of name ≡ file_of (main_in self.old) (module_numbered self.old number)) }
+            → HasFailedOn self.new (file_of (main_in self.old) (module_numbered self.old number)) }
     {
         if let Some(place) = self.files.noted_place(number) {
             return Ok(Some(place));
@@ -354,7 +353,7 @@ impl<'a> Cache<'a> {
         ensures modules { lent_modules result ≡ at_span (modules_of self.old.modules)
             (span_found (option_and_then (slice_get self.old.files.files.items) place)) }
         ensures table { lent_table result ≡ table_in self.old }
-        ensures* after { sem 𝓛 (BorrowEnds self.entry (λ end. HasMoreTurns self.entry.now end turn.items)) }
+        ensures* after { sem 𝓛 (HoldsAfterBorrow self.entry (λ end. HasMoreTurns self.entry.now end turn.items)) }
     {
         let span = self.files.span_of(place);
         self.turns = self.turns.and(&turn);
@@ -383,11 +382,12 @@ impl<'a> Cache<'a> {
         ensures asks { AsksOne (IsAskableFile (main_in self.old) (module_numbered self.old number))
             (F.may_answer files.old) (F.may_answer files.new) (F.state files.old) (F.state files.new)
             (refused_for (file_of (main_in self.old) (module_numbered self.old number)) result) }
-        ensures* after { sem 𝓛 (BorrowEnds self.entry (λ end. MatchResult result
-            (λ visit. HasVisited self.entry.now (F.state files.old).asked end (F.state files.new).asked
-            number depth visit)
-            (λ fault. (turns_in end ≡ turns_in self.entry.now) × (fault ≡ AskFault.Device → IsSomeAnd end.failed
-            (λ name. name_of name ≡ file_of (main_in self.entry.now) (module_numbered self.entry.now number)))))) }
+        ensures* after { sem 𝓛 (HoldsAfterBorrow self.entry (λ end. MatchResult result
+            (λ visit. HasVisited self.entry.now (F.state files.old).asked end (F.state files.new).asked number depth
+            visit)
+            (λ fault. (turns_in end ≡ turns_in self.entry.now)
+            × (fault ≡ AskFault.Device
+            → HasFailedOn end (file_of (main_in self.entry.now) (module_numbered self.entry.now number)))))) }
     {
         let place = self.known_at(files, number)?;
         // This is read first, since a reference that one branch alone borrows is not covered by the borrow checker.

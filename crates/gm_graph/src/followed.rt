@@ -3,7 +3,7 @@
 //! A list is known by the place of the file that has it. Both depths lead on at full depth, so one mark a list is enough,
 //! whatever files and vertices have it.
 
-ghost use Rattle.std.specs.Prelude.{◌≡◌, ◌⊎◌, ◌++◌, ℕ, Contains, Err, OnOk, true};
+ghost use Rattle.std.specs.Prelude.{◌≡◌, ◌⊎◌, ℕ, Contains, Err, OnOk, true};
 ghost use Rattle.gm_name.specs.ModuleVersion.{ModuleVersion};
 ghost use Rattle.gm_graph.specs.Lent.{lent_modules};
 ghost use Rattle.gm_graph.specs.Private.Held.{lent_table};

@@ -8,7 +8,6 @@ ghost use Rattle.gm_name.specs.ModuleVersion.{module_at};
 ghost use Rattle.gm_graph_select.specs.Graph.{among};
 ghost use Rattle.gm_graph_select.specs.BuildList.{IsEntryOf, HasEntryFor, entries_in};
 ghost use Rattle.gm_graph_select.specs.Chains.{IsChain, IsReached};
-ghost use Rattle.gm_graph_select.specs.Private.Numbering.{IsGraph};
 ghost use Rattle.gm_graph_select.specs.Private.Searching.{IsTracedTo};
 ghost use Rattle.gm_graph_select.specs.declared.step.Step.{Step};
 ghost use Rattle.gm_graph_select.specs.declared.step.Step.TheVariants.{Of};

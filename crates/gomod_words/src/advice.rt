@@ -329,8 +329,8 @@ fn name_for(
     Ok(name_by(command, placed.as_slice()))
 }
 
-/// The command that is shown for this one with items that are placed: `edit` if there is an operation, otherwise `fmt`,
-/// and the list of modules if none is named.
+/// The command that is shown for this one with items that are placed. For `fmt` and `edit` it is `edit` if there is an
+/// operation, otherwise `fmt`. For a command on a module it is `list` if no module is named. Any other is shown itself.
 fn name_by(command: CommandName, placed: &[Placed<'_>]) -> CommandName
     ensures { stands_for command result ≡ true }
 {

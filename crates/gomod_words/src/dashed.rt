@@ -1,7 +1,7 @@
 //! Operations of `edit` that are written with a dash in front, as after `go mod edit`, and what to type instead. The
 //! parser would take such a word for an option that is unknown.
 
-ghost use Rattle.std.specs.Prelude.{◌≡◌, ◌∷◌, ◌++◌, ℕ, IfOk, IfSome, List, OnOk, codes, false, is_some, map, unwrap_or};
+ghost use Rattle.std.specs.Prelude.{◌≡◌, ◌∷◌, ◌++◌, ℕ, IfOk, List, OnOk, codes, false, is_some, map, unwrap_or};
 ghost use Rattle.std.specs.List.{find, flat_map};
 ghost use Rattle.std.specs.Option.{option_copied};
 ghost use Rattle.std.specs.String.{string_bytes};
@@ -9,7 +9,7 @@ ghost use Rattle.clap.specs.Lexer.{without_minus};
 ghost use Rattle.gomod_words.specs.Typed.{typed_words};
 ghost use Rattle.gomod_words.specs.Usage.{IsLineOf, dashed_message, dashed_text, edit_message, words_after};
 ghost use Rattle.gomod_words.specs.Private.Items.{waiting};
-ghost use Rattle.gomod_words.specs.Dashed.{begins_with_dash, dashed_in, edit_words, free_from, is_file, is_free, is_operation, is_operation_name, joined_from, joined_words, left_from, omitted_words, names_operation, names_value, operation_in, operations_in, takes_value, without_dashes};
+ghost use Rattle.gomod_words.specs.Dashed.{begins_with_dash, dashed_in, edit_words, free_from, is_file, is_free, is_operation, is_operation_name, joined_from, joined_words, omitted_words, names_operation, names_value, operation_in, operations_in, takes_value, without_dashes};
 
 use crate::help::usage_of;
 use crate::lines::push_texts;

@@ -153,7 +153,7 @@ fn push_line(line: &mut String, words: &[&str], options: &[&str]) -> Result<(), 
     push_ends(line, second_of(words), options)
 }
 
-/// Appends the same, in these folders.
+/// Appends a command line of gomod with these words, and what options do with its output, in these folders.
 fn push_command(
     line: &mut String,
     folders: &[&str],

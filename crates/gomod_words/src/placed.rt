@@ -79,9 +79,9 @@ fn whole_of(command: CommandName, items: &[Item<'_>]) -> Whole {
     for item in items {
         match row_of(command, *item) {
             Row::Part(Slot::Operand, text) => file = Some(file.unwrap_or(text)),
-            Row::Part(Slot::Given(OptionName::Proxy), _) => if !value_in(*item).is_empty() {
+            Row::Part(Slot::Given(OptionName::Proxy), _) if !value_in(*item).is_empty() => {
                 has_folders = true;
-            },
+            }
             _ => {}
         }
     }
@@ -113,8 +113,8 @@ fn settled<'a>(
     }
 }
 
-/// Whether there is a place for this slot, after those that are filled: each once, so that few are looked at, however many
-/// items there are.
+/// Whether there is a place for this slot: none of those that are filled is the same, and all items together leave
+/// something for it. Each is filled once, so few are looked at, however many items there are.
 fn is_free(seen: &[Slot], whole: Whole, slot: Slot) -> bool {
     for filled in seen {
         if *filled == slot {
@@ -146,10 +146,8 @@ fn slot_of(each: Placed<'_>) -> Option<Slot> {
 /// Whether there is a part of this slot.
 pub(crate) fn has(placed: &[Placed<'_>], slot: Slot) -> bool {
     for each in placed {
-        if let Some(filled) = slot_of(*each) {
-            if filled == slot {
-                return true;
-            }
+        if slot_of(*each) == Some(slot) {
+            return true;
         }
     }
     false
@@ -189,7 +187,8 @@ pub(crate) fn json_text(placed: &[Placed<'_>]) -> &'static str
     ""
 }
 
-/// The words that an option of gomod with this text is typed as. The lists of proxy folders are typed as one.
+/// The words that an option of gomod with this text is typed as. The lists of proxy folders are typed as one, so each
+/// alone gives none.
 fn option_words<'a>(option: OptionName, text: &'a str) -> Option<Item<'a>>
     ensures { option_map_or item_words result [] ≡ option_words option text.now }
 {

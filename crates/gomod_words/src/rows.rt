@@ -2,7 +2,7 @@
 
 ghost use Rattle.std.specs.Prelude.{◌≡◌, IfSome, Some, false, true};
 ghost use Rattle.std.specs.Option.{option_copied};
-ghost use Rattle.gomod_words.specs.Private.Rows.{Becomes, IsRelease, fits, flag_text, is_on_path, is_operation_item, is_over_file, operates, other_slot, part_text, slot_of, value_or};
+ghost use Rattle.gomod_words.specs.Private.Rows.{Becomes, fits, flag_text, is_on_path, is_operation_item, is_over_file, operates, other_slot, part_text, slot_of, value_or};
 ghost use Rattle.gomod_words.specs.Private.Items.{only_word};
 ghost use Rattle.gomod_words.specs.declared.rows.Slot.TheVariants.{Operand};
 
@@ -331,7 +331,7 @@ fn text_in<'a>(slot: Slot, item: Item<'a>) -> Option<&'a str>
     }
 }
 
-/// The value, or this one if it is empty, unless both are.
+/// The value, or the usual one if it is empty, unless both are.
 fn value_or<'a>(usual: &'a str, value: &'a str) -> Option<&'a str>
     ensures { option_copied result ≡ value_or usual.now value.now }
 {
@@ -355,7 +355,8 @@ fn flag_text<'a>(item: Item<'a>) -> Option<&'a str>
     }
 }
 
-/// Whether a command takes this text of an item for this part. Values of go's `-mod` say what may be changed.
+/// Whether a command takes this text of an item for this part. `mod`, `readonly` and `vendor` are modes of go's `-mod`,
+/// and name no file.
 fn is_valid(slot: Slot, item: Item<'_>, text: &str) -> bool {
     match slot {
         Slot::Given(OptionName::Limit) => limit_in(text).is_some(),
@@ -365,7 +366,8 @@ fn is_valid(slot: Slot, item: Item<'_>, text: &str) -> bool {
     }
 }
 
-/// Whether an item is an option that neither gomod nor go is known to have.
+/// Whether an item is an option of which this command makes nothing, and which is not among the known options of gomod
+/// and go.
 pub(crate) fn is_unknown(command: CommandName, item: Item<'_>) -> bool {
     let Some(name) = name_in(item) else {
         return false;

@@ -37,7 +37,7 @@ visit_of (said.Fault class) list = visit.Fault class
 visit_of (said.Sound file leads) list = visit.Required (record { file = file; leads = leads; list = list })
 
 -- What a visit to this depth gets of a vertex: its fault, or the place of the file that has its list, whether the visit
--- leads on, and what the vertex's file requires, without the excluded ones.
+-- leads on, and what the vertex's file requires, without the excluded ones, with all modules that have numbers.
 abbrev pub IsVisit : Cache → Run → ModuleVersion → Depth → Visit → Type 0
 IsVisit cache run x d (visit.Fault class) = Says run x (Err class)
 IsVisit cache run x d (visit.Required required) = IsSound cache run x required.file

@@ -13,7 +13,8 @@ use Rattle.gm_graph.specs.Private.Summaries.{AreKeptIn, AreListsInOrder}
 use Rattle.gm_graph.specs.Run.{run_of}
 
 -- What a cache holds is consistent: some answers say it, the requirements of the main file without the excluded ones
--- are the first modules of the list, and places are noted for modules that have numbers.
+-- are the first modules of the list, places are noted for modules that have numbers, and each place that is noted is
+-- that of the file. The own lists of files are in order, and the requirements of each file are in the list.
 pub record IsConsistent (main : Main) (sums : Option Sums) (first : ℕ) (list : NumberedList) (files : FileTable)
     : Type 0 where
   pub holds_some : ∥ ((pairs : List (Name × Reply)) × HoldsAnswers (run_of main sums pairs) list files) ∥₁

@@ -3,9 +3,8 @@
 //! Loading gives each module a number once, and asks by that. These calls look up the number. Only `known` gives one to
 //! a module that has none.
 
-ghost use Rattle.std.specs.Prelude.{◌≡◌, ◌≤◌, ◌+◌, ◌++◌, ◌<◌, IfOk, IfSome, List, OnErr, OnOk, Err, length, slice_get};
-ghost use Rattle.std.specs.Option.{option_and_then, option_map};
-ghost use Rattle.gm_name_table.specs.Listed.{modules_of};
+ghost use Rattle.std.specs.Prelude.{◌≡◌, ◌≤◌, ◌+◌, ◌++◌, ◌<◌, IfOk, List, OnErr, OnOk, Err, length};
+ghost use Rattle.std.specs.Option.{option_map};
 ghost use Rattle.gm_store.specs.Asked.{Name, Reply, name_of};
 ghost use Rattle.gm_store.specs.States.{HasServed};
 ghost use Rattle.gm_graph.specs.Asking.{AsksFor, StillLacks};
@@ -13,8 +12,6 @@ ghost use Rattle.gm_graph.specs.Lent.{lent_modules};
 ghost use Rattle.gm_graph.specs.Places.{place_limit};
 ghost use Rattle.gm_graph.specs.Reading.{file_of};
 ghost use Rattle.gm_graph.specs.Refusals.{refused_in};
-ghost use Rattle.gm_graph.specs.Private.Summaries.{span_found};
-ghost use Rattle.gm_graph.specs.Summaries.{at_span};
 ghost use Rattle.gm_graph.specs.Turns.{turn};
 
 use crate::cache::Cache;
@@ -40,7 +37,7 @@ pub enum Known {
 impl<'a> Cache<'a> {
     ghost use Rattle.std.specs.Borrow.{sem};
     ghost use Rattle.gm_graph.specs.Cached.{AreRequirements, HasSoundFile, HoldsSame, IsKnownAs, Knows, KnowsLender, LendsNamed, LentSame, file_count, file_known, main_in, run_in, table_in};
-    ghost use Rattle.gm_graph.specs.Private.Cached.{IsPlaceFor, module_numbered};
+    ghost use Rattle.gm_graph.specs.Private.Cached.{IsLender, IsPlaceFor, module_numbered};
     ghost use Rattle.gm_graph.specs.FileTable.{place_of};
     ghost use Rattle.gm_graph.specs.Run.{KeepsSayings};
 
@@ -97,7 +94,7 @@ impl<'a> Cache<'a> {
     fn place_named(&self, vertex: &ModVer, name: &FileName) -> Option<u32>
         ensures { (pairs : List (Name × Reply)) → Knows self.now pairs
             → HasSoundFile (run_in self.now pairs) vertex.now (name_of name.now)
-            → place_of self.now.files (name_of name.now) ≡ result }
+            → result ≡ place_of self.now.files (name_of name.now) }
     {
         match self.modules.find(vertex) {
             Some(number) => self.files.place_of(name, number),
@@ -111,9 +108,7 @@ impl<'a> Cache<'a> {
     fn lender(&self, vertex: &ModVer, name: Option<&FileName>) -> Option<u32>
         requires { KnowsLender self.now vertex.now (option_map (λ n. name_of n.now) name) }
         ensures { (pairs : List (Name × Reply)) → Knows self.now pairs
-            → IfSome result (λ place. place < file_count self.now)
-            × AreRequirements (run_in self.now pairs) vertex.now (at_span (modules_of self.now.modules)
-            (span_found (option_and_then (slice_get self.now.files.files.items) result))) }
+            → IsLender self.now (run_in self.now pairs) vertex.now result }
     {
         let place = self.place_named(vertex, name?)?;
         Some(self.files.list_place(place))

@@ -25,7 +25,8 @@ visit_at visits place = slice_index_or visits place (record { number = 0; before
 abbrev pub visited_step : List Step → List Visit → ℕ → Step
 visited_step steps visits place = step_at steps (visit_at visits place).number
 
--- A visit is of the main module, or it names an earlier place, at which its step's predecessor was visited.
+-- A visit is of a step that has a number: of the main module, or it names an earlier place, at which its step's
+-- predecessor was visited.
 abbrev pub IsTraced : Edges → List Step → List Visit → ℕ → Visit → Type 0
 IsTraced edges steps visits place visit = (visit.number < length steps) × ((step_at steps visit.number ≡ Main)
     ⊎ ((y : ModuleVersion) × (step_at steps visit.number ≡ Of y) × (visit.before < place)

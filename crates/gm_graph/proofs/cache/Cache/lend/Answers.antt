@@ -1,9 +1,9 @@
 use Rattle.std.proofs.Common.{refl}
-use Rattle.gm_graph.proofs.Lending.{by_some}
+use Rattle.gm_graph.proofs.Lending.{lender_there, lent_kept}
 use Rattle.gm_graph.proofs.cache.Cache.lend.Goals as goal
 
 pub lend_at-requires : goal.lend_at-requires
-lend_at-requires c = record { place = by_some c.args.self.now c.lender-place.result (λ pairs knows. (c.lender-place.ensures pairs knows).0) }
+lend_at-requires c = record { place = lender_there c.args.self.now c.args.vertex.now c.lender-place.result c.lender-place.ensures }
 
 pub returns : goal.returns
 returns c = (
@@ -13,7 +13,9 @@ returns c = (
     rw c.of-turn.ensures at c.lend_at.follows.holds-at-none,
   ),
   record {
-    lent = λ pairs knows. rw c.lend_at.ensures.modules (c.lender-place.ensures pairs knows).1;
+    lent = λ pairs knows.
+        rw c.lend_at.ensures.modules
+        (lent_kept c.args.self.now pairs c.args.vertex.now c.lender-place.result knows (c.lender-place.ensures pairs knows));
     after = tt;
   },
 )
