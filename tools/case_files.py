@@ -12,7 +12,6 @@ import socket
 import stat
 import threading
 
-
 DATA = "crates/run_cases/data"
 ESCAPE = re.compile(rb'\\(?:(n|r|t|0|\\|"|x[0-9a-fA-F]{2})|\*([0-9]+)\*(?:\(([^)]*)\)|(.)))', re.S)
 SIMPLE = {b"n": b"\n", b"r": b"\r", b"t": b"\t", b"0": b"\0", b"\\": b"\\", b'"': b'"'}

@@ -259,4 +259,4 @@ def main(program):
 
 
 if __name__ == "__main__":
-    script.run(main)
+    script.run(main, r" \S+")

@@ -13,7 +13,6 @@ import subprocess
 import sys
 from typing import NamedTuple
 
-
 CALLS = "%file,%network,%ipc,read,readv,pread64,preadv,preadv2,clone,clone3,fork,vfork,ftruncate,fchmod,fchown"
 LINE = re.compile(rb"(\d+) +(.*)\n")
 UNFINISHED, RESUMED = re.compile(rb"(.*) <unfinished \.\.\.>"), re.compile(rb"<\.\.\. \w+ resumed>(.*)")

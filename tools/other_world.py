@@ -339,4 +339,4 @@ def run(program, is_proved, jobs):
 
 
 if __name__ == "__main__":
-    script.run(lambda number: start_commands(int(number)))
+    script.run(lambda number: start_commands(int(number)), r" \d+")

@@ -368,4 +368,4 @@ def main(program, *words):
 
 
 if __name__ == "__main__":
-    script.run(main)
+    script.run(main, r" (?!-)\S+( .*)?")

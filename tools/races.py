@@ -166,4 +166,4 @@ def main(program, seconds, seed="1"):
 
 
 if __name__ == "__main__":
-    script.run(main)
+    script.run(main, r" \S+( \d{1,9}){1,2}")

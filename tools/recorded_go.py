@@ -215,4 +215,4 @@ def main(*words):
 
 
 if __name__ == "__main__":
-    script.run(answer)
+    script.run(answer, r" \S+ \S*( .*)?", r"( \S+)?")

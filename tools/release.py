@@ -60,4 +60,4 @@ def main(folder, sentence, archive):
 
 
 if __name__ == "__main__":
-    script.run(main)
+    script.run(main, r"( \S+){3}")

@@ -20,7 +20,9 @@ NAME = pathlib.Path(sys.argv[0]).stem.replace("_", "-")
 
 def misused(reason):
     """Ends with status 2, since the words of the script aren't right."""
-    print(f"{NAME}: {reason}; 'tools/{NAME}.sh --help' says what it takes", file=sys.stderr)
+    own = f"tools/{NAME}.sh"
+    asked = own if os.path.exists(own) else sys.argv[0]
+    print(f"{NAME}: {reason}; '{asked} --help' says what it takes", file=sys.stderr)
     sys.exit(2)
 
 
@@ -128,13 +130,15 @@ def checksum(text):
     return digits.translate(str.maketrans("0123456789abcdef", "ghijklmnopqrstuv"))
 
 
-def run(main, takes=".*"):
+def run(main, takes=".*", own=".*"):
     """Ends with what the main function makes of the words, which have a form, each after a blank; or prints the
-    docstring if it is asked for."""
+    docstring if one of its own words asks for it: those that this form has, where words of a command follow."""
     words = sys.argv[1:]
-    if words[:1] in (["-h"], ["--help"]):
+    # a blank within a word would make two of it
+    text = "".join(" " + re.sub(r"\s", "\0", it) for it in words)
+    if re.search(r" (-h|--help)( |$)", re.match(own, text)[0]):
         print(sys.modules["__main__"].__doc__.strip())
         sys.exit()
-    if not re.fullmatch(takes, "".join(f" {it}" for it in words), re.S):
+    if not re.fullmatch(takes, text):
         misused(f"it doesn't take '{' '.join(words)}'" if words else "it takes arguments")
     sys.exit(main(*words))

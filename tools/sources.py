@@ -14,7 +14,6 @@ import functools
 import pathlib
 import re
 
-
 CRATES = pathlib.Path("crates")
 PAGE = "page"  # the crate whose definitions are copies of others
 # a `use` of either language: the words before it, the path, the names in braces, another name of a module

@@ -57,4 +57,4 @@ def main(*words):
 
 
 if __name__ == "__main__":
-    script.run(main, r"( --check)? (?!-).+")
+    script.run(main, r"( --check)? (?!-)\S+")
