@@ -48,6 +48,7 @@ chmod 711 "$work"
 if [ -n "$checked" ]; then
   rm -f "$RECORD"
   sources=$(checksum_of_program)
+  commit=$(commit_here)
   tools/unproved.sh --checked "$work/checked" run_cases
   set -- "$work/checked"
 fi
@@ -164,5 +165,5 @@ echo "$passed passed, $failed failed"
 if [ -n "$checked" ]; then
   [ "$(checksum_of_program)" = "$sources" ] || { echo "cases: the sources aren't those at the start" >&2 && exit 1; }
   mkdir -p bin
-  printf '%s\n' "none wrong, on $(date --utc +%F) at commit $(commit_here)" "$sources" > "$RECORD"
+  printf '%s\n' "none wrong, on $(date --utc +%F) at commit $commit" "$sources" > "$RECORD"
 fi

@@ -657,7 +657,7 @@ def main(*words):
     if words[:1] in (("--check",), ("--record",)):
         import recorded_go
         return recorded_go.main(*words)
-    parser = argparse.ArgumentParser(add_help=False)
+    parser = argparse.ArgumentParser(add_help=False, prog="compare-go")
     parser.add_argument("worlds", nargs="?", type=int, default=100)
     parser.add_argument("seed", nargs="?", type=int, default=1)
     parser.add_argument("--go", default="go")

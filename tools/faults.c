@@ -3,8 +3,8 @@
 
    FAULTS has up to eight faults, with blanks between them: CALL:N:LATER:ERROR:LENGTH. CALL is memory (an allocation),
    open, read, write or close. The Nth such call from the start of main fails with the error of that number, and all
-   later ones too if LATER is 1. With a LENGTH that isn't negative, a read or write is not failed but moves at most so
-   many bytes.
+   later ones too if LATER is 1. A realloc of a block that has the room isn't counted, and never fails. With a LENGTH
+   that isn't negative, a read or write is not failed but moves at most so many bytes.
 
    FAULTS_TOLD is the number of an open descriptor. It gets a line for each open, read, write and close, with the call,
    its first argument and its result, and at the end a line with the number of calls that a fault changed. If there is

@@ -16,8 +16,9 @@ neither does a short read or write. With two faults, allocations among them, the
 a beginning of it. tools/refuse-memory.sh refuses each allocation.
 
 It prints each fault after which a result is wrong, as a value of FAULTS (tools/faults.c), and how many runs there were.
-The status is 1 if one was wrong. It needs a C compiler (`cc`, or what CC names), python3 and bin/gomod (./build makes
-it), and takes 30 s of CPU time beside the seconds for two faults, on all processors.
+The status is 1 if one was wrong, or if the library sees no call of a command line. It needs a C compiler (`cc`, or what
+CC names), python3 and bin/gomod (./build makes it), and takes 30 s of CPU time beside the seconds for two faults, on
+all processors.
 """
 
 import concurrent.futures
@@ -114,6 +115,8 @@ class Line:
         self.trial, self.text, self.words = trial, text, text.split()
         self.stdin = read(stdin).encode() if isinstance(stdin, str) else stdin
         *self.plain, told = trial.run(self, [])
+        if not told[:-1]:
+            sys.exit(f"faults: the library saw no call of gomod {text}")
         self.plain, self.calls, files = tuple(self.plain), [], {"0": "-"}
         for call, argument, result in (re.fullmatch(r"(\w+) (.*) (-?\d+)", it).groups() for it in told[:-1]):
             if call == "open" and int(result) >= 0:

@@ -66,7 +66,7 @@ def own_lemmas():
 def main(*words):
     """Lists and counts, or checks the counts, too."""
     if not shutil.which("rt"):
-        script.misused("there is no rt: put the toolchain's bin/ on the PATH")
+        sys.exit("lemmas: there is no rt: put the toolchain's bin/ on the PATH")
     guide = subprocess.run(["rt", "doc"], capture_output=True, text=True, check=True).stdout.strip()
     known = standard_lemmas(pathlib.Path(guide).parent)
     restated, meanings, places = [], collections.defaultdict(set), collections.defaultdict(list)

@@ -21,6 +21,8 @@ PARTS = re.compile(r"\.(Code|Proof|Answers|Goals|Statement|Met|Layout|Reads|TheL
 
 def main(name, rows="20", minutes=""):
     """Prints the rows."""
+    if not os.path.isdir(f"crates/{name}"):
+        script.misused(f"there is no crate {name}")
     since = time.time() - 60 * float(minutes) if minutes else 0
     done = []
     for folder, _, files in os.walk(f"crates/{name}/out/incremental"):
@@ -38,4 +40,4 @@ def main(name, rows="20", minutes=""):
 
 
 if __name__ == "__main__":
-    script.run(main, r" \w+( \d+( [\d.]+)?)?")
+    script.run(main, r" \w+( \d+( \d+(\.\d+)?)?)?")

@@ -139,6 +139,7 @@ case ${1-} in
     [ $# -gt 0 ] || set -- "$DATA"/*.txt
     refuse_in_cases "$@"
     ;;
+  -*) misused "there is no option $1" ;;
   *)
     for crate in "$@"; do refuse_in_tests "$crate"; done
     ;;
