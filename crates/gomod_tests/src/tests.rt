@@ -15,10 +15,8 @@ mod stores;
 ghost use Rattle.std.specs.Prelude.{◌≡◌, []};
 ghost use Rattle.gm_store.specs.Memory.{pairs_of};
 
-use gm_file::MainFile;
 use gm_name::{ModPath, ModVersion};
 use gm_store::{FileName, MemoryFiles};
-use gm_syntax::Doc;
 use std::alloc::Global;
 use std::fmt::{Debug, Display};
 use std::process::Abort;
@@ -80,10 +78,4 @@ fn store_of(rt: &impl Abort, alloc: Global, files: &'static [File]) -> MemoryFil
         put(rt, alloc, &mut store, *file);
     }
     store
-}
-
-/// A main module's file.
-fn main_file<'a>(rt: &impl Abort, alloc: Global, text: &'a str) -> MainFile<'a> {
-    let doc = Doc::parse(alloc, text.as_bytes()).expect(rt, text);
-    MainFile::read(alloc, doc).expect(rt, text)
 }

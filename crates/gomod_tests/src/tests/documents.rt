@@ -17,8 +17,9 @@ const TEXT: &str = "a // c\nb (\n\t\"c d\"\n)\n";
 fn add_entry(alloc: Global, doc: &mut Doc<'_>, value: &str) -> Result<(), AllocError>
     requires { HasNoLineFeed value.now }
 {
+    let word = Token::spell(alloc, value)?;
     let mut words = Vec::new(alloc);
-    words.push(Token::spell(alloc, value)?)?;
+    words.push(word)?;
     let last = doc.lines().len().saturating_sub(1);
     doc.insert_line(last, Line::Entry(words, None))
 }

@@ -9,7 +9,7 @@ use std::fmt::Display;
 use std::process::Abort;
 
 /// Compares how a fault is shown with a text.
-fn assert_shown(rt: &impl Abort, alloc: Global, fault: impl Display + Drop, wanted: &str) {
+fn assert_shown(rt: &impl Abort, alloc: Global, fault: &impl Display, wanted: &str) {
     let shown = format!(in alloc; "{fault}").expect(rt, OUT_OF_MEMORY);
     assert_same(rt, "shown", &shown.as_str(), &wanted);
 }
@@ -22,12 +22,12 @@ fn syntax_fault(rt: &impl Abort, alloc: Global, text: &str) -> SyntaxFault {
 #[test]
 fn faults_are_shown(rt: HostRuntime) {
     let open = syntax_fault(&rt, rt.alloc(), "module example.com/hello\nrequire (\n");
-    assert_shown(&rt, rt.alloc(), open, "line 2: a block that isn't closed");
+    assert_shown(&rt, rt.alloc(), &open, "line 2: a block that isn't closed");
     assert_shown(
         &rt,
         rt.alloc(),
-        EditFault::Misfit,
+        &EditFault::Misfit,
         "the version doesn't fit the path",
     );
-    assert_shown(&rt, rt.alloc(), Class::Missing, "missing");
+    assert_shown(&rt, rt.alloc(), &Class::Missing, "missing");
 }

@@ -8,7 +8,7 @@ ghost use Rattle.gm_store.specs.Memory.{pairs_of};
 ghost use Rattle.gm_graph.specs.Cached.{Knows, KnowsLender, file_count};
 ghost use Rattle.gm_graph.specs.Places.{place_limit};
 
-use super::{File, OUT_OF_MEMORY, assert_same, main_file, path, store_of, version};
+use super::{File, OUT_OF_MEMORY, assert_same, path, store_of, version};
 use gm_file::MainFile;
 use gm_graph::{Cache, Depth, Known, Turn, load};
 use gm_name::ModVer;
@@ -144,7 +144,7 @@ fn counts_of(rt: &impl Abort, alloc: Global, main: &MainFile<'_>, number: &str) 
 /// Compares how many turns are taken from a main file on, and what a cache lends beside it, with what is wanted.
 // Both in one function, since what owns a main file is proved through all its fields.
 fn assert_counts(rt: &impl Abort, alloc: Global, text: &str, turns: (usize, usize)) {
-    let main = main_file(rt, alloc, text);
+    let main = MainFile::read_bytes(alloc, text.as_bytes()).expect(rt, text);
     assert_same(rt, text, &turn_counts(rt, alloc, &main), &turns);
     let known = counts_of(rt, alloc, &main, "v1.0.0");
     assert_same(rt, "a module with a file", &known, &(2, 2));

@@ -12,8 +12,8 @@ entry_of items = Entry items None
 
 pub insert_line-requires-clause-document : goal.insert_line-requires-clause-document
 insert_line-requires-clause-document c =
-    let w : Placed = c.in_ok-spell.field-0 in
-    let new = c.in_ok-spell.ensures.is_new in
+    let w : Placed = c.in_ok-word.word in
+    let new = c.in_ok-word.ensures.is_new in
     let last = c.saturating_sub-last.result in
     let items : c.push.new.self.items ≡ w ∷ [] = c.in_ok-push.ensures.items ∙ ap (λ (l : List Placed). l ++ w ∷ []) c.new-words.ensures.items in
     let entry : IsEntry (words_of (w ∷ [])) None = record {
