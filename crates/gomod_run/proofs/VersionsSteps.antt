@@ -16,7 +16,7 @@ use Rattle.gomod_run.specs.Outcome.{OrNoMemory, Outcome, out_of_memory, refusal_
 use Rattle.gomod_run.specs.Reports.{fault_line}
 use Rattle.gomod_run.specs.Runs.{ComesTo}
 use Rattle.gomod_run.specs.Versions.{AreShown, HasListed, IsLatestListed, IsRefusedList, LatestSays, VersionsNeed, all_listed, bad_file, device, list_refusal, no_list, not_retracted, printed, versions_line}
-use Rattle.gomod_run.specs.Private.VersionsRuns.{AreToBeShown, AreVersionsAnswered, IsListAnswered, IsVersionsRun, broken_run, ended_run, memory_run}
+use Rattle.gomod_run.specs.Private.VersionsRuns.{AreVersionsAnswered, IsListAnswered, IsVersionsRun, broken_run, ended_run, memory_run}
 use Rattle.gomod_words.specs.declared.usage.Command.TheVariants.{Versions}
 use Rattle.gomod_run.proofs.Answering.{file_answer, list_answer}
 use Rattle.gomod_run.proofs.CommandOutcomes.{broken_comes, still_comes}
@@ -24,6 +24,12 @@ use Rattle.gomod_run.proofs.OneVersions.{shown_listed, unrefused, versions_once}
 
 abbrev pub Pairs : Type 0
 Pairs = List (Name × Reply)
+
+-- all that is needed was answered, and these versions are to be shown
+pub record AreToBeShown (path : List ℕ) (all : Bool) (old new : StoreState) (versions : List (List ℕ)) : Type 0 where
+  pub in_turn : AskedInTurn (VersionsNeed path all) new.asked
+  pub still : new.refused ≡ old.refused
+  pub shown : AreShown path all (answer_in new.asked) versions
 
 -- ---- what a run comes to
 

@@ -12,13 +12,13 @@ ghost use Rattle.gm_store.specs.Latest.{IsLatest};
 ghost use Rattle.gm_store.specs.States.{HasServed, StoreState};
 ghost use Rattle.gm_graph.specs.Reading.{IsFileReading};
 ghost use Rattle.gm_graph.specs.Summaries.{RetractsBy, reading_of};
-ghost use Rattle.gomod_run.specs.Outcome.{outcome_view, report_outcome};
+ghost use Rattle.gomod_run.specs.Outcome.{OrNoMemory, outcome_view, report_outcome, text_outcome};
 ghost use Rattle.gomod_run.specs.Versions.{list_refusal, versions_line};
-ghost use Rattle.gomod_run.specs.Private.VersionsRuns.{AreVersionsAnswered, GoesOn, IsListAnswered, IsVersionsRun, retracted_in};
+ghost use Rattle.gomod_run.specs.Private.VersionsRuns.{AreVersionsAnswered, IsListAnswered, IsVersionsRun};
 
 use crate::asking::ask_for;
 use crate::reports::report::Report;
-use gm_file::{DepFile, Interval, shown_versions};
+use gm_file::{Interval, shown_versions};
 use gm_graph::{Class, FileReading};
 use gm_name::{BorrowedVersion, ModPath, ModVersion, NoMemory};
 use gm_name_table::KnownNames;
@@ -52,18 +52,19 @@ fn versions_line(
 
 /// The path and the versions that no interval contains, on one line. `versions` must be in ascending order, each
 /// once.
-fn shown_line(
+fn shown_line<'r>(
     alloc: Global,
     path: &ModPath,
     versions: &[BorrowedVersion<'_>],
     intervals: &[Interval],
-) -> Result<String, NoMemory>
+) -> Result<String, Report<'r>>
     requires { IsStrictlySortedBy version_cmp versions.now }
-    ensures { IfOk result (λ line. string_bytes line
-        ≡ versions_line path.now (shown_of (interval_views intervals.now) versions.now)) }
+    ensures { OrNoMemory (λ outcome. outcome ≡ text_outcome
+        (versions_line path.now (shown_of (interval_views intervals.now) versions.now))) (outcome_view result) }
 {
     let shown = shown_versions(alloc, versions, intervals)?;
-    versions_line(alloc, path, shown.as_slice())
+    let line = versions_line(alloc, path, shown.as_slice())?;
+    Ok(line)
 }
 
 /// The list of a module in the answer for it, or the report that there is none or that it is too long. It takes no
@@ -143,55 +144,48 @@ fn read_answer(alloc: Global, answer: &Answer) -> Result<FileReading, NoMemory>
     }
 }
 
-/// Asks for the go.mod of the latest of the listed versions, and reads it.
-fn latest_file<'p, F: Asks>(
+/// What `versions` ends with over the listed versions, the latest of which has the go.mod that says what is retracted.
+fn unretracted_outcome<'p, F: Asks>(
     alloc: Global,
     path: &'p ModPath,
+    versions: &[BorrowedVersion<'_>],
     latest: ModVersion,
     files: &mut F,
-) -> Result<Option<DepFile>, Report<'p>>
-    requires { answer_in (F.state files.old).asked (mod_file path.now latest) ≡ None }
-    ensures run { (first : StoreState) (versions : List (List ℕ))
-        → AreVersionsAnswered path.now first (F.state files.old) versions → IsLatest versions latest
-        → GoesOn path.now false versions first (F.state files.new) result }
+) -> Result<String, Report<'p>>
+    requires unasked { answer_in (F.state files.old).asked (mod_file path.now latest) ≡ None }
+    requires sorted { IsStrictlySortedBy version_cmp versions.now }
+    ensures run { (first : StoreState)
+        → AreVersionsAnswered path.now first (F.state files.old) versions.now → IsLatest versions.now latest
+        → IsVersionsRun path.now false first (F.state files.new) (outcome_view result) }
     ensures served { HasServed (F.may_answer files.old) (F.may_answer files.new)
         (F.state files.old) (F.state files.new) }
 {
     ask_for(files, mod_name(alloc, path, &latest)?)?;
     match read_answer(alloc, files.last())? {
-        FileReading::Valid(file) => Ok(Some(file)),
+        FileReading::Valid(file) => shown_line(alloc, path, versions, file.retracts()),
         FileReading::Faulty(class) => Err(Report::File(path, latest, class)),
     }
 }
 
-/// The file that says what is retracted, or `None` if all versions are asked for or there are none.
-fn retracting_file<'p, F: Asks>(
+/// What `versions` ends with over the listed versions. All of them are printed if all are asked for, or there are none.
+fn listed_outcome<'p, F: Asks>(
     alloc: Global,
     path: &'p ModPath,
     all: bool,
     versions: &[BorrowedVersion<'_>],
     files: &mut F,
-) -> Result<Option<DepFile>, Report<'p>>
-    requires { (latest : List ℕ) → answer_in (F.state files.old).asked (mod_file path.now latest) ≡ None }
+) -> Result<String, Report<'p>>
+    requires unasked { (latest : List ℕ) → answer_in (F.state files.old).asked (mod_file path.now latest) ≡ None }
+    requires sorted { IsStrictlySortedBy version_cmp versions.now }
     ensures run { (first : StoreState)
         → AreVersionsAnswered path.now first (F.state files.old) versions.now
-        → GoesOn path.now all versions.now first (F.state files.new) result }
+        → IsVersionsRun path.now all first (F.state files.new) (outcome_view result) }
     ensures served { HasServed (F.may_answer files.old) (F.may_answer files.new)
         (F.state files.old) (F.state files.new) }
 {
     match latest_unless(alloc, all, versions)? {
-        Some(latest) => latest_file(alloc, path, latest, files),
-        None => Ok(None),
-    }
-}
-
-/// The intervals that a file retracts, if there is one.
-fn retracts_in(file: &Option<DepFile>) -> &[Interval]
-    ensures { interval_views result.now ≡ retracted_in file.now }
-{
-    match file {
-        Some(file) => file.retracts(),
-        None => &[],
+        Some(latest) => unretracted_outcome(alloc, path, versions, latest, files),
+        None => shown_line(alloc, path, versions, &[]),
     }
 }
 
@@ -209,7 +203,5 @@ pub(crate) fn versions_outcome<'p, F: Asks>(
 {
     let list = list_of(alloc, path, files)?;
     let versions = versions_of(alloc, path, list.as_slice())?;
-    let file = retracting_file(alloc, path, all, versions.as_slice(), files)?;
-    let line = shown_line(alloc, path, versions.as_slice(), retracts_in(&file))?;
-    Ok(line)
+    listed_outcome(alloc, path, all, versions.as_slice(), files)
 }

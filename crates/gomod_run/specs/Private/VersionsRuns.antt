@@ -1,17 +1,13 @@
 -- What holds of a store in a run of `versions`, step by step.
-use Rattle.std.specs.Prelude.{◌≡◌, ◌++◌, ◌∷◌, ℕ, Bool, List, [], Option, Some, None, Result, Ok, Err, true}
+use Rattle.std.specs.Prelude.{◌≡◌, ◌++◌, ◌∷◌, ℕ, Bool, List, [], None, true}
 use Rattle.gm_name.specs.Path.{is_fetchable}
-use Rattle.gm_file.specs.Directives.{VersionInterval}
-use Rattle.gm_file.specs.Shown.{shown_of}
-use Rattle.gm_file.specs.declared.dep_file.DepFile.{DepFile}
 use Rattle.gm_graph.specs.Run.{AskedInTurn}
 use Rattle.gm_store.specs.Asked.{Name, Reply, answer_in, bytes, list_file}
 use Rattle.gm_store.specs.Listed.{AreListed}
 use Rattle.gm_store.specs.States.{StoreState}
-use Rattle.gomod_run.specs.declared.reports.report.Report.{Report}
-use Rattle.gomod_run.specs.Outcome.{Outcome, failure_outcome, out_of_memory, report_outcome}
+use Rattle.gomod_run.specs.Outcome.{Outcome, failure_outcome, out_of_memory}
 use Rattle.gomod_run.specs.Reports.{device_line}
-use Rattle.gomod_run.specs.Versions.{AreShown, IsRefusedList, VersionsEnds, VersionsNeed}
+use Rattle.gomod_run.specs.Versions.{IsRefusedList, VersionsEnds, VersionsNeed}
 
 -- What holds of a run of `versions` over a store that had not been asked before, whatever this one answers: each file
 -- is asked for once, when the answers need it; and that there is no list to read, or that the device failed, is
@@ -41,19 +37,3 @@ pub record AreVersionsAnswered (path : List ℕ) (old new : StoreState) (version
   pub list : List ℕ
   pub answered : IsListAnswered path old new (bytes list)
   pub listed : AreListed path list versions
-
--- all that is needed was answered, and these versions are to be shown
-pub record AreToBeShown (path : List ℕ) (all : Bool) (old new : StoreState) (versions : List (List ℕ)) : Type 0 where
-  pub in_turn : AskedInTurn (VersionsNeed path all) new.asked
-  pub still : new.refused ≡ old.refused
-  pub shown : AreShown path all (answer_in new.asked) versions
-
--- what a file retracts, if there is one
-abbrev pub retracted_in : Option DepFile → List VersionInterval
-retracted_in None = []
-retracted_in (Some file) = file.retracts
-
--- what the file leaves of the versions is to be shown; or the run ended with a report
-abbrev pub GoesOn : List ℕ → Bool → List (List ℕ) → StoreState → StoreState → Result (Option DepFile) Report → Type 0
-GoesOn path all versions old new (Ok file) = AreToBeShown path all old new (shown_of (retracted_in file) versions)
-GoesOn path all versions old new (Err told) = IsVersionsRun path all old new (report_outcome told)

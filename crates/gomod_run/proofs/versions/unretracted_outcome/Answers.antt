@@ -1,22 +1,23 @@
 use Rattle.std.proofs.Common.{inr, refl}
 use Rattle.std.proofs.lemmas.Result.{err_from_is_err_and}
+use Rattle.gm_file.specs.Views.{interval_views}
 use Rattle.gm_store.specs.Asked.{mod_file, reply_of}
 use Rattle.gomod_run.specs.Private.Asking.{IsAnsweredAsk}
-use Rattle.gomod_run.proofs.VersionsSteps.{file_faulty, file_memory, file_unanswered, file_valid, last_answer}
-use Rattle.gomod_run.proofs.versions.latest_file.Given.{Over}
-use Rattle.gomod_run.proofs.versions.latest_file.Goals as goal
-use Rattle.gomod_run.proofs.versions.latest_file.Goals.{After-last}
+use Rattle.gomod_run.proofs.VersionsSteps.{file_faulty, file_memory, file_unanswered, file_valid, last_answer, shown_run}
+use Rattle.gomod_run.proofs.versions.unretracted_outcome.Given.{Over}
+use Rattle.gomod_run.proofs.versions.unretracted_outcome.Goals as goal
+use Rattle.gomod_run.proofs.versions.unretracted_outcome.Goals.{After-last}
 
 pub returns-in_err-mod_name-clause-run : goal.returns-in_err-mod_name-clause-run
-returns-in_err-mod_name-clause-run g c = λ first versions is greatest.
+returns-in_err-mod_name-clause-run g c = λ first is greatest.
     let p = err_from_is_err_and c.from_residual.result c.from_residual.ensures.1 in
     rw (p.1, p.2) (file_unanswered _ is greatest (inr (refl, refl, refl)))
 
 pub ask_for-requires : goal.ask_for-requires
-ask_for-requires g c = rw c.in_ok-mod_name.ensures c.requires
+ask_for-requires g c = rw c.in_ok-mod_name.ensures c.requires.unasked
 
 pub returns-in_err-ask_for-clause-run : goal.returns-in_err-ask_for-clause-run
-returns-in_err-ask_for-clause-run g c = λ first versions is greatest.
+returns-in_err-ask_for-clause-run g c = λ first is greatest.
     let p = err_from_is_err_and c.from_residual-in_err-ask_for.result c.from_residual-in_err-ask_for.ensures.1 in
     rw (p.1, p.2) (file_unanswered _ is greatest (rw c.in_ok-mod_name.ensures at c.in_err-ask_for.ensures.asked))
 
@@ -27,17 +28,20 @@ heard g c =
     c.in_ok-ask_for.ensures.asked c.last.ensures.value
 
 pub returns-in_err-file-clause-run : goal.returns-in_err-file-clause-run
-returns-in_err-file-clause-run g c = λ first versions is greatest.
+returns-in_err-file-clause-run g c = λ first is greatest.
     let p = err_from_is_err_and c.from_residual-in_err-file.result c.from_residual-in_err-file.ensures.1 in
     rw (p.1, p.2) (file_memory _ is greatest _ (heard g (goal.at.returns-in_err-file-clause-run g c).After-last) refl)
 
 pub returns-in-Valid-clause-run : goal.returns-in-Valid-clause-run
-returns-in-Valid-clause-run g c = λ first versions is greatest.
-    file_valid _ is greatest _ (heard g (goal.at.returns-in-Valid-clause-run g c).After-last) c.in-Valid.file.dependency c.in-Valid.file.retracts
+returns-in-Valid-clause-run g c = λ first is greatest.
+    shown_run
+    (file_valid _ is greatest _ (heard g (goal.at.returns-in-Valid-clause-run g c).After-last) c.in-Valid.file.dependency
+    (interval_views c.retracts.result.now)
     (rw c.in-Valid.is at (c.in_ok-file.ensures.reading (mod_file c.args.path.now c.args.latest) c.last.ensures.within_limit))
-    (rw c.in-Valid.is at c.in_ok-file.ensures.retracts)
+    (rw c.retracts.ensures (rw c.in-Valid.is at c.in_ok-file.ensures.retracts)))
+    c.shown_line.ensures
 
 pub returns-clause-run : goal.returns-clause-run
-returns-clause-run g c = λ first versions is greatest.
+returns-clause-run g c = λ first is greatest.
     file_faulty _ is greatest _ (heard g (goal.at.returns-clause-run g c).After-last) c.in-Faulty.class
     (rw c.in-Faulty.is at (c.in_ok-file.ensures.reading (mod_file c.args.path.now c.args.latest) c.last.ensures.within_limit))
