@@ -3,8 +3,6 @@ use Rattle.std.proofs.Common.{◌≡◌, ◌∙◌, ◌++◌, ℕ, Bool, List, [
 use Rattle.std.proofs.Math.Logic.{⊎_map}
 use Rattle.std.proofs.Math.Seq.{drop-append_seam}
 use Rattle.std.proofs.lemmas.List.{append_cancel_left}
-use Rattle.gm_syntax.specs.Document.{Line}
-use Rattle.gm_syntax.specs.Tokens.{Placed}
 use Rattle.gm_store.specs.Asked.{Name, Reply, answer_in, name_of, names_in}
 use Rattle.gm_store.specs.States.{HasServed, StoreState}
 use Rattle.gm_store.proofs.Serving.{nothing_served}
@@ -12,7 +10,7 @@ use Rattle.gm_store.specs.declared.files.FileName.{FileName}
 use Rattle.gm_store_sums.specs.Sums.{Sums}
 use Rattle.gm_file.specs.declared.misreading.BytesFault.{BytesFault}
 use Rattle.gm_file.specs.Directives.{Strict}
-use Rattle.gm_file.specs.Main.{Main, main_of, IsMainFile, IsMainOf}
+use Rattle.gm_file.specs.Main.{Main, IsMainFile}
 use Rattle.gm_file.specs.Misreading.{IsBytesFault}
 use Rattle.gm_graph.specs.Refusals.{refused_in, refused_names}
 use Rattle.gm_graph.specs.declared.cache.load_fault.LoadFault.{LoadFault}
@@ -24,15 +22,13 @@ use Rattle.gm_graph_select.proofs.Same.{same_chain}
 use Rattle.gm_graph.specs.declared.fault.Fault.{Fault}
 use Rattle.gm_graph.specs.Run.{AreTooMany, AskedInTurn, IsDue, IsEdge, IsRead, LoadingNeeds, Run, run_of}
 use Rattle.gm_graph.specs.Outcome.{IsLoaded, LoadedGraph as Loaded}
-use Rattle.gomod_run.specs.declared.reports.report.Report.{Report}
 use Rattle.gomod_run.specs.FromFaults.{report_by_bytes, report_by_load}
 use Rattle.gomod_run.specs.Outcome.{OrNoMemory, Outcome, failure_outcome, text_outcome, refusal_outcome, report_outcome}
 use Rattle.gomod_run.specs.Reports.{device_line}
-use Rattle.gomod_run.specs.declared.queries.answering.Read.{Read}
 use Rattle.gomod_run.specs.declared.queries.query.Query.{Query}
 use Rattle.gomod_run.specs.declared.queries.query.Query.TheVariants.{Graph, List as Rows, Chain}
 use Rattle.gomod_run.specs.ListQuery.{up_to, list_text, PrintsRows, path_listed}
-use Rattle.gomod_run.specs.Queries.{AreFound, AreInvalidSums, AreSums, FilesReadAs, Given, Prints, QueryEnds, answers_of, device, faulty, given_of, no_fault, too_many}
+use Rattle.gomod_run.specs.Queries.{AreFound, AreInvalidSums, FilesReadAs, Given, Prints, QueryEnds, answers_of, device, faulty, given_of, no_fault, too_many}
 use Rattle.gomod_run.specs.Needs.{AnswersByName, FailsInTurn, GraphNeeds}
 use Rattle.gomod_run.specs.Private.Refusals.{IsRefusedRead}
 use Rattle.gomod_run.specs.Runs.{ComesTo, Needs, RunEnds, command_of, run_between}
@@ -81,27 +77,10 @@ main_told file sums fault is = ⊎_map (λ malformed. inl malformed) (λ memory.
 abbrev pub AreReported : Option (List ℕ) → Outcome → Type 0
 AreReported sums outcome = (report : List ℕ) × AreInvalidSums sums report × (outcome ≡ refusal_outcome report)
 
-abbrev pub AreSumsRead : Option (List ℕ) → Result (Option Sums) Report → Type 0
-AreSumsRead sums r = MatchResult r (λ table. AreSums sums table) (λ told. OrNoMemory (AreReported sums) (report_outcome told))
-
 -- a go.sum that was not read refuses both, after a main module's file that was read
-pub sums_told : (file : List ℕ) (sums : Option (List ℕ)) (main : Main) (r : Result (Option Sums) Report) (told : Report)
-    → IsMainFile file main → r ≡ Err told → AreSumsRead sums r
-    → OrNoMemory (IsRefusedRead file sums) (report_outcome told)
-sums_told file sums main r told is stops match =
-    ⊎_map (λ reported. inr (main, reported.0, is, reported.1, reported.2)) (λ memory. memory) (rw stops at match)
-
-pub both_read : (file : List ℕ) (sums : Option (List ℕ)) (lines : List (Line Placed)) (s : Result (Option Sums) Report) (table : Option Sums)
-    → IsMainOf file lines → s ≡ Ok table → AreSumsRead sums s → FilesReadAs file sums (main_of lines) table
-both_read file sums lines s table is are read = record { main_file = (lines, is, refl); sums = rw are at read }
-
-abbrev pub IsBothRead : List ℕ → Option (List ℕ) → Result Read Report → Type 0
-IsBothRead file sums r =
-    MatchResult r (λ both. FilesReadAs file sums (main_of both.main) both.table) (λ told. OrNoMemory (IsRefusedRead file sums) (report_outcome told))
-
-pub both_ok : (file : List ℕ) (sums : Option (List ℕ)) (r : Result Read Report) (x : Read) → r ≡ Ok x
-    → IsBothRead file sums r → FilesReadAs file sums (main_of x.main) x.table
-both_ok file sums r x is match = rw is at match
+pub sums_told : (file : List ℕ) (sums : Option (List ℕ)) (main : Main) (outcome : Outcome) → IsMainFile file main
+    → OrNoMemory (AreReported sums) outcome → OrNoMemory (IsRefusedRead file sums) outcome
+sums_told file sums main outcome is = ⊎_map (λ reported. inr (main, reported.0, is, reported.1, reported.2)) (λ memory. memory)
 
 -- ---- what a run comes to
 
@@ -178,13 +157,11 @@ no_versions (Rows after limit) path all is = cc is
 no_versions (Chain named) path all is = cc is
 
 -- one of its files is invalid
-pub refused_read : (query : Query) (file : List ℕ) (sums : Option (List ℕ)) (may : Name → Option Reply → Type 0)
-    (state : StoreState) (r : Result Read Report) (told : Report)
-    → state.asked ≡ [] → r ≡ Err told → IsBothRead file sums r → ComesTo (command_of query) file sums may may state state (report_outcome told)
-refused_read query file sums may state r told none stops read =
-    unasked_comes (command_of query) file sums may state (report_outcome told) (no_versions query) none
-    (⊎_map (λ is. of_query query run (report_outcome told) (joined (PrintsOf (command_of query)) run (report_outcome told) (unread is (none, refl))))
-    (λ memory. memory) (rw stops at read))
+pub refused_read : (query : Query) (file : List ℕ) (sums : Option (List ℕ)) (may : Name → Option Reply → Type 0) (state : StoreState) (outcome : Outcome)
+    → state.asked ≡ [] → OrNoMemory (IsRefusedRead file sums) outcome → ComesTo (command_of query) file sums may may state state outcome
+refused_read query file sums may state outcome none refused =
+    unasked_comes (command_of query) file sums may state outcome (no_versions query) none
+    (⊎_map (λ is. of_query query run outcome (joined (PrintsOf (command_of query)) run outcome (unread is (none, refl)))) (λ memory. memory) refused)
   where
     run : Given
     run = given_of file sums (answers_of state.asked [])
@@ -206,34 +183,40 @@ module _ (query : Query) (file : List ℕ) (sums : Option (List ℕ)) (main : Ma
       (⊎_map (of_query query (given_of file sums (answers_of new.asked [])) outcome) (λ memory. memory) ends)
 
   -- loading was refused
-  pub not_loaded : (result : Result Loaded LoadFault) (fault : LoadFault) → result ≡ Err fault
-      → (result ≡ Err load.TooMany → IsRead (run_of main table new.asked) × AreTooMany (run_of main table new.asked))
-      → ((name : FileName) → result ≡ Err (load.Device name) → IsDue (run_of main table new.asked) (name_of name))
-      → new.refused ≡ old.refused ++ refused_in result
+  not_loaded : (fault : LoadFault)
+      → (fault ≡ load.TooMany → IsRead (run_of main table new.asked) × AreTooMany (run_of main table new.asked))
+      → ((name : FileName) → fault ≡ load.Device name → IsDue (run_of main table new.asked) (name_of name))
+      → new.refused ≡ old.refused ++ refused_names fault
       → ComesTo (command_of query) file sums before after old new (report_outcome (report_by_load fault))
-  not_loaded result fault is many due grown = by fault is (rw is at grown)
-    where
-      by : (fault : LoadFault) → result ≡ Err fault → new.refused ≡ old.refused ++ refused_names fault
-          → ComesTo (command_of query) file sums before after old new (report_outcome (report_by_load fault))
-      by load.NoMemory is same = still _ same (inr refl)
-      by load.TooMany is same = still _ same (inl (let over = many is in too_many main table read over.0 over.1 refl refl))
-      by (load.Device name) is one =
-          broken_comes (command_of query) file sums before after old new _ in_turn served
-          (λ path all other is. absurd (no_versions query path all is)) (name_of name) one
-          (subst (λ (needs : AnswersByName → Name → Type 0). needs (answer_in new.asked) (name_of name))
-          (sym (graph_needs query file sums)) (loading_needs file sums main table read (answer_in new.asked)
-          (name_of name) (due name is).calls))
-          (due name is).unasked (of_query query (given_of file sums (answers_of new.asked (name_of name ∷ []))) _
-          (device main table (name_of name) read (due name is) refl refl)) refl
+  not_loaded load.NoMemory many due same = still _ same (inr refl)
+  not_loaded load.TooMany many due same = still _ same (inl (let over = many refl in too_many main table read over.0 over.1 refl refl))
+  not_loaded (load.Device name) many due one =
+      broken_comes (command_of query) file sums before after old new _ in_turn served
+      (λ path all other is. absurd (no_versions query path all is)) (name_of name) one
+      (subst (λ (needs : AnswersByName → Name → Type 0). needs (answer_in new.asked) (name_of name))
+      (sym (graph_needs query file sums)) (loading_needs file sums main table read (answer_in new.asked)
+      (name_of name) (due name refl).calls))
+      (due name refl).unasked (of_query query (given_of file sums (answers_of new.asked (name_of name ∷ []))) _
+      (device main table (name_of name) read (due name refl) refl refl)) refl
 
   -- loading found a graph
-  pub answered : (result : Result Loaded LoadFault) (loaded : Loaded) (outcome : Outcome) → result ≡ Ok loaded
-      → IfOk result (IsLoaded (run_of main table new.asked) (names_in new.asked))
-      → new.refused ≡ old.refused ++ refused_in result → OrNoMemory (IsOutcomeOfFound query main loaded) outcome
+  found_graph : (loaded : Loaded) (outcome : Outcome) → IsLoaded (run_of main table new.asked) (names_in new.asked) loaded
+      → new.refused ≡ old.refused ++ [] → OrNoMemory (IsOutcomeOfFound query main loaded) outcome
       → ComesTo (command_of query) file sums before after old new outcome
-  answered result loaded outcome ok is grown told =
-      let found : IsLoaded (run_of main table new.asked) (names_in new.asked) loaded = rw ok at is in
-      still outcome (rw ok at grown)
+  found_graph loaded outcome found same told =
+      still outcome same
       (⊎_map (by_faults loaded.faults (record { read = read; settled = found.settled; faults_are = found.faults; none_failed = refl })
       (prints_for query outcome found))
       (λ memory. memory) told)
+
+  -- it found one, or was refused
+  pub loading_comes : (result : Result Loaded LoadFault) (outcome : Outcome)
+      → IfOk result (IsLoaded (run_of main table new.asked) (names_in new.asked))
+      → (result ≡ Err load.TooMany → IsRead (run_of main table new.asked) × AreTooMany (run_of main table new.asked))
+      → ((name : FileName) → result ≡ Err (load.Device name) → IsDue (run_of main table new.asked) (name_of name))
+      → new.refused ≡ old.refused ++ refused_in result
+      → MatchResult result (λ loaded. OrNoMemory (IsOutcomeOfFound query main loaded) outcome) (λ fault. outcome ≡ report_outcome (report_by_load fault))
+      → ComesTo (command_of query) file sums before after old new outcome
+  loading_comes (Ok loaded) outcome is many due grown told = found_graph loaded outcome is grown told
+  loading_comes (Err fault) outcome is many due grown told =
+      rw told (not_loaded fault (λ same. many (ap Err same)) (λ name same. due name (ap Err same)) grown)

@@ -2,12 +2,12 @@
 //! outcome. Faults of modules are handled once, before any query looks at the graph, so the queries agree on when
 //! they print nothing.
 
-ghost use Rattle.std.specs.Prelude.{◌≡◌, [], MatchResult, List, ℕ};
+ghost use Rattle.std.specs.Prelude.{◌≡◌, [], IfOk, MatchResult, List, ℕ};
 ghost use Rattle.std.specs.Option.{option_copied};
 ghost use Rattle.gm_file.specs.Main.{main_of};
-ghost use Rattle.gomod_run.specs.Queries.{FilesReadAs, AreInvalidSums, AreSums};
+ghost use Rattle.gomod_run.specs.FromFaults.{report_by_load};
+ghost use Rattle.gomod_run.specs.Queries.{AreInvalidSums, AreSums};
 ghost use Rattle.gomod_run.specs.Outcome.{OrNoMemory, outcome_view, report_outcome, refusal_outcome};
-ghost use Rattle.gomod_run.specs.Private.Refusals.{IsRefusedRead};
 ghost use Rattle.gomod_run.specs.Runs.{ComesTo, command_of};
 ghost use Rattle.gomod_run.specs.Private.Found.{IsOutcomeOfFound, PrintsFound};
 
@@ -17,19 +17,10 @@ use crate::queries::list::list_outcome;
 use crate::queries::query::Query;
 use crate::reports::report::Report;
 use gm_file::MainFile;
-use gm_graph::{Loaded, load};
+use gm_graph::{LoadFault, Loaded, load};
 use gm_store::Asks;
 use gm_store_sums::SumTable;
 use std::alloc::Global;
-
-/// The two files that are given as bytes, both valid.
-#[derive(Drop)]
-struct Read<'a> {
-    /// The main module's file.
-    main: MainFile<'a>,
-    /// The hashes of the go.sum, or `None` if no go.sum is given.
-    table: Option<SumTable<'a>>,
-}
 
 /// The table of a go.sum, or `None` if no go.sum is given; or the report of its first fault.
 fn sum_table<'a, 'r>(
@@ -45,21 +36,6 @@ fn sum_table<'a, 'r>(
         Some(text) => Ok(Some(SumTable::read(alloc, text)?)),
         None => Ok(None),
     }
-}
-
-/// Both files, or the report of the first invalid one. The main module's file is read first.
-fn read_files<'a, 'r>(
-    alloc: Global,
-    file: &'a [u8],
-    sums: Option<&'a [u8]>,
-) -> Result<Read<'a>, Report<'r>>
-    ensures { MatchResult result
-        (λ both. FilesReadAs file.now (option_copied sums.entry) (main_of both.main) both.table)
-        (λ told. OrNoMemory (IsRefusedRead file.now (option_copied sums.entry)) (report_outcome told)) }
-{
-    let main = MainFile::read_bytes(alloc, file)?;
-    let table = sum_table(alloc, sums)?;
-    Ok(Read { main, table })
 }
 
 /// What a query ends with if no opened module has a fault.
@@ -81,16 +57,19 @@ fn query_outcome<'q>(
 }
 
 /// What a query ends with once loading has finished: a report of the faults if there are any, otherwise what the
-/// query prints.
+/// query prints. If loading was refused, the report says why.
 fn loaded_outcome<'q>(
     alloc: Global,
     query: Query<'q>,
     main: &MainFile<'_>,
-    loaded: Loaded,
+    loaded: Result<Loaded, LoadFault>,
 ) -> Result<String, Report<'q>>
-    requires { loaded.main ≡ (main_of main.now).path }
-    ensures { OrNoMemory (IsOutcomeOfFound query.entry (main_of main.now) loaded) (outcome_view result) }
+    requires { IfOk loaded (λ loaded. loaded.main ≡ (main_of main.now).path) }
+    ensures { MatchResult loaded
+        (λ loaded. OrNoMemory (IsOutcomeOfFound query.entry (main_of main.now) loaded) (outcome_view result))
+        (λ fault. outcome_view result ≡ report_outcome (report_by_load fault)) }
 {
+    let loaded = loaded?;
     if loaded.faults().is_empty() {
         return query_outcome(alloc, query, main, &loaded);
     }
@@ -130,7 +109,8 @@ pub fn answer<'q, F: Asks>(
         (F.may_answer files.old) (F.may_answer files.new) (F.state files.old) (F.state files.new)
         (outcome_view result) }
 {
-    let read = read_files(alloc, file, sums)?;
-    let loaded = load(alloc, &read.main, files, read.table.as_ref())?;
-    loaded_outcome(alloc, query, &read.main, loaded)
+    let main = MainFile::read_bytes(alloc, file)?;
+    let table = sum_table(alloc, sums)?;
+    let loaded = load(alloc, &main, files, table.as_ref());
+    loaded_outcome(alloc, query, &main, loaded)
 }

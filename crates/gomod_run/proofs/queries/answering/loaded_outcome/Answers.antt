@@ -11,8 +11,9 @@ use Rattle.gomod_run.proofs.queries.answering.loaded_outcome.Goals as goal
 pub returns : goal.returns
 returns c =
     let main = main_of c.args.main.now in
-    let found = c.args.loaded in
+    let found = c.in_ok-loaded.loaded in
     let outcome = refusal_outcome (faults_text c.into_faults.result.items) in
-    inl (subst (λ (faults : List Fault). IsOutcomeOfFound c.args.query main found (refusal_outcome (faults_text faults))) (sym c.into_faults.ensures)
+    rw c.in_ok-loaded.was
+    (inl (subst (λ (faults : List Fault). IsOutcomeOfFound c.args.query main found (refusal_outcome (faults_text faults))) (sym c.into_faults.ensures)
     (faults_told found.faults (PrintsFound c.args.query main found (refusal_outcome (faults_text found.faults)))
-    (subst (λ (faults : List Fault). (length faults == 0) ≡ false) c.faults.ensures (sym c.is_empty.ensures ∙ c.if-is_empty.false))))
+    (subst (λ (faults : List Fault). (length faults == 0) ≡ false) c.faults.ensures (sym c.is_empty.ensures ∙ c.if-is_empty.false)))))
