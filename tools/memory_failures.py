@@ -62,7 +62,7 @@ gomod_words/src/usage.rt
 # the same for each call that asks for room by its size: why the size is no more than is needed
 SIZED = """
 gm_file/src/dep_file.rt
-  read_twice monoshiq a pair takes 40 bytes
+  read_bytes monoshiq a pair takes 40 bytes
 gm_file_edit/src/keyed_lines.rt
   keys_of ntpokvmn one for each line
   make_room lsnrtnot as much as it is told

@@ -2,7 +2,6 @@
 
 ghost use Rattle.std.specs.Prelude.{◌≡◌, [], IfOk, IfErr, OnErr, None, unwrap_or};
 ghost use Rattle.std.specs.Option.{option_copied};
-ghost use Rattle.gm_syntax.specs.LineReading.{HasRead};
 ghost use Rattle.gm_syntax.specs.LineViews.{line_views, plain_lines};
 ghost use Rattle.gm_name_table.specs.Kept.{IsWithinRoom, KeepsAll};
 ghost use Rattle.gm_name_table.specs.Listed.{Appends};
@@ -25,7 +24,7 @@ use crate::required::Required;
 use crate::retractions::{retractions_of_bytes, retractions_of_lines};
 use gm_name::{ModPath, ModVer};
 use gm_name_table::{KnownNames, ModuleList};
-use gm_syntax::{Doc, Line, LineReader};
+use gm_syntax::{Doc, Line};
 use std::alloc::Global;
 use std::marker::Model;
 use std::mem;
@@ -122,29 +121,10 @@ impl DepFile {
         ensures retracts { IfOk result (λ file. AreRetractedIn bytes.now file.retracts) }
         ensures fault { IfErr result (IsBytesFault Lax bytes.now) }
     {
-        let mut reader = LineReader::new(alloc, bytes)?;
-        DepFile::read_twice(alloc, names, &mut reader, bytes)
-    }
-
-    /// Reads the lines of a file as `read_bytes` does. No line of `reader`, which reads the same bytes, must have been
-    /// read.
-    fn read_twice(
-        alloc: Global,
-        names: &mut KnownNames,
-        reader: &mut LineReader,
-        bytes: &[u8],
-    ) -> Result<DepFile, BytesFault>
-        requires start { HasRead reader.old [] }
-        requires source { reader.old.source ≡ bytes.now }
-        ensures kept { KeepsNames names.old names.new }
-        ensures ok { IfOk result (λ file. IsDependencyIn bytes.now file.dependency) }
-        ensures retracts { IfOk result (λ file. AreRetractedIn bytes.now file.retracts) }
-        ensures fault { IfErr result (IsBytesFault Lax bytes.now) }
-    {
         let retracts = retractions_of_bytes(alloc, names, bytes)?;
         let pairs = Vec::with_capacity(alloc, bytes.len() / BYTES_OF_ONE)?;
         let mut said = DepLines::over(alloc, Required::own(pairs));
-        let read = read_all(alloc, names, reader, &mut said);
+        let read = read_all(alloc, names, bytes, &mut said);
         let DepLines { fields, .. } = said;
         let file = DepFile::of_fields(fields, retracts);
         match read {
@@ -169,18 +149,18 @@ impl DepFile {
         ensures fault { IfErr result (IsBytesFault Lax bytes.now) }
         ensures err { OnErr result (Appends modules.old modules.new []) }
     {
-        let mut reader = LineReader::new(alloc, bytes)?;
+        let start = modules.len();
         let list = mem::replace(modules, ModuleList::new(alloc));
         let mut said = DepLines::over(alloc, Required::at_end(list));
-        let read = read_all(alloc, names, &mut reader, &mut said);
-        if read.is_err() {
-            said.fields.requirements.clear();
-        }
+        let read = read_all(alloc, names, bytes, &mut said);
         let DepLines { fields, .. } = said;
         let file = ListedFile::of_fields(fields, modules);
         match read {
             Ok(()) => Ok(file),
-            Err(fault) => Err(fault),
+            Err(fault) => {
+                modules.truncate(start);
+                Err(fault)
+            }
         }
     }
 

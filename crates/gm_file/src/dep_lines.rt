@@ -184,30 +184,30 @@ fn read_simple_lines<'a>(
     Ok(())
 }
 
-/// Reads every line into `said`, which must be that of no lines.
+/// Reads every line of a file's bytes into `said`, which must be that of no lines.
 pub(crate) fn read_all<'a>(
     alloc: Global,
     names: &mut KnownNames,
-    reader: &mut LineReader<'a>,
+    bytes: &'a [u8],
     said: &mut DepLines<'a>,
 ) -> Result<(), BytesFault>
-    requires start { HasRead reader.old [] }
     requires lines { AreDepLines [] said.old }
     requires found { HaveIndexes said.old.fields }
     ensures kept { KeepsNames names.old names.new }
     ensures before { said.new.fields.requirements.before ≡ said.old.fields.requirements.before }
-    ensures ok { OnOk result (AreAllRead reader.old.source said.new) }
-    ensures fault { IfErr result (IsBytesFault Lax reader.old.source) }
+    ensures ok { OnOk result (AreAllRead bytes.now said.new) }
+    ensures fault { IfErr result (IsBytesFault Lax bytes.now) }
 {
+    let mut reader = LineReader::new(alloc, bytes)?;
     loop {
-        read_simple_lines(names, reader, said)?;
+        read_simple_lines(names, &mut reader, said)?;
         let Some(line) = reader.next()? else {
             return Ok(());
         };
         let read = said.read_line(alloc, names, &line);
         reader.recycle(line);
         if let Err(fault) = read {
-            return Err(fault_of_all(reader, fault));
+            return Err(fault_of_all(&mut reader, fault));
         }
     }
 }

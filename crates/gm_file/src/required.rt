@@ -19,10 +19,9 @@ use std::mem;
 enum Destination {
     /// A list of their own.
     Own(Vec<ModVer>),
-    /// The end of a list of modules, which was `before`, of the length `start`.
+    /// The end of a list of modules, which was `before`.
     End {
         list: ModuleList,
-        start: usize,
         before: ListBefore,
     },
 }
@@ -60,14 +59,9 @@ impl Required {
         ensures before { result.before ≡ Some list }
         ensures items { result.items ≡ [] }
     {
-        let start = list.len();
         let before = ListBefore::of(&list);
         Required {
-            place: Destination::End {
-                list,
-                start,
-                before,
-            },
+            place: Destination::End { list, before },
         }
     }
 
@@ -116,17 +110,6 @@ impl Required {
         let pair = pair_of_texts(names, path, version)?;
         self.push(pair)?;
         Ok(())
-    }
-
-    /// Takes all requirements out again. A list of modules is as long as before.
-    pub(crate) fn clear(&mut self)
-        ensures before { self.new.before ≡ self.old.before }
-        ensures items { self.new.items ≡ [] }
-    {
-        match &mut self.place {
-            Destination::Own(pairs) => pairs.clear(),
-            Destination::End { list, start, .. } => list.truncate(*start),
-        }
     }
 
     /// The requirements, which are in a list of their own.

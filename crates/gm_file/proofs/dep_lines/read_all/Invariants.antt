@@ -7,7 +7,7 @@ use Rattle.gm_file.proofs.dep_lines.read_all.Given as goal
 abbrev pub invariant-loop-reader : goal.invariant-loop-reader
 invariant-loop-reader l = record {
   kept : KeepsNames l.initial.names l.names;
-  source : l.reader.source ≡ l.initial.reader.source;
+  source : l.reader.source ≡ l.fn.bytes;
   before : l.said.fields.requirements.before ≡ l.initial.said.fields.requirements.before;
   found : HaveIndexes l.said.fields;
   read : AreReadSofar l.reader l.said;
