@@ -28,7 +28,7 @@ pub(crate) mod summary;
 pub(crate) mod turn_history;
 pub(crate) mod visit;
 
-ghost use Rattle.std.specs.Prelude.{◌≡◌, ◌≤◌, ◌<◌, ◌+◌, ◌++◌, ◌∷◌, [], List, IfOk, IfSome, OnErr, IsSome, MatchResult, None, Err, Ok, drop, length, slice_get, take};
+ghost use Rattle.std.specs.Prelude.{◌≡◌, ◌≤◌, ◌<◌, ◌+◌, ◌++◌, ◌∷◌, [], List, IfOk, IfSome, OnErr, OnOk, IsSome, MatchResult, None, Err, Ok, drop, length, slice_get, take};
 ghost use Rattle.std.proofs.Props.{props};
 ghost use Rattle.std.specs.Option.{option_and_then, option_copied};
 ghost use Rattle.gm_name_table.specs.Listed.{modules_of};
@@ -95,27 +95,22 @@ pub struct Cache<'a> {
     ghost consistent: { IsConsistent (main_of main.now) (option_copied sums) first modules files } by { Prim.hlevel (props, order_is_fact) },
 }
 
-/// A table of names without a limit, which knows the paths that the main file requires.
-fn names_for(alloc: Global, main: &MainFile) -> Result<KnownNames, NoMemory> {
-    let mut names = KnownNames::new(alloc, usize::MAX);
+/// Appends the modules that the main file requires, without the excluded ones, and learns the paths that it requires.
+fn add_first(
+    main: &MainFile,
+    names: &mut KnownNames,
+    modules: &mut ModuleList,
+) -> Result<(), NoMemory>
+    ensures { OnOk result (modules_of modules.new
+        ≡ modules_of modules.old ++ without_excluded (main_of main.now) (main_of main.now).requirements) }
+{
     for y in main.requirements() {
         names.learn(y.path())?;
-    }
-    Ok(names)
-}
-
-/// The modules that the main file requires, without the excluded ones.
-fn first_modules(alloc: Global, main: &MainFile) -> Result<ModuleList, NoMemory>
-    ensures { IfOk result (λ modules. modules_of modules
-        ≡ without_excluded (main_of main.now) (main_of main.now).requirements) }
-{
-    let mut modules = ModuleList::new(alloc);
-    for y in main.requirements() {
         if !main.excluded(y) {
             modules.push(y)?;
         }
     }
-    Ok(modules)
+    Ok(())
 }
 
 /// The summary of a file whose requirements are those of the list from this place on. If an earlier file has the same,
@@ -205,13 +200,15 @@ impl<'a> Cache<'a> {
         ensures files { IfOk result (λ cache. file_count cache ≡ 0) }
     {
         let files = FileTable::new(alloc, main)?;
-        let modules = first_modules(alloc, main)?;
+        let mut names = KnownNames::new(alloc, usize::MAX);
+        let mut modules = ModuleList::new(alloc);
+        add_first(main, &mut names, &mut modules)?;
         let first = modules.len();
         Ok(Cache {
             alloc,
             main,
             sums,
-            names: names_for(alloc, main)?,
+            names,
             modules,
             first,
             files,
