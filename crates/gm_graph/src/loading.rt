@@ -6,7 +6,7 @@ ghost use Rattle.gm_store.specs.Asked.{name_of, names_in};
 ghost use Rattle.gm_store.specs.States.{HasServed};
 ghost use Rattle.gm_store.specs.declared.files.FileName.{FileName};
 ghost use Rattle.gm_graph.specs.Private.Asking.{AsksInTurn};
-ghost use Rattle.gm_graph.specs.Cached.{Knows, file_count, main_in, run_in, sums_in, table_in, turns_in};
+ghost use Rattle.gm_graph.specs.Cached.{Knows, file_count, main_in, run_in, sums_in, turns_in};
 ghost use Rattle.gm_graph.specs.Refusals.{refused_in};
 ghost use Rattle.gm_file.specs.Main.{main_of, replacement_in};
 ghost use Rattle.gm_graph_select.specs.BuildList.{IsBuildList};
@@ -19,7 +19,7 @@ ghost use Rattle.gm_graph_select.specs.Order.{HaveSame, IsAscending};
 ghost use Rattle.gm_graph.specs.Private.Gathering.{AreFaultsOf, AreFilePlaces, steps_by};
 ghost use Rattle.gm_graph.specs.Run.{AreTooMany, AskedInTurn, IsDue, IsRead, LoadingNeeds, run_of};
 ghost use Rattle.gm_graph.specs.Outcome.{IsLoaded};
-ghost use Rattle.gm_graph.specs.Private.Visiting.{IsFirstWorklist, IsOpenedIn};
+ghost use Rattle.gm_graph.specs.Private.Visiting.{IsOpenedIn};
 ghost use Rattle.gm_graph.specs.Private.Worklists.{turn_of};
 
 use crate::cache::Cache;
@@ -40,34 +40,43 @@ use gm_store::Asks;
 use gm_store_sums::SumTable;
 use std::alloc::{AllocError, Global};
 
-/// Visits the vertices of a worklist one after another, including those that the visits add. Returns what was found.
+/// Visits the vertices of a worklist one after another: those that the main file requires, and those that visits add.
+/// Returns the worklist, and what was found.
 fn visit_all<F: Asks>(
     alloc: Global,
+    main: &MainFile<'_>,
     cache: &mut Cache<'_>,
     files: &mut F,
-    worklist: &mut Worklist,
-) -> Result<Findings, LoadFault>
+) -> Result<(Worklist, Findings), LoadFault>
+    requires main { main_in cache.old ≡ main_of main.now }
     requires asked { (F.state files.old).asked ≡ [] }
     requires knows { Knows cache.old [] }
     requires lent { turns_in cache.old ≡ [] }
     requires none { file_count cache.old ≡ 0 }
-    requires first { IsFirstWorklist (run_in cache.old []) (table_in cache.old) worklist.old }
-    ensures opened { IfOk result
-        (IsOpenedIn (run_in cache.old (F.state files.new).asked) cache.new worklist.new) }
+    ensures opened { IfOk result (λ found.
+        IsOpenedIn (run_in cache.old (F.state files.new).asked) cache.new found.0 found.1) }
     ensures too_many { result ≡ Err LoadFault.TooMany → IsRead (run_in cache.old (F.state files.new).asked)
         × AreTooMany (run_in cache.old (F.state files.new).asked) }
     ensures asks { AsksInTurn (main_in cache.old) (sums_in cache.old) (F.may_answer files.old) (F.may_answer files.new)
         (F.state files.old) (F.state files.new) (refused_in result) }
 {
+    let mut worklist = first_worklist(alloc, main, cache)?;
     let mut followed = Followed::new(alloc);
     let mut findings = Findings::new(alloc);
     let mut at = 0;
     'turns: while at < worklist.turns.len() {
         let one = worklist.turns[at];
-        visit(cache, files, worklist, &mut followed, &mut findings, one)?;
+        visit(
+            cache,
+            files,
+            &mut worklist,
+            &mut followed,
+            &mut findings,
+            one,
+        )?;
         at += 1;
     }
-    Ok(findings)
+    Ok((worklist, findings))
 }
 
 /// The turns of a worklist whose numbers are those of these modules. The worklist is dropped.
@@ -155,8 +164,9 @@ pub fn load<F: Asks>(
         (F.state files.old) (F.state files.new) }
 {
     let mut cache = Cache::new(alloc, main, sums)?;
-    let mut worklist = first_worklist(alloc, main, &cache)?;
-    let findings = visit_all(alloc, &mut cache, files, &mut worklist)?;
+    let found = visit_all(alloc, main, &mut cache, files);
+    // The cache is taken apart before a fault is returned, since a path that drops all of it takes long to prove.
     let parts = cache.into_parts();
+    let (worklist, findings) = found?;
     Ok(assemble(alloc, main, parts, worklist.into_turns(), findings)?)
 }

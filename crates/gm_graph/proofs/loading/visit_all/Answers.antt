@@ -1,7 +1,10 @@
-use Rattle.std.proofs.Common.{Err, ap, arith, sym}
+use Rattle.std.proofs.Common.{◌∙◌, [], Err, ap, arith, refl, subst, sym}
+use Rattle.gm_file.specs.Main.{Main, without_excluded}
+use Rattle.gm_graph.specs.Private.Turns.{OverflowsWith}
 use Rattle.gm_graph.proofs.Dues.{refused_same}
 use Rattle.gm_graph.proofs.FoundFiles.{nothing_found, nothing_visited}
-use Rattle.gm_graph.proofs.InTurn.{asked_in_turn, many_in_turn, nothing_asked, stepped}
+use Rattle.gm_graph.proofs.InTurn.{asked_in_turn, in_turn_by, many_in_turn, nothing_asked, stepped}
+use Rattle.gm_graph.proofs.Loads.{too_many_first}
 use Rattle.gm_graph.proofs.Rounds.{few_turns}
 use Rattle.gm_graph.proofs.Stepping.{first_step, last_step, number_here}
 use Rattle.gm_graph.proofs.loading.visit_all.Goals as goal
@@ -11,10 +14,10 @@ turns-init g c =
     let places = c.new-findings.ensures.places in
     let faults = c.new-findings.ensures.faults in
     record {
-      state = first_step _ _ _ _ c.requires.asked c.requires.knows c.requires.lent c.requires.first
+      state = first_step _ _ _ _ c.requires.asked c.requires.knows c.requires.lent c.in_ok-worklist.ensures.first
           (nothing_visited c.new-findings.result places faults);
       ready = record {
-        worklist_is = c.requires.first.worklist_is;
+        worklist_is = c.in_ok-worklist.ensures.first.worklist_is;
         followed = λ file by. absurd (c.new-followed.ensures file by);
         found = nothing_found c.new-findings.result places faults _ _;
       };
@@ -52,10 +55,23 @@ visit-requires g c =
 
 pub returns-in_err-visit-clause-asks : goal.returns-in_err-visit-clause-asks
 returns-in_err-visit-clause-asks g c =
-    rw (refused_same c.from_residual.result c.in_err-visit.field-0.0 c.from_residual.ensures.1)
+    rw (refused_same c.from_residual-in_err-visit.result c.in_err-visit.field-0.0 c.from_residual-in_err-visit.ensures.1)
     (asked_in_turn c.index-one.result.now c.turns.invariant.state (omega arith) c.index-one.ensures c.in_err-visit.ensures.asks c.turns.invariant.asks)
 
 pub returns-in_err-visit-clause-too_many : goal.returns-in_err-visit-clause-too_many
 returns-in_err-visit-clause-too_many g c = λ e.
     many_in_turn c.index-one.result.now c.turns.invariant.state (omega arith) c.index-one.ensures c.in_err-visit.ensures.asks
-    (c.in_err-visit.ensures.too_many (ap Err (sym (rw e at c.from_residual.ensures.1))))
+    (c.in_err-visit.ensures.too_many (ap Err (sym (rw e at c.from_residual-in_err-visit.ensures.1))))
+
+-- ---- the main file requires too many vertices, or memory ran out
+
+pub returns-in_err-worklist-clause-asks : goal.returns-in_err-worklist-clause-asks
+returns-in_err-worklist-clause-asks g c =
+    let same = refused_same _ _ c.from_residual.ensures.1 in
+    in_turn_by refl refl (sym (same ∙ c.in_err-worklist.ensures.not_refused)) (nothing_asked _ _ _ _ c.requires.asked)
+
+pub returns-in_err-worklist-clause-too_many : goal.returns-in_err-worklist-clause-too_many
+returns-in_err-worklist-clause-too_many g c = λ e.
+    let over = c.in_err-worklist.ensures.too_many (ap Err (sym (rw e at c.from_residual.ensures.1))) in
+    too_many_first _ _ _ c.requires.asked
+    (subst (λ (main : Main). OverflowsWith [] (without_excluded main main.requirements)) (sym c.requires.main) over)
