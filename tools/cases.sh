@@ -55,10 +55,8 @@ fi
 programs=("$@")
 [ $# -gt 0 ] || programs=("$CRATE/out/run_cases" "$CRATE/out/run_cases.by-rattle")
 for program in "${programs[@]}"; do
-  if [ ! -x "$program" ]; then
-    echo "cases: there is no program $program: rt ci leaves one by each compiler" >&2
-    exit 1
-  fi
+  { [ -f "$program" ] && [ -x "$program" ]; } ||
+    refuse "there is no program $program: rt ci leaves one by each compiler"
 done
 
 as_user=()
@@ -163,7 +161,7 @@ done
 echo "$passed passed, $failed failed"
 [ "$failed" -eq 0 ] && [ -z "$lacking" ] || exit 1
 if [ -n "$checked" ]; then
-  [ "$(checksum_of_program)" = "$sources" ] || { echo "cases: the sources aren't those at the start" >&2 && exit 1; }
+  [ "$(checksum_of_program)" = "$sources" ] || refuse "the sources aren't those at the start"
   mkdir -p bin
   printf '%s\n' "none wrong, on $(date --utc +%F) at commit $commit" "$sources" > "$RECORD"
 fi

@@ -21,10 +21,9 @@ docs/use/GO.md; a result can differ in several. The status is 1 if there is a di
 difference of its row and of no other, and both programs say what tools/go_rows.py has of them.
 
 --check compares a tidy module with the cache that `go mod download` filled, example/go.mod, example/tidy.mod, and the
-worlds of --rows, with the answers of go 1.19.8 in tools/go_answers.json (tools/recorded_go.py). The status is 1 unless
-there is no difference without a name, each one is named if gomod leaves out a line of a command, and a proxy without
-the .info of a pruned-out module is found, and so are a row taken out of docs/use/GO.md, one without a world, and a
-world with a difference that has no row.
+worlds of --rows, with the answers of go 1.19.8 in tools/go_answers.json (tools/recorded_go.py). Mistakes have to be
+found, too: a command without a line, a proxy without the .info of a pruned-out module, and a row, a world or a
+difference without the others.
 
 It needs bin/gomod (./build makes it), a go command of 1.19 or later (in Debian: apt-get install golang-go) and python3.
 300 worlds take about 35 s of CPU time.
@@ -88,7 +87,7 @@ class Differences:
 
     def count(self, command, kind, number=1):
         if kind not in (SAME, BOTH) and kind not in self.names:
-            raise SystemExit(f"compare-go: docs/use/GO.md has no row '{kind}'")
+            sys.exit(f"compare-go: docs/use/GO.md has no row '{kind}'")
         self.counts[command][kind] += number
 
     def add(self, others):
@@ -589,7 +588,7 @@ def compare_tidy(go, room, found):
         commands = Commands(go, f"{room}/{words[0]}", proxy)
         ran = commands.ask_go(main, "mod", *words, mod="mod")
         if ran.status:
-            raise SystemExit(f"compare-go: go mod {words[0]} failed: {ran.err}")
+            sys.exit(f"compare-go: go mod {words[0]} failed: {ran.err}")
     compare_cache(go, f"{commands.cache}/cache/download", f"{main}/go.mod", 0, 1, room, found)
 
 
@@ -633,7 +632,7 @@ def compare_rows(go, name, found):
     for it in sorted(named - found.names):
         print(f"tools/go_rows.py: docs/use/GO.md has no row '{it}'")
     if found.names != named:
-        raise SystemExit("compare-go: docs/use/GO.md has other rows than tools/go_rows.py has worlds for")
+        sys.exit("compare-go: docs/use/GO.md has other rows than tools/go_rows.py has worlds for")
     for row in go_rows.ROWS:
         if name in ("", row.name):
             in_scratch(compare_row_world, go, row, found)
@@ -665,11 +664,12 @@ def main(*words):
     parser.add_argument("--cache")
     parser.add_argument("--mod", default="go.mod")
     asked = parser.parse_args(words)
-    go = shutil.which(asked.go)
-    if not go:
-        raise SystemExit(f"compare-go: there is no command '{asked.go}': install go, or name one with --go")
-    go, found = os.path.realpath(go), Differences()
-    print(subprocess.run([go, "version"], capture_output=True, text=True, check=True).stdout.strip())
+    if asked.worlds < 0 or asked.cache and not os.path.isdir(asked.cache):
+        script.misused("it takes a number, and --cache a folder")
+    if asked.rows and asked.rows not in {it.name for it in go_rows.ROWS}:
+        script.misused(f"there is no row '{asked.rows}'")
+    (go, version), found = script.real_go(asked.go), Differences()
+    print(version)
     if asked.rows is not None:
         compare_rows(go, asked.rows, found)
     elif asked.cache:

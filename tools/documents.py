@@ -528,4 +528,4 @@ def main(*names):
 
 
 if __name__ == "__main__":
-    script.run(main, "( --accept .+| [^-].*)?")
+    script.run(main, r"(( --accept)?( (?!-)\S+)+)?")

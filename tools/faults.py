@@ -277,8 +277,6 @@ class Trial(script.Trial):
 
 def compiled(folder):
     compiler, library = os.environ.get("CC") or "cc", os.path.join(folder, "faults.so")
-    if not shutil.which(compiler):
-        sys.exit(f"faults: there is no command {compiler}: install a C compiler, or name one by CC")
     subprocess.run([compiler, "-O1", "-shared", "-fPIC", "-o", library, "tools/faults.c"], check=True)
     return library
 

@@ -24,6 +24,12 @@ begin_script() {
   done
 }
 
+# Ends with status 1 for a reason.
+refuse() {
+  echo "$(basename "$self" .sh): $*" >&2
+  exit 1
+}
+
 # Refuses the arguments of the script for a reason. The status is 2.
 misused() {
   echo "$(basename "$self" .sh): $1; '$self --help' says what it takes" >&2
@@ -74,10 +80,7 @@ warn_if_older() {
 
 # Ends with status 1 if there is no bin/gomod, and warns if that is older than a source.
 need_gomod() {
-  if [ ! -x bin/gomod ]; then
-    echo "$(basename "$self" .sh): there is no bin/gomod: ./build makes it, which can take an hour (./build --help)" >&2
-    exit 1
-  fi
+  [ -x bin/gomod ] || refuse "there is no bin/gomod: ./build makes it, which can take an hour (./build --help)"
   warn_if_older
 }
 

@@ -19,7 +19,6 @@ python3, and takes two seconds.
 
 import collections
 import re
-import sys
 
 import script
 from sources import CRATES, PAGE, code_of, definitions, files, items_of, paths_of, plain, scope_of
@@ -283,7 +282,7 @@ def main(*words):
     if words:
         lines = list(program.why(words[1]))
         print(*lines or [f"no public contract reaches {words[1]}"], sep="\n")
-        sys.exit(0 if lines else 1)
+        return 0 if lines else 1
     misplaced, shared = list(program.misplaced()), program.shared()
     new = [f"{name} stands in {' and '.join(files)}" for name, files in shared.items()]
     unread = list(program.unread())
@@ -291,7 +290,7 @@ def main(*words):
         print(line)
     count = sum(len(it.definitions) for it in program.modules.values())
     print(f"{count} definitions, {len(misplaced)} in the wrong folder; {len(shared)} names stand in two files")
-    sys.exit(1 if misplaced or new or unread else 0)
+    return 1 if misplaced or new or unread else 0
 
 
 if __name__ == "__main__":

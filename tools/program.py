@@ -347,8 +347,8 @@ def main(program, *words):
     """Runs the cases, in this world and in another one, and prints how many passed and failed."""
     options = {it for it in words if it in ("--unproved", "--this", "--other")}
     words = [it for it in words if it not in options]
-    if {"--this", "--other"} <= options:
-        sys.exit("program: --this and --other are for one world each")
+    if words and not chosen_cases(words, moderate_sizes):
+        script.misused(f"it finds no case by '{' '.join(words)}'")
     is_proved, said, wrong = "--unproved" not in options, [], 0
     if "--other" not in options:
         passed, wrong, refusals = run_here(program, is_proved, words)
@@ -368,4 +368,4 @@ def main(program, *words):
 
 
 if __name__ == "__main__":
-    script.run(main, r" (?!-)\S+( .*)?")
+    script.run(main, r" (?!-)\S+( --unproved)?( --this| --other)?( --unproved)?( (?!-)\S+)*")

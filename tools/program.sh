@@ -32,10 +32,8 @@
 # command opens no file but those that the case names, once, to read it, and makes no other call that names a file
 # (tools/opened.py). If there is no strace, or it may not look at processes, the last line says so.
 #
-# If REFUSE_MEMORY names the library that tools/refuse-memory.sh makes, each command runs again with each of its
-# allocations refused in turn: it then has to say that memory ran out, or to have the result of the case. If
-# REFUSE_LATER is set too, each is refused alone and then with all later ones, and the command has to say that memory
-# ran out. There is no other world then.
+# If tools/refuse-memory.sh sets REFUSE_MEMORY, each command runs again with each of its allocations refused, and there
+# is no other world.
 #
 # Without arguments it removes bin/opened.txt, and if all pass and strace is there makes it anew for tools/release.sh:
 # the number of commands, the day and the commit, and the sha256 of bin/gomod. It does neither without git, or in a bin/

@@ -21,11 +21,12 @@ PARTS = re.compile(r"\.(Code|Proof|Answers|Goals|Statement|Met|Layout|Reads|TheL
 
 def main(name, rows="20", minutes=""):
     """Prints the rows."""
-    if not os.path.isdir(f"crates/{name}"):
-        script.misused(f"there is no crate {name}")
+    kept = f"crates/{name}/out/incremental"
+    if not os.path.isdir(kept):
+        script.misused(f"there is no {kept}, which a check leaves")
     since = time.time() - 60 * float(minutes) if minutes else 0
     done = []
-    for folder, _, files in os.walk(f"crates/{name}/out/incremental"):
+    for folder, _, files in os.walk(kept):
         for file in files:
             at = os.stat(f"{folder}/{file}").st_mtime
             if file.endswith(".oantt") and at > since:

@@ -288,4 +288,4 @@ def main(*names):
 
 
 if __name__ == "__main__":
-    script.run(main, r"( --archive \S+|( --quick)?( [^-].*)?)")
+    script.run(main, r"( --archive \S+|( --quick)?( (?!-)\S+)*)")

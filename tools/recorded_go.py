@@ -162,8 +162,7 @@ class Check:
 
 
 def run_all(check):
-    """The comparisons: of a module that go made tidy, with the cache that `go mod download` filled, of the example, of
-    its module with a module that is pruned out; then of a gomod with a fault, and by a script with a fault."""
+    """The comparisons that --check makes."""
     cache = f"{check.room}/cache"
     for name in "cache/download", "mirror":
         shutil.copytree(f"{TOP}/example/{name}", cache, dirs_exist_ok=True)
@@ -190,21 +189,13 @@ def run_all(check):
         check.expect(what, check.run("--rows", ROW, mistake=mistake), 1, says)
 
 
-def real_go(command):
-    found = shutil.which(command)
-    if not found:
-        sys.exit(f"compare-go: there is no command '{command}'")
-    real = os.path.realpath(found)
-    return real, subprocess.run([real, "version"], capture_output=True, text=True, check=True).stdout.strip()
-
-
 def main(*words):
     """Does what tools/compare-go.sh does with these words, and returns the status."""
     match words:
         case ["--check"]:
             real = ""
         case ["--record", command]:
-            real, version = real_go(command)
+            real, version = script.real_go(command)
             write(ANSWERS, json.dumps({"version": version, "answers": {}}))
         case _:
             script.misused("--check takes nothing, --record the name of a go command")

@@ -33,7 +33,7 @@ import tempfile
 
 import script
 from script import read, write
-from sources import crates, with_below
+from sources import crates, files, with_below
 
 PARTS = ("src", "specs", "proofs")
 # what antt says of an answer that names what is no longer there, and what follows its goal here
@@ -173,19 +173,24 @@ def print_table(edits_by_crate):
     return is_well
 
 
-def edits_of(name, chosen):
-    """The edits of a crate that the arguments choose."""
-    if name in chosen:
-        return sorted(it[:-len(".edit")] for it in os.listdir(f"crates/{name}/must-fail") if it.endswith(".edit"))
-    return [word.split("/", 1)[1] for word in chosen if word.startswith(f"{name}/")]
+def edits_of(chosen):
+    """The edits that these words choose, or all, by their crates."""
+    found, left = {}, set(chosen)
+    for name in crates():
+        for edit in (it.stem for it in files("must-fail/*.edit", name)):
+            words = {name, f"{name}/{edit}"}
+            if not chosen or words & set(chosen):
+                found.setdefault(name, []).append(edit)
+                left -= words
+    if left:
+        script.misused(f"there is no edit {' '.join(left)}")
+    return found.items()
 
 
 def main(*words):
     """Tries the edits that the words choose, or prints their table, and returns the status."""
     is_quick = "--only" in words
-    chosen = [word for word in words if word not in ("--only", "--table")]
-    chosen = chosen or [name for name in crates() if os.path.isdir(f"crates/{name}/must-fail")]
-    edits_by_crate = [(name, edits_of(name, chosen)) for name in dict.fromkeys(it.split("/")[0] for it in chosen)]
+    edits_by_crate = edits_of([word for word in words if word not in ("--only", "--table")])
     if "--table" in words:
         return 0 if print_table(edits_by_crate) else 1
     is_well = True
@@ -201,4 +206,4 @@ def main(*words):
 
 
 if __name__ == "__main__":
-    script.run(main)
+    script.run(main, r"( --(only|table))*( (?!-)\S+)*")

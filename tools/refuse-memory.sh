@@ -10,7 +10,7 @@
 #
 # A command whose memory is refused has to say so, or to have the result of its case. A test has to end well, or to fail
 # and say that memory ran out. What does otherwise, crashes or hangs is printed with the number of the refused
-# allocation. The status is 1 if that happened, and 0 if all stood every refusal.
+# allocation. The status is 1 if that happened.
 #
 # --check refuses each allocation alone and then together with all later ones, until a run meets no refusal. In each run
 # before that one the output has to be empty, the report `gomod: no memory` and the status 3. It takes 55 s of CPU time,
@@ -29,11 +29,6 @@ begin_script "$@"
 
 readonly DATA=crates/run_cases/data LISTED=tools/refused_cases.txt RECORD=bin/refused.txt
 readonly MOST=200000 # more allocations than any test makes: a guard against a count that doesn't end
-
-refuse() {
-  echo "refuse-memory: $1" >&2
-  exit 1
-}
 
 command -v "${CC:-cc}" > /dev/null || refuse "there is no command ${CC:-cc}: install a C compiler, or name one by CC"
 work=$(mktemp -d)
@@ -105,11 +100,13 @@ refuse_in_tests() {
   echo "$crate: $tests tests, $((runs - before)) runs"
 }
 
+has_tests() { grep -qsr '#\[test\]' "crates/$1/src"; }
+
 # The crates that have tests.
 crates_with_tests() {
   local name
   sed -n 's/^ *\([a-z0-9_]*\).*:.*/\1/p' crates.txt | while read -r name; do
-    ! grep -qsr '#\[test\]' "crates/$name/src" || echo "$name"
+    ! has_tests "$name" || echo "$name"
   done
 }
 
@@ -128,20 +125,23 @@ refuse_everywhere() {
   echo "$program" >> "$RECORD"
 }
 
-case ${1-} in
-  "") refuse_everywhere ;;
-  --check)
+case $#:${1-} in
+  0:) refuse_everywhere ;;
+  *:--check)
     [ $# -eq 1 ] || misused "--check takes nothing"
     refuse_in_listed
     ;;
-  --cases)
+  *:--cases)
     shift
     [ $# -gt 0 ] || set -- "$DATA"/*.txt
     refuse_in_cases "$@"
     ;;
-  -*) misused "there is no option $1" ;;
+  *:-*) misused "there is no option $1" ;;
   *)
-    for crate in "$@"; do refuse_in_tests "$crate"; done
+    for crate in "$@"; do
+      has_tests "$crate" || misused "there is no crate '$crate' with tests"
+      refuse_in_tests "$crate"
+    done
     ;;
 esac
 if [ "$failures" -ne 0 ]; then

@@ -18,10 +18,8 @@
 # It refuses an archive that fails this check and, without --unproved, a program whose version doesn't say that it is
 # proved. Unless --check is given, it also refuses a program that isn't the one that the last proof left at
 # crates/gomod/out/gomod, a gate that failed or ran with another program, changes that aren't committed, and a program
-# with which tools/refuse-memory.sh didn't refuse each allocation and find nothing wrong, of which tools/program.sh
-# didn't see, where strace is, what each command opens, or of whose sources `tools/cases.sh --checked` didn't run the
-# cases with checks: these scripts leave bin/refused.txt, bin/opened.txt and bin/checked.txt, whose first lines this one
-# prints.
+# for which tools/refuse-memory.sh, tools/program.sh (where strace is) and `tools/cases.sh --checked` didn't leave
+# bin/refused.txt, bin/opened.txt and bin/checked.txt, whose first lines it prints.
 #
 # It needs bin/gomod, git, GNU tar, gzip and python3. It prints what the check found, the names of the files, the gate's
 # last line and the sha256. The status is 1 if it refuses, and 2 for wrong arguments. .ci/run runs --check at its end.
@@ -31,11 +29,6 @@ cd "$(dirname "$0")/.."
 # shellcheck source=tools/lib.sh
 . tools/lib.sh
 begin_script "$@"
-
-refuse() {
-  echo "release: $1" >&2
-  exit 1
-}
 
 # The least version of glibc that a program needs: the greatest of those whose symbols it names.
 least_glibc() { grep -aoE 'GLIBC_[0-9]+(\.[0-9]+)+' "$1" | cut -d _ -f 2 | sort -uV | tail -n 1; }
@@ -95,8 +88,8 @@ to=$from gate='' refusals='' opened='' checked='' check='' unproved=''
 case $#:${1-}:${2-} in
   1:--check:) check=yes ;;
   2:--check:--unproved) check=yes unproved=yes ;;
-  1:*:) to=$1 ;;
-  3:*:--gate) to=$1 gate=$3 ;;
+  1:?*:) to=$1 ;;
+  3:?*:--gate) to=$1 gate=$3 ;;
   *) misused "it takes --check, or a folder and possibly --gate and a line" ;;
 esac
 case $to in

@@ -9,6 +9,7 @@ import itertools
 import os
 import pathlib
 import re
+import shutil
 import subprocess
 import sys
 import tempfile
@@ -29,7 +30,7 @@ def misused(reason):
 def program_of(words):
     """The program that the words name after --program, or bin/gomod, and the other words."""
     if words[:1] == ("--program",):
-        if not os.access(words[1], os.X_OK):
+        if not (os.path.isfile(words[1]) and os.access(words[1], os.X_OK)):
             misused("--program takes an executable file")
         return os.path.realpath(words[1]), words[2:]
     need_gomod()
@@ -40,6 +41,15 @@ def need_gomod():
     """Ends if there is no bin/gomod, and warns if that is older than a source."""
     if subprocess.run(["bash", "-c", ". tools/lib.sh; need_gomod", f"tools/{NAME}.sh"]).returncode:
         sys.exit(1)
+
+
+def real_go(command):
+    """The path of a go command, and its version."""
+    found = shutil.which(command)
+    if not found:
+        sys.exit(f"{NAME}: there is no command '{command}': install go, or name one with --go")
+    real = os.path.realpath(found)
+    return real, subprocess.run([real, "version"], capture_output=True, text=True, check=True).stdout.strip()
 
 
 def git(*words, top="."):
@@ -132,8 +142,11 @@ def checksum(text):
 
 def run(main, takes=".*", own=".*"):
     """Ends with what the main function makes of the words, which have a form, each after a blank; or prints the
-    docstring if one of its own words asks for it: those that this form has, where words of a command follow."""
+    docstring if one of its own words asks for it: those that this form has, where words of a command follow. If a file
+    can't be read or written, or a command fails, it says so, with status 1."""
     words = sys.argv[1:]
+    if sys.stdout is None:
+        sys.exit(f"{NAME}: the standard output is closed")
     # a blank within a word would make two of it
     text = "".join(" " + re.sub(r"\s", "\0", it) for it in words)
     if re.search(r" (-h|--help)( |$)", re.match(own, text)[0]):
@@ -141,4 +154,12 @@ def run(main, takes=".*", own=".*"):
         sys.exit()
     if not re.fullmatch(takes, text):
         misused(f"it doesn't take '{' '.join(words)}'" if words else "it takes arguments")
-    sys.exit(main(*words))
+    try:
+        status = main(*words)
+        sys.stdout.flush()
+    except (OSError, subprocess.CalledProcessError) as fault:
+        # python would report once more what it can't write
+        status, sys.stdout = f"{NAME}: {fault}", None
+    except KeyboardInterrupt:
+        status = 130
+    sys.exit(status)

@@ -10,7 +10,6 @@ They stand between the marks `<!-- show trusted -->` and `<!-- end -->`. What sp
 differs, or has no marks.
 """
 
-import os
 import pathlib
 import re
 
@@ -34,8 +33,6 @@ def said(log):
 
 def main(*words):
     """Compares what a log says with the page, or writes it there, and returns the status."""
-    if not os.access(words[-1], os.R_OK):
-        script.misused("it takes the log of a check")
     text, lines = PAGE.read_text(), said(pathlib.Path(words[-1]).read_text(errors="replace"))
     shown = MARKS.search(text)
     if shown is None:
