@@ -45,8 +45,10 @@ PAGE = pathlib.Path("crates/page")
 CHANGES = pathlib.Path("tools/page_changes.txt")
 COUNTED = pathlib.Path("docs/proof/HEADLINE.md")
 EQUAL = "== equal forms\n\n"
-PLACE = re.compile("⟪(.*?) ⇒ (.*?)⟫")
-SEEN, AGAINST = "seen", "against "
+# a block, in which each mark stands once
+SIDE = "([^⟪⇒⟫\n]*)"
+BLOCK = re.compile(rf"(\w+: .+)\n([\w/]+)\n{SIDE}⟪{SIDE} ⇒ {SIDE}⟫{SIDE}((?:\nuse .*)*)"
+                   r"(?:\nagainst (.*(?:\n  .*)*))?(\nseen)?")
 # What the proofs of the law, and of runs without an outcome, are in: files, and how lemmas of other files begin.
 LAW = {"OneOutcome"}, ("same_lists",)
 NONE = {"Nothing"}, ("none_", "not_")
@@ -113,13 +115,14 @@ class Change:
 
 def changes():
     """All changes, those of the meaning first."""
-    for is_equal, part in enumerate(CHANGES.read_text().split(EQUAL)):
+    for is_equal, part in enumerate(CHANGES.read_text().split(EQUAL, 1)):
         for block in part.strip().split("\n\n"):
-            title, file, changed, *more = block.split("\n")
-            uses = [line for line in more if line.startswith("use ")]
-            against = "\n".join(line.removeprefix(AGAINST) for line in more if line.startswith((AGAINST, "  ")))
-            old, new = (PLACE.sub(rf"\{side}", changed).replace("¶", "\n") for side in (1, 2))
-            yield Change(title, file, old, new, against, uses, bool(is_equal), SEEN in more)
+            found = BLOCK.fullmatch(block)
+            if not found:
+                sys.exit(f"change-page: {CHANGES} has a block that lacks a mark or has one twice:\n{block}")
+            title, file, before, goes, comes, after, uses, against, seen = found.groups("")
+            old, new = (f"{before}{it}{after}".replace("¶", "\n") for it in (goes, comes))
+            yield Change(title, file, old, new, against, uses.split("\n")[1:], bool(is_equal), bool(seen))
 
 
 def constructors():
@@ -277,6 +280,8 @@ def main(*words):
         wrong = try_all(in_turn([it for it in numbered if it[1].is_seen]), int(words[1]))
     else:
         chosen = {int(it) for it in words if it != "--all"}
+        if max(chosen, default=0) > len(numbered):
+            script.misused(f"there are {len(numbered)} changes")
         wrong = try_all([it for it in numbered if it[0] in chosen or words == ("--all",)], 0)
     return int(wrong > 0)
 
