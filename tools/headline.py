@@ -24,9 +24,9 @@ HEADLINE.md may have 45 definitions and 170 lines. A leaf is what another page d
 (NAMES.md), what bytes and answers say (DIRECTIVES.md), texts, the limit, the rest after a path and the go.sum
 (REPORTS.md); or what the code or the standard library does.
 
-The last lines count what one reads to believe the contract of `gomod_run::run`. A definition is reached if a name of it
-stands in a clause or in a definition that is reached, and it has as many lines as are neither empty nor a comment. A
-type of the code is private if its crate doesn't export it.
+The last lines count what one reads to believe the contract of `gomod_run::run`, as HEADLINE.md says. A definition is
+reached if a name of it stands in a clause or in a definition that is reached, and it has as many lines as are neither
+empty nor a comment. A type of the code is private if its crate doesn't export it.
 
 The status of --check is 1 if a page or a copy is out of step.
 """
@@ -241,6 +241,7 @@ class Page:
 
 
 MOST_DEFINITIONS, MOST_LINES = 45, 170  # from `ListEnds` to the leaves
+NUMBERS = "no one two three four five six seven".split()
 LEAF_PAGES = ("NAMES.md", "DIRECTIVES.md", "REPORTS.md")
 
 
@@ -254,7 +255,8 @@ def keep_short(page, others):
     lines = sum(it.size() for it in found)
     most = f"at most {MOST_DEFINITIONS} and {MOST_LINES}"
     print(f"{page.path}, from `ListEnds`: {len(found)} definitions, {lines} lines; {most}")
-    return len(absent) + (len(found) > MOST_DEFINITIONS) + (lines > MOST_LINES)
+    is_miscounted = miscounted(page, [f"{len(found)}, from `ListEnds` down, on this page"])
+    return len(absent) + (len(found) > MOST_DEFINITIONS) + (lines > MOST_LINES) + is_miscounted
 
 
 def source_of(one):
@@ -275,14 +277,6 @@ def offered(crate):
 
 def is_private(leaf):
     return bool(leaf.owner) and leaf.owner[1] not in offered(leaf.owner[0])
-
-
-def size_of(found):
-    """What these names reach, in words, and how many private types are among it."""
-    reached, leaves = reached_from(found)
-    size, files = sum(it.size() for it in reached), {it.file for it in reached}
-    private = {it.owner for it in leaves if is_private(it)}
-    return f"{len(reached)} definitions, {size} lines, in {len(files)} files", len(private)
 
 
 # ---- the crate that a reader can change
@@ -371,27 +365,33 @@ def renew_copies(option):
     return wrong + sum(script.keep(path, text, bool(option), "tools/headline.sh") for path, text in texts.items())
 
 
-def unshown(found, pages):
-    """The definitions that these names reach and that no page shows, and how many pages show the others."""
-    reached = reached_from(found)[0]
-    shown = {it for page in pages for it in page.defined}
-    return [it for it in reached if it not in shown], sum(any(it in page.defined for it in reached) for page in pages)
+def miscounted(page, says):
+    """How many of these texts with a count the page doesn't have."""
+    lacks = [it for it in says if it not in page.text]
+    for it in lacks:
+        print(f"{page.path}: it should say: {it}")
+    return len(lacks)
 
 
 def counts(pages):
-    """Prints how much the contract of `run` reaches, and gives how many definitions of it are on no page."""
-    clauses = clauses_of(RUNNING, "run")
+    """Prints how much the contract of `run` reaches, and gives how many definitions of it are on no page, and how many
+    counts HEADLINE.md has otherwise."""
+    clauses, sizes = clauses_of(RUNNING, "run"), []
     ends, every = (
         [it for _, it in used_in_clauses(RUNNING, of)] for of in ([clauses["ends"]], clauses.values())
     )
     for title, found in (("`list`", [place(*it) for it in LIST]), ("clause `ends`", ends), ("all clauses", every)):
-        size, private = size_of(found)
-        left, used = unshown(found, pages)
-        where = f"on {used} pages, {len(left)} on no page"
-        print(f"gomod_run::run, {title}: {size}, {where}; {private} private types of the code")
+        reached, leaves = reached_from(found)
+        files, private = {it.file for it in reached}, {it.owner for it in leaves if is_private(it)}
+        used = [page for page in pages if any(it in page.defined for it in reached)]
+        left = [it for it in reached if not any(it in page.defined for page in used)]
+        sizes += [len(reached), sum(it.size() for it in reached), NUMBERS[len(used)]]
+        print(f"gomod_run::run, {title}: {sizes[-3]} definitions, {sizes[-2]} lines, in {len(files)} files, on "
+              f"{len(used)} pages, {len(left)} on no page; {len(private)} private types of the code")
         for it in left:
             print(f"  {it.name} of {it.file} is on no page")
-    return len(unshown(every, pages)[0])
+    says = [f"in {sizes[0]} definitions of {sizes[1]:,} lines, all on {sizes[2]} pages", f"all {sizes[1]:,} lines"]
+    return len(left) + miscounted(pages[0], [*says, f"they are {sizes[-3]}."])
 
 
 def main(option=""):
