@@ -2,8 +2,7 @@
 more lemmas have which say different things, and the statements that are proved twice or more often.
 
     tools/lemmas.sh            each such lemma, with the standard library's, each such name, statement, and the counts
-    tools/lemmas.sh --check    the same, with status 1 if there is such a lemma, more than 20 such names, or another
-                               number of such statements than TWICE
+    tools/lemmas.sh --check    the same, with status 1 if there is such a lemma or statement, or more than 20 such names
 
 A lemma restates another if their types are the same text once all variables are renamed in the order in which they
 come, and brackets and blanks are left out. So one with other premises, or over another type, isn't counted. The
@@ -15,7 +14,6 @@ seconds.
 import collections
 import pathlib
 import re
-import shutil
 import subprocess
 import sys
 
@@ -23,8 +21,6 @@ import script
 from sources import PAGE, files
 
 MOST_SHARED = 20
-# how many statements are proved twice or more often, a number that only falls
-TWICE = 0
 LEMMA = re.compile(r"(?m)^(?:pub )?([^\s:(){}]+) : (.+(?:\n[ \t]+\S.*)*)")
 NAME = re.compile(r"[^\s(){}\[\],;.]+")
 # variables that a type binds: `(x y : T)`, `{x y : T}`, `λ (x : T).`, `λ x y.`
@@ -65,8 +61,6 @@ def own_lemmas():
 
 def main(*words):
     """Lists and counts, or checks the counts, too."""
-    if not shutil.which("rt"):
-        sys.exit("lemmas: there is no rt: put the toolchain's bin/ on the PATH")
     guide = subprocess.run(["rt", "doc"], capture_output=True, text=True, check=True).stdout.strip()
     known = standard_lemmas(pathlib.Path(guide).parent)
     restated, meanings, places = [], collections.defaultdict(set), collections.defaultdict(list)
@@ -83,11 +77,9 @@ def main(*words):
     print(f"{len(restated)} lemmas restate one of the standard library")
     print(f"{len(shared)} names have three or more lemmas that differ")
     print(f"{len(twice)} statements are proved twice or more often")
-    if words and (restated or len(shared) > MOST_SHARED or len(twice) > TWICE):
-        sys.exit(f"lemmas: cite the lemmas of the standard library and of lower crates, and let at most {MOST_SHARED} "
-                 f"names be shared and {TWICE} statements be proved twice")
-    if words and len(twice) < TWICE:
-        sys.exit(f"lemmas: fewer statements are proved twice: let TWICE of tools/lemmas.py be {len(twice)}")
+    if words and (restated or len(shared) > MOST_SHARED or twice):
+        sys.exit("lemmas: cite the lemmas of the standard library and of lower crates, prove no statement twice, and "
+                 f"let at most {MOST_SHARED} names be shared")
 
 
 if __name__ == "__main__":
