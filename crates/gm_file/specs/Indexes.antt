@@ -37,5 +37,6 @@ pub record IndexLines (rs : List Replacing) (by_version : map.BTreeMap ModuleVer
   pub paths : (p : List ℕ) → right_at (slice_cmp nat_cmp) by_path p ≡ right_for rs (left_without p)
   pub agree : (x : Replacing) → list_any (is_conflict x) rs ≡ differs x.1 (right_for rs x.0)
 
+-- Its maps are those of its lines.
 abbrev pub AreIndexed : Replacements → Type 0
 AreIndexed r = IndexLines (replace_views r.lines.items) r.by_version r.by_path

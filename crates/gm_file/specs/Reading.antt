@@ -4,6 +4,7 @@ use Rattle.gm_file.specs.declared.fault.DirectiveKind.{DirectiveKind}
 use Rattle.gm_file.specs.Directives.{Replacing, Directive, DeclaresModule, DeclaresGo, Requires, Excludes, Replaces, Retracts, Kept}
 use Rattle.gm_file.specs.Faults.{ends_kinds, pair_kinds, path_kinds, sides_kinds}
 
+-- the kinds of faults that a replacement has by itself
 abbrev pub replacing_kinds : Replacing → List DirectiveKind
 replacing_kinds r = sides_kinds r.0 r.1
 

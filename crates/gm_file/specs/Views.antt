@@ -21,19 +21,24 @@ use Rattle.gm_name.specs.declared.version.VersionFault.TheVariants as version
 use Rattle.gm_file.specs.Directives.{Mode, VersionInterval, Replacing, Right, Folder, Module}
 use Rattle.gm_file.specs.Faults.{fault_of}
 
+-- the right side of a `replace`, as contracts state it
 abbrev pub right_view : declared.Right → Right
 right_view (right.Folder text) = Folder (string_bytes text)
 right_view (right.Module path version) = Module path version
 
+-- a `replace`, as contracts state it
 abbrev pub replace_view : Replace → Replacing
 replace_view r = (record { path = r.left; version = r.version }, right_view r.right)
 
+-- a list of them
 abbrev pub replace_views : List Replace → List Replacing
 replace_views rs = map replace_view rs
 
+-- an interval, as contracts state it
 abbrev pub interval_view : Interval → VersionInterval
 interval_view i = (i.low, i.high)
 
+-- a list of them
 abbrev pub interval_views : List Interval → List VersionInterval
 interval_views is = map interval_view is
 
@@ -42,16 +47,18 @@ abbrev pub ReportsFault : Mode → List (Line Word) → FileFault → Type 0
 ReportsFault mode lines fault.NoMemory = ⊤
 ReportsFault mode lines (fault.Directive line kind) = fault_of mode lines ≡ Some (line, kind)
 
--- the fault of a line whose path, version or pair is refused
+-- the fault of a line whose path is refused
 abbrev pub of_path_fault : PathFault → LineFault
 of_path_fault path.NoMemory = line.NoMemory
 of_path_fault path.BadPath = line.Kind BadPath
 
+-- the same of a version
 abbrev pub of_version_fault : VersionFault → LineFault
 of_version_fault version.NoMemory = line.NoMemory
 of_version_fault version.BadVersion = line.Kind BadVersion
 of_version_fault version.NotCanonical = line.Kind BadVersion
 
+-- the same of a path and a version
 abbrev pub of_pair_fault : PairFault → LineFault
 of_pair_fault pair.NoMemory = line.NoMemory
 of_pair_fault pair.BadPath = line.Kind BadPath

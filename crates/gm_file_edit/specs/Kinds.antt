@@ -11,6 +11,7 @@ is_drop (Set s) = false
 is_drop (Add a) = false
 is_drop (Drop t) = true
 
+-- the directive that a setting sets
 abbrev pub directive_set : Setting → Directive
 directive_set (ModuleIs path) = DeclaresModule path
 directive_set (GoIs text) = DeclaresGo text
@@ -23,6 +24,7 @@ set_by (Set s) = Some (directive_set s)
 set_by (Add a) = None
 set_by (Drop t) = None
 
+-- the directive that an addition adds
 abbrev pub directive_added : Addition → Directive
 directive_added (Exclude p) = Excludes p
 directive_added (Retract ends) = Retracts ends

@@ -15,5 +15,6 @@ Entry = Step × Option Right
 abbrev pub entry_of_row : Row declared.Right → Entry
 entry_of_row row = (row.step, option_map right_view row.right)
 
+-- rows, as contracts state them
 abbrev pub entries_of_rows : List (Row declared.Right) → List Entry
 entries_of_rows rows = map entry_of_row rows

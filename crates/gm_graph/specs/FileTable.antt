@@ -6,9 +6,10 @@ use Rattle.gm_graph.specs.declared.cache.file_table.FileTable.{FileTable}
 use Rattle.gm_graph.specs.declared.cache.summary.Kept.{Kept}
 use Rattle.gm_graph.specs.Places.{place_among}
 
--- the place of the file of a name, and what is kept of the file
+-- the place of the file of a name
 abbrev pub place_of : FileTable → Name → Option ℕ
 place_of files name = place_among files.names.items name
 
+-- what is kept of the file of a name
 abbrev pub kept_at : FileTable → Name → Option Kept
 kept_at files name = option_and_then (slice_get files.files.items) (place_of files name)

@@ -4,6 +4,7 @@ use Rattle.gm_store.specs.Asked.{Name, name_of}
 use Rattle.gm_graph.specs.declared.cache.load_fault.LoadFault.{LoadFault}
 use Rattle.gm_graph.specs.declared.cache.load_fault.LoadFault.TheVariants.{NoMemory, Device, TooMany}
 
+-- the name on which the device failed, if that is the fault
 abbrev pub refused_names : LoadFault → List Name
 refused_names NoMemory = []
 refused_names (Device name) = name_of name ∷ []

@@ -9,12 +9,13 @@ use Rattle.gm_graph.specs.declared.cache.depth.Depth.TheVariants.{Top, Deep}
 abbrev pub turn : ModuleVersion → Depth → Turn
 turn x d = record { vertex = x; depth = d }
 
--- the same turn
+-- the same depth
 abbrev pub same_depth : Depth → Depth → Bool
 same_depth Top Top = true
 same_depth Top Deep = false
 same_depth Deep Top = false
 same_depth Deep Deep = true
 
+-- the same turn
 abbrev pub same_turn : Turn → Turn → Bool
 same_turn a b = pair_eq a.vertex b.vertex && same_depth a.depth b.depth

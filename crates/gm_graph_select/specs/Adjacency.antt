@@ -70,6 +70,7 @@ pub record IsNumbered (count : ℕ) (one : StepEdges) : Type 0 where
   pub from : IsBelow count one.from
   pub to : All (λ number. number < count) one.to
 
+-- So is each number of each of these steps.
 abbrev pub HaveNumbers : ℕ → List StepEdges → Type 0
 HaveNumbers count all = All (IsNumbered count) all
 

@@ -13,6 +13,7 @@ use Rattle.gm_graph_select.specs.Graph.{edge}
 abbrev pub NumberedEdge : Type 0
 NumberedEdge = Option ℕ × ℕ
 
+-- the edge between the steps with these numbers
 abbrev pub edge_with : List ModuleVersion → NumberedEdge → Edge
 edge_with vertices pair = edge (step_with vertices pair.0) (module_at vertices pair.1)
 
@@ -27,5 +28,6 @@ abbrev pub step_of_ref : Option (Bor ModuleVersion) → Step
 step_of_ref None = Main
 step_of_ref (Some vertex) = Of vertex.now
 
+-- the edge that is lent
 abbrev pub edge_of_ref : EdgeRef → Edge
 edge_of_ref one = edge (step_of_ref one.from) one.to.now

@@ -13,6 +13,7 @@ use Rattle.gm_graph_select.specs.declared.step.Edge.{Edge}
 abbrev pub Edges : Type 1
 Edges = Step → ModuleVersion → Type 0
 
+-- the edge from a step to a vertex
 abbrev pub edge : Step → ModuleVersion → Edge
 edge s y = record { from = s; to = y }
 

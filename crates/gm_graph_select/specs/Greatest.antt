@@ -12,6 +12,7 @@ first_has_path path (first ∷ rest) = bytes_eq first.0 path
 abbrev pub is_selected : List ℕ → ModuleVersion → List ModuleVersion → Bool
 is_selected main x behind = not (bytes_eq x.0 main) && not (first_has_path x.0 behind)
 
+-- the selected ones of vertices in ascending order, in that order
 abbrev pub greatest_of : List ℕ → List ModuleVersion → List ModuleVersion
 greatest_of main [] = []
 greatest_of main (x ∷ behind) = if is_selected main x behind then x ∷ greatest_of main behind

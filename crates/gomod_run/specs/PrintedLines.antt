@@ -58,6 +58,7 @@ abbrev pub IsProperRow : Entry → Type 0
 IsProperRow (Main, right) = right ≡ None
 IsProperRow (Of x, right) = IsPath x.0 × IsVersion x.1 × IsProperRight right
 
+-- Each row is proper.
 abbrev pub AreProperRows : List Entry → Type 0
 AreProperRows = AreAll Entry IsProperRow
 
@@ -68,12 +69,15 @@ abbrev pub IsProperStep : Step → Type 0
 IsProperStep Main = ⊤
 IsProperStep (Of x) = IsPath x.0 × IsVersion x.1
 
+-- Each step is proper.
 abbrev pub AreProperSteps : List Step → Type 0
 AreProperSteps = AreAll Step IsProperStep
 
+-- Both ends are proper steps.
 abbrev pub IsProperEdge : Edge → Type 0
 IsProperEdge edge = IsProperStep edge.from × IsProperStep (Of edge.to)
 
+-- Each edge is proper.
 abbrev pub AreProperEdges : List Edge → Type 0
 AreProperEdges = AreAll Edge IsProperEdge
 
@@ -88,6 +92,7 @@ IsProperClass _ = ⊤
 abbrev pub IsProperFault : Fault → Type 0
 IsProperFault fault = IsPath fault.vertex.0 × IsVersion fault.vertex.1 × IsProperClass fault.class
 
+-- Each fault is proper.
 abbrev pub AreProperFaults : List Fault → Type 0
 AreProperFaults = AreAll Fault IsProperFault
 
@@ -116,12 +121,13 @@ abbrev pub RunHasProperRows : Type 0
 RunHasProperRows = (run : Given) (main : MainFile) (table : Option Sums) (rows : List Entry)
     → FilesReadAs run.file run.sums main table → AreRows (run_of main table run.answers.asked) rows → AreProperRows rows
 
--- And so are its edges, and the steps of a chain.
+-- And so are its edges.
 abbrev pub RunHasProperEdges : Type 0
 RunHasProperEdges = (run : Given) (main : MainFile) (table : Option Sums) (edges : List Edge)
     → FilesReadAs run.file run.sums main table → AreEdges (run_of main table run.answers.asked) edges
     → AreProperEdges edges
 
+-- And so are the steps of a chain.
 abbrev pub RunHasProperSteps : Type 0
 RunHasProperSteps = (run : Given) (main : MainFile) (table : Option Sums) (s : Step) (steps : List Step)
     → FilesReadAs run.file run.sums main table → IsChain (IsEdge (run_of main table run.answers.asked)) s steps

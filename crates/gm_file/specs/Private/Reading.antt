@@ -32,10 +32,11 @@ IsPartRead view wrong kinds part (Ok y) = (part ≡ Some (view y)) × (kinds (vi
 IsPartRead view wrong kinds part (Err line.NoMemory) = ⊤
 IsPartRead view wrong kinds part (Err (line.Kind kind)) = first (part_kinds wrong kinds part) ≡ Some kind
 
--- the texts of the sides of a replace
+-- the text of the left side of a replace
 abbrev pub left_text_view : LeftText → Left
 left_text_view left = record { path = string_bytes left.path; version = option_map string_bytes left.version }
 
+-- the text of its right side
 abbrev pub right_text_view : RightText → Right
 right_text_view (text.Folder folder) = Folder (string_bytes folder)
 right_text_view (text.Module path version) = Module (string_bytes path) (string_bytes version)

@@ -19,7 +19,7 @@ abbrev pub items_in : Destination → Requirements
 items_in (place.Own pairs) = record { before = None; items = pairs.items }
 items_in (place.End list before) = record { before = Some before.list; items = added before.list list }
 
--- the list is what it was before, with these modules put to its end
+-- A list that requirements are put to the end of is what it was before, with these modules put to its end.
 abbrev pub IsGrownList : Destination → Type 0
 IsGrownList (place.Own pairs) = ⊤
 IsGrownList (place.End list before) = Appends before.list list (added before.list list)

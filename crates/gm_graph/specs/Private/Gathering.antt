@@ -29,6 +29,7 @@ abbrev pub sources_from : ℕ → List (Option ℕ) → List Source
 sources_from number [] = []
 sources_from number (place ∷ places) = source_at number place ++ sources_from (suc number) places
 
+-- the sources: the main module, and each vertex that has a file, by the places of the vertices' files
 abbrev pub gathered_sources : List (Option ℕ) → List Source
 gathered_sources places = record { from = None; list = 0 } ∷ sources_from 0 places
 
@@ -50,6 +51,8 @@ spans_from used place from [] = []
 spans_from used place from (own ∷ others) =
     let span = span_after from (used place) own in span ∷ spans_from used (suc place) span.end others
 
+-- where all lists are: that of the main file, whose requirements are so many, and the own list of each file, which is
+-- empty if the file is not used
 abbrev pub spans_of : ℕ → List Kept → (ℕ → Bool) → List Span
 spans_of first files used = record { start = 0; end = first } ∷ spans_from used 0 first (map own_span files)
 

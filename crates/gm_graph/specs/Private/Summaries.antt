@@ -76,11 +76,12 @@ abbrev pub IsSummaryIn : Main → List ModuleVersion → List Kept → Summary �
 IsSummaryIn main modules files summary = IsSummary main modules summary
     × ((place : ℕ) → summary.same_as ≡ Some place → own_span_at files place ≡ Some summary.kept)
 
--- The same of what is kept of a file, which may be a fault, and of all files.
+-- The same of what is kept of a file, which may be a fault.
 abbrev pub IsKeptIn : Main → List ModuleVersion → List Kept → Kept → Type 0
 IsKeptIn main modules files (Valid summary) = IsSummaryIn main modules files summary
 IsKeptIn main modules files (Faulty class) = ⊤
 
+-- The same of each of these files that has no fault.
 abbrev pub AreKeptIn : Main → List ModuleVersion → List Kept → Type 0
 AreKeptIn main modules files = (place : ℕ) (summary : Summary) → slice_get files place ≡ Some (Valid summary)
     → IsSummaryIn main modules files summary

@@ -4,6 +4,7 @@ use Rattle.std.specs.List.{flat_map}
 use Rattle.std.specs.Option.{option_to_list}
 use Rattle.gm_graph_select.specs.declared.adjacency.Source.{Source}
 
+-- The number is marked; one past the end is not.
 abbrev pub HasMark : List Bool → ℕ → Type 0
 HasMark marks number = slice_index_or marks number false ≡ true
 

@@ -14,6 +14,7 @@ use Rattle.gm_graph_select.specs.Order.{IsAscending}
 abbrev pub steps_of : GraphView → List Step
 steps_of graph = Main ∷ map Of graph.vertices
 
+-- the step with a number: the main module if there is none
 abbrev pub step_at : List Step → ℕ → Step
 step_at steps number = slice_index_or steps number Main
 

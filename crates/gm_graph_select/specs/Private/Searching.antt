@@ -18,6 +18,7 @@ IsWithin edges level s = (n : ℕ) × (n ≤ level) × Leads edges s n
 
 -- ---- visits
 
+-- the visit at a place: one of the main module if there is none
 abbrev pub visit_at : List Visit → ℕ → Visit
 visit_at visits place = slice_index_or visits place (record { number = 0; before = 0 })
 
