@@ -44,8 +44,8 @@ pub fn chain_is_shortest()
 {}
 
 /// When `graph` prints edges, the rows of `list` are the build list of exactly these edges, and `chain`
-/// prints the chain over exactly these edges to the build list's entry for the path. When `graph` prints
-/// nothing, the other two print nothing either and report the same.
+/// prints the chain over exactly these edges to the build list's entry for the path. When `graph` reports an
+/// error, the other two print nothing and report the same.
 pub fn one_graph()
     ensures graph { OneGraph }
     ensures refusal { OneRefusal }
