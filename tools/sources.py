@@ -20,7 +20,7 @@ PAGE = "page"  # the crate whose definitions are copies of others
 USE = re.compile(r"(?m)^ *((?:unfoldable |pub |ghost )*)use ([\w.]+?)(?:\.\{([^}]*)\}| as (\w+))?;?$")
 # one of the code: its path, the names in braces, another name
 PATHS = re.compile(r"(?ms)^ *(?:pub(?:\(crate\))? )?use ([^;{]+?)(?:::\{([^;]*)\})?(?: as (\w+))?;")
-# the begin of what a file of definitions declares: the words before its name, its kind, the name
+# the beginning of what a file of definitions declares: the words before its name, its kind, the name
 HEAD = re.compile(r"((?:(?:abbrev|unfoldable|opaque|pub) )*)(?:(record|data) )?([^\s:(){}]+)")
 # an item at a margin: its visibility, its kind, its name; what an `impl` is of: a trait, a type
 ITEM = (r"(?m)^{}(?:(pub(?:\([^)]*\))?) )?(?:unsafe |default |const (?=fn)|ghost (?=use))*"
