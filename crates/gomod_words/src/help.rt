@@ -174,7 +174,7 @@ pub(crate) const CHAIN_ABOUT: Help = Help {
         "\
 Prints a shortest chain of requirements from the main module to the version of a module that is
 in the build list, one module on each line: the path of the main module, then PATH@VERSION. A
-main module at go 1.17 or later requires its indirect dependencies itself, so the chain to one of
+tidy go.mod at go 1.17 or later requires its indirect dependencies itself, so the chain to one of
 them has two lines. It is not the chain of imports that go mod why prints."
     ),
 };
@@ -218,7 +218,7 @@ shell replaces '~', at the start of a word. In a wrong folder every module is Mi
 };
 
 /// The help of `--mod`.
-pub(crate) const MOD: Help = alike!("The go.mod file of the main module");
+pub(crate) const MOD: Help = alike!("The go.mod file of the main module, or - for standard input");
 
 /// The help of `--sum`.
 pub(crate) const SUM: Help = alike!(
@@ -329,7 +329,7 @@ macro_rules! query_end {
   PATH@VERSION: TooLong              its go.mod has more than 16777216 bytes
   PATH@VERSION: Malformed LINE KIND  its go.mod is faulty; 'gomod edit --help' explains KIND
   PATH@VERSION: WrongPath            its go.mod declares another path
-  gomod: TooMany                     more than 65536 modules have to be read",
+  gomod: TooMany                     more than 65536 module versions are needed",
             $own,
             "
   gomod: bad proxy DIR               a folder is empty, 'direct' or 'off' (status 2)
