@@ -2,8 +2,8 @@
 
 A command may open the files that its words name, what it needs of the proxy folders that they name, and the go.mod of
 each folder that its main file names as a replacement. It opens them once, to read them, and in the order that the case
-has if that says so. It makes no other call that names a file or reaches the network, starts no process, and reads
-nothing after the end of a file, nor standard input unless the words name it.
+has if that says so. It reads nothing after the end of a file, nor standard input unless the words name it. Once it is
+loaded it makes no calls of the system but OWN, so none that writes elsewhere, starts a process or reaches the network.
 """
 
 import collections
@@ -13,14 +13,20 @@ import subprocess
 import sys
 from typing import NamedTuple
 
-CALLS = "%file,%network,%ipc,read,readv,pread64,preadv,preadv2,clone,clone3,fork,vfork,ftruncate,fchmod,fchown"
+# The calls that a command may make of the system when it is loaded. strace shows all others, and two of these.
+OWN = set("rt_sigaction getrandom brk mmap mremap munmap openat read close lseek write exit_group".split())
+CALLS = "!" + ",".join(sorted(OWN - {"openat", "read"}))
 LINE = re.compile(rb"(\d+) +(.*)\n")
 UNFINISHED, RESUMED = re.compile(rb"(.*) <unfinished \.\.\.>"), re.compile(rb"<\.\.\. \w+ resumed>(.*)")
 CALL = re.compile(rb"(\w+)\((.*)\) += (-?\d+|\?)( .*)?")
 OPEN = re.compile(rb'AT_FDCWD, "((?:\\x[0-9a-f]{2})*)", (O_\S+)')
 HEXADECIMAL = re.compile(rb"(?:\\x[0-9a-f]{2})+")
-# Calls of the loader before the program begins.
-OF_LOADER = re.compile(rb'access\("[^"]*", R_OK\)|newfstatat\(\d+, "", ')
+# Calls of the loader before the program begins, and the last of these.
+OF_LOADER = re.compile(
+    rb'access\("[^"]*", R_OK\)|newfstatat\(\d+, "", '
+    rb"|(?:pread64|mprotect|arch_prctl|set_tid_address|set_robust_list|rseq|prlimit64)\("
+)
+LOADED = b"prlimit64(0, RLIMIT_STACK, NULL, "
 LOADER = re.compile(rb"/etc/ld\.so\.(cache|preload)|/(usr/)?lib\S*/[^/]*\.so[.0-9]*|/proc/sys/vm/overcommit_memory")
 READ_ONLY = {b"O_RDONLY", b"O_NOCTTY", b"O_CLOEXEC"}
 OF_PROXY = re.compile(rb"[^\0]+/@v/(?:list|[^/]+\.mod)", re.S)
@@ -111,7 +117,7 @@ def name_of(text):
 
 def faults_of(calls, allowed_files):
     """What is wrong with the calls of a command."""
-    names, ended, of_loader = [], set(), set()
+    names, ended, is_loading = [], set(), True
     for text in calls:
         found = CALL.fullmatch(text)
         if not found:
@@ -124,10 +130,7 @@ def faults_of(calls, allowed_files):
             ended.discard(result)
             if not READ_ONLY.issuperset(flags.split(b"|")):
                 yield f"opens {name!r} with {flags.decode()}"
-            if LOADER.fullmatch(name):
-                of_loader.add(result)
-            else:
-                of_loader.discard(result)
+            if not LOADER.fullmatch(name):
                 names.append(name)
         elif call == b"read":
             file = words.split(b",")[0]
@@ -137,8 +140,11 @@ def faults_of(calls, allowed_files):
                 ended.add(file)
             if file == b"0" and not allowed_files.reads_input:
                 yield "reads standard input"
-        elif not OF_LOADER.match(text) and not (call == b"pread64" and words.split(b",")[0] in of_loader):
+        elif not (is_loading and OF_LOADER.match(text)):
             yield "calls " + HEXADECIMAL.sub(lambda it: ascii(name_of(it[0])).encode(), text).decode()
+        is_loading = is_loading and not text.startswith(LOADED)
+    if is_loading:
+        yield "makes no call that the loader makes last"
     shortest = [os.path.normpath(it) for it in names]
     if allowed_files.order is not None and shortest != list(allowed_files.order):
         yield f"opens {names} and not {list(allowed_files.order)}"
