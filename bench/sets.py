@@ -235,6 +235,66 @@ def make_strange(work, small):
     return [(name, what, size_of(f"{work}/{name}")) for name, what in found]
 
 
+# What takes most time or memory of a file that a stranger wrote: a head, a piece again and again, whose %d is a number,
+# and a tail.
+MAIN = [("", "\n", ""), ("tool (\n", "a\n", ")\n"), ("exclude (\n", "a v0.0.%d\n", ")\n")]
+OTHER = [("", "a\n", ""), ("require (\n", "a.b/%d v0.0.0\n", ")\n"), ("a ", ",", "\n")]
+SUMS = [("", "a v0.0.0/go.mod h1:\n", ""), ("", "a v0.0.%d/go.mod h1:\n", "")]
+LISTS = [("", "v0.0.0\n", ""), ("", "v0.0.%d\n", ""), ("", "v0.0.0-%d\n", "")]
+LATEST = [("retract (\n", "[v0.0.0,v0.0.%d]\n", ")\n"), OTHER[-1]]
+
+
+def grown(size, begin, head, piece, tail):
+    """A text of a size."""
+    room = size - len(begin + head + tail)
+    if "%" not in piece:
+        return begin + head + piece * (room // len(piece)) + tail
+    count = room // len(piece % 10**6)
+    return begin + head + "".join(piece % it for it in range(10**6, 10**6 + count)) + tail
+
+
+def make_growth(work, small):
+    """Files that grow: what does, how many of it there are, and the words of the commands that read it."""
+    top, size, count = f"{work}/growth", LIMIT // 16 if small else LIMIT, 400 if small else 4_000
+    main, proxy, sums = f"{top}/go.mod", f"{top}/proxy", f"{top}/go.sum"
+    begin, other = "module m.x/m\n\ngo 1.17\n\n", "module e.x/d\n\ngo 1.17\n\n"
+    own, words = f"{proxy}/e.x/d/@v", ["--mod", main, "--proxy", proxy]
+    graphs = {"list": ["list", *words], "graph": ["graph", *words], "chain": ["chain", "e.x/d", *words]}
+    files = {"fmt": ["fmt", main], "edit": ["edit", main, "go=1.16", "require=z.x/z@v1.0.0"]}
+    shown = {"versions": ["versions", "e.x/d", "--proxy", proxy]}
+
+    def lay(versions, text=other):
+        """A main file that requires versions of a module, all with one file."""
+        shutil.rmtree(own, ignore_errors=True)
+        write(f"{own}/v1.0.0.mod", text)
+        for it in range(1, versions):
+            os.link(f"{own}/v1.0.0.mod", f"{own}/v1.0.{it}.mod")
+        write(main, begin + "require (\n" + "".join(f"e.x/d v1.0.{it}\n" for it in range(versions)) + ")\n")
+
+    lay(1)
+    for shape in MAIN:
+        write(main, grown(size, f"{begin}require e.x/d v1.0.0\n", *shape))
+        yield "MiB of the main file", size / 2**20, {**graphs, **files}
+    for shape in OTHER:
+        lay(1, grown(size, other, *shape))
+        yield "MiB of a dependency's file", size / 2**20, graphs
+    lay(1)
+    for shape in SUMS:
+        write(sums, f"e.x/d v1.0.0/go.mod {hash_of(other)}\n" + grown(size - 100, "", *shape))
+        yield "MiB of a go.sum", size / 2**20, {name: [*it, "--sum", sums] for name, it in graphs.items()}
+    for shape in LISTS:
+        write(f"{own}/list", grown(size, "v1.0.0\n", *shape))
+        yield "MiB of a version list", size / 2**20, shown
+    write(f"{own}/list", "".join(f"v0.0.{it}\n" for it in range(10**5)) + "v1.0.0\n")
+    for shape in LATEST:
+        write(f"{own}/v1.0.0.mod", grown(size, other, *shape))
+        yield "MiB of the latest version's file", size / 2**20, shown
+    lay(15 * count)
+    yield "thousand names of a small file", 15 * count / 1e3, graphs
+    lay(count, other + "".join(f"require a.b/{it} v1.0.0\n" for it in range(count)))
+    yield "million edges", count * count / 1e6, graphs
+
+
 def size_of(folder):
     files = (os.path.join(place, name) for place, _, names in os.walk(folder) for name in names)
     return sum(os.path.getsize(it) for it in files if it.endswith(".mod"))

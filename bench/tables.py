@@ -14,7 +14,7 @@ from concurrent.futures import ThreadPoolExecutor
 import sets
 
 TOP = sets.TOP
-PAGE, README = f"{TOP}/docs/dev/BENCHMARKS.md", f"{TOP}/README.md"
+PAGE, README, MANUAL = (f"{TOP}/{it}" for it in ("docs/dev/BENCHMARKS.md", "README.md", "docs/use/COMMANDS.md"))
 ROUNDS, SLOW_ROUNDS = 7, 3
 SLOW = 1.0  # the seconds from which a program runs in fewer rounds
 COUNTED = 10_000  # the modules up to which instructions are counted, which takes 100 times as long
@@ -303,10 +303,25 @@ def stranger_table(bench):
     return {"strangers": table(["Input", "Its size", "`gomod list`", "`gomod chain`"], rows)}
 
 
+def growth_table(bench):
+    """The CPU time and memory that each command takes for one more of what grows, on the worst of some shapes."""
+    rows, columns = collections.defaultdict(dict), ["list", "graph", "chain", "versions", "fmt", "edit"]
+    for what, number, commands in sets.make_growth(bench.work, bench.small):
+        took = bench.in_turn({name: Program(bench.gomod, *words) for name, words in commands.items()})
+        for name, it in took.items():
+            before = rows[what].get(name, (0, 0))
+            rows[what][name] = max(before[0], it.busy / number), max(before[1], it.memory / number)
+    body = [[what, *(f"{seconds(row[it][0])}, {megabytes(row[it][1])}" if it in row else "" for it in columns)]
+            for what, row in rows.items()]
+    version = subprocess.run([bench.gomod, "--version"], capture_output=True, text=True, check=True).stdout.strip()
+    return {"growth": table(["One more", *(f"`{it}`" for it in columns)], body) + f"\n{version}; {machine()}.\n"}
+
+
 # Which blocks each function makes.
 TABLES = {"edit": edit_table, "fmt": format_table, "sums": sum_table, "versions": version_table,
-          "strangers": stranger_table, "graphs": graph_tables}
-SHOWN = {README: ["speed"], PAGE: ["measured", "go", "plain", "versions", "fmt", "edit", "sums", "strangers"]}
+          "strangers": stranger_table, "growth": growth_table, "graphs": graph_tables}
+SHOWN = {README: ["speed"], MANUAL: ["growth"],
+         PAGE: ["measured", "go", "plain", "versions", "fmt", "edit", "sums", "strangers"]}
 
 
 def version_of(*words):
@@ -327,8 +342,8 @@ def machine():
 def measured(bench, commit, load, began):
     """What was measured, beside what, where and how."""
     nothing = bench.in_turn({"true": Program("true"), "gomod": Program(bench.gomod, "--version")})
-    beside = [f"go {version_of(bench.go, 'version')}"] * bool(bench.go)
-    beside += [f"rustc {version_of('rustc', '--version')}"] * bool(bench.plain)
+    beside = [f"go {version_of(bench.go, 'version')}"] if bench.go else []
+    beside += [f"rustc {version_of('rustc', '--version')}"] if bench.plain else []
     return (f"Measured at `{commit}`.\n\n{machine()}; {', '.join(beside)}; load {load:.1f} at the beginning, "
             f"{bench.rounds} rounds, {(time.monotonic() - began) / 60:.1f} minutes. Of the CPU time, "
             f"{seconds(nothing['true'].busy)} is what the smallest program takes to start, and "
@@ -353,10 +368,10 @@ def with_blocks(path, blocks):
 
 def refuse_to_write(asked):
     """Ends unless the whole is measured with the program that the gate left, beside go and a plain program."""
-    if asked.small or asked.only or asked.program or asked.rounds < ROUNDS:
-        refuse(f"--write takes all tables, in {ROUNDS} rounds or more, of bin/gomod")
+    if asked.small or asked.only not in ("", "growth") or asked.program or asked.rounds < ROUNDS:
+        refuse(f"--write takes all tables, or growth, in {ROUNDS} rounds or more, of bin/gomod")
     lack = [it for it in ("rustc", "valgrind", asked.go) if not shutil.which(it)]
-    if lack:
+    if lack and not asked.only:
         refuse(f"--write needs {', '.join(lack)}; --go names a go command")
     if subprocess.run(["bash", "-c", ". tools/lib.sh && is_built"], cwd=TOP, check=False).returncode:
         refuse("bin/gomod isn't there, or older than a source")
@@ -410,8 +425,9 @@ def main():
         # many small files: rm is faster than python
         subprocess.run(["rm", "-rf", *(it.path for it in os.scandir(work) if it.is_dir())], check=True)
     if asked.write:
-        blocks["speed"] += f"\nMeasured at `{commit}`.\n"
-        for path, text in {it: with_blocks(it, blocks) for it in SHOWN}.items():
+        if "speed" in blocks:
+            blocks["speed"] += f"\nMeasured at `{commit}`.\n"
+        for path, text in {it: with_blocks(it, blocks) for it in SHOWN if blocks.keys() >= {*SHOWN[it]}}.items():
             with open(path, "w", encoding="utf-8") as file:
                 file.write(text)
     return 0

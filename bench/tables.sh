@@ -3,10 +3,10 @@
 # docs/dev/BENCHMARKS.md.
 #
 #   bench/tables.sh               all tables
-#   bench/tables.sh --write       and writes them into docs/dev/BENCHMARKS.md and README.md, after .ci/run
+#   bench/tables.sh --write       and writes them into BENCHMARKS.md, README.md and COMMANDS.md, after .ci/run
 #   bench/tables.sh --small       small files, to see in a minute whether it runs
 #
-#   --only TABLE,..      some of graphs, versions, fmt, edit, sums, strangers
+#   --only TABLE,..      some of graphs, versions, fmt, edit, sums, strangers, growth (with --write growth alone)
 #   --go COMMAND         this go, as /usr/lib/go-1.19/bin/go
 #   --program FILE       another program than bin/gomod
 #   --rounds N           N rounds instead of seven

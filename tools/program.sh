@@ -13,10 +13,10 @@
 # permission for root are left out.
 #
 # Of a case with a range of sizes it runs the greatest, of one with a list each. Each command then has an address space
-# of 64 MiB and a hundred times the bytes of its words, each with the byte that ends it, and of the files of the case:
-# the bound of COMMANDS.md. A case with a line `% memory N` gives N MiB instead. All commands run with the stack that
-# README.md names, and room for their arguments. Standard input stays open, unless it is read. A command that hasn't
-# ended after 100 seconds ends the script.
+# of 64 MiB and a hundred times the bytes of its words, each with the byte that ends it, and of the files of the case.
+# A case with a line `% memory N` gives N MiB instead. All commands run with the stack that README.md names, and room
+# for their arguments. Standard input stays open, unless it is read. A command that hasn't ended after 100 seconds ends
+# the script.
 #
 # Each command is called by a name that is not UTF-8. The folder of a case, the one above, HOME and TMPDIR must be the
 # same after its commands as before, by names, sizes, modes and contents. Of each command the first run that prints, in
@@ -29,8 +29,8 @@
 # word of the command must be among the words to type or those that are left out, or be in ACCOUNTED (tools/program.py).
 #
 # Then all cases run once more in another world (tools/other_world.py). There strace, if it is there, shows that a
-# command opens no file but those that the case names, once, to read it, and makes no other call that names a file
-# (tools/opened.py). If there is no strace, or it may not look at processes, the last line says so.
+# command opens no file but those that the case names, once, to read it, and once it is loaded makes no calls of the
+# system but twelve (tools/opened.py). If there is no strace, or it may not look at processes, the last line says so.
 #
 # If tools/refuse-memory.sh sets REFUSE_MEMORY, each command runs again with each of its allocations refused, and there
 # is no other world.

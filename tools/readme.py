@@ -10,7 +10,7 @@ command of a shell, and the lines up to the next one are what it prints, on both
 in one shell: in bash in their order and backwards, and in zsh if it is installed. A block that only makes a scratch
 folder (`NAME=$(mktemp -d)`) is the first in both. They run at the top of a scratch folder with the files of the
 repository, which they have to leave as it was, and with bin/ on the PATH. A block is skipped if it, or a script that it
-runs, calls curl, dot, git, jq or vim and there is no such command.
+runs, calls bwrap, curl, dot, git, jq or vim and there is no such command, or bwrap may not make a sandbox.
 
 It also compares the pieces of code of docs/lib/LIBRARY.md, fenced as rust, with the sources of the crate that is named
 before them (`From CRATE:`). The one that is a whole program is that of crates/library_example; it compiles and runs it
@@ -25,6 +25,7 @@ of which commands. The status is 1 if one was wrong.
 
 import collections
 import contextlib
+import functools
 import glob
 import os
 import re
@@ -36,7 +37,7 @@ import script
 from script import Tally, read
 
 SECONDS = 300
-OPTIONAL = ("curl", "dot", "git", "jq", "vim")
+OPTIONAL = ("bwrap", "curl", "dot", "git", "jq", "vim")
 COPIED = ("README.md", "CHANGELOG.md", "docs", "example", "share")
 # The passes over a document: what they are called, the shell, and whether its blocks run from the last to the first.
 PASSES = (
@@ -88,7 +89,12 @@ def absent(commands):
     words = set(re.findall(r"[\w./-]+", "\n".join(commands)))
     for script in [it for it in words if it.endswith(".sh") and os.path.isfile(it)]:
         words |= set(re.findall(r"[\w./-]+", re.sub(r"(?m)^\s*#.*", "", read(script))))
-    return [it for it in OPTIONAL if it in words and not shutil.which(it)]
+    return [it for it in OPTIONAL if it in words and not (shutil.which(it) and (it != "bwrap" or makes_sandboxes()))]
+
+
+@functools.cache
+def makes_sandboxes():
+    return subprocess.run(["bwrap", "--unshare-all", "--ro-bind", "/", "/", "true"], capture_output=True).returncode == 0
 
 
 def lay_room(room):
