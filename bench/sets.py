@@ -238,7 +238,7 @@ def make_strange(work, small):
 # What takes most time or memory of a file that a stranger wrote: a head, a piece again and again, whose %d is a number,
 # and a tail.
 MAIN = [("", "\n", ""), ("tool (\n", "a\n", ")\n"), ("exclude (\n", "a v0.0.%d\n", ")\n")]
-OTHER = [("", "a\n", ""), ("require (\n", "a.b/%d v0.0.0\n", ")\n"), ("a ", ",", "\n")]
+OTHER = [("", "a\n", ""), ("require (\n", "a v0.0.%d\n", ")\n"), ("a ", ",", "\n")]
 SUMS = [("", "a v0.0.0/go.mod h1:\n", ""), ("", "a v0.0.%d/go.mod h1:\n", "")]
 LISTS = [("", "v0.0.0\n", ""), ("", "v0.0.%d\n", ""), ("", "v0.0.0-%d\n", "")]
 LATEST = [("retract (\n", "[v0.0.0,v0.0.%d]\n", ")\n"), OTHER[-1]]
