@@ -291,8 +291,11 @@ def make_growth(work, small):
         yield "MiB of the latest version's file", size / 2**20, shown
     lay(15 * count)
     yield "thousand names of a small file", 15 * count / 1e3, graphs
-    lay(count, other + "".join(f"require a.b/{it} v1.0.0\n" for it in range(count)))
-    yield "million edges", count * count / 1e6, graphs
+    lay(count)
+    with open(main, "a", encoding="ascii") as file:
+        file.write("replace e.x/d => ./one\n")
+    write(f"{top}/one/go.mod", other + "".join(f"require a.b/{it} v1.0.0\n" for it in range(count)))
+    yield "million edges, lines of 32 bytes", count * count / 1e6, graphs
 
 
 def size_of(folder):

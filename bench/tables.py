@@ -313,8 +313,9 @@ def growth_table(bench):
             rows[what][name] = max(before[0], it.busy / number), max(before[1], it.memory / number)
     body = [[what, *(f"{seconds(row[it][0])}, {megabytes(row[it][1])}" if it in row else "" for it in columns)]
             for what, row in rows.items()]
-    version = subprocess.run([bench.gomod, "--version"], capture_output=True, text=True, check=True).stdout.strip()
-    return {"growth": table(["One more", *(f"`{it}`" for it in columns)], body) + f"\n{version}; {machine()}.\n"}
+    version = subprocess.run([bench.gomod, "--version"], capture_output=True, text=True, check=True).stdout.split()
+    measured_with = f"\nVersion {' '.join(version[1:])}; {machine()}.\n"
+    return {"growth": table(["One more", *(f"`{it}`" for it in columns)], body) + measured_with}
 
 
 # Which blocks each function makes.

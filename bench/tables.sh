@@ -21,9 +21,9 @@
 # of the edits are those of bench/edit.sh, which runs once in each round.
 #
 # It needs bin/gomod (./build makes it), python3 and a C compiler, 2 GB of disk for 450,000 small temporary files, and
-# 2 GB of memory; rustc, go and valgrind if there are any. --write needs these too, and bin/gate.txt with the sha256 of
-# bin/gomod, so that what is measured is proved. The status is 1 if a program fails or prints something else, or it
-# refuses, and 2 for wrong arguments.
+# 2 GB of memory; rustc, go and valgrind if there are any. --write needs these too, but for growth alone, and
+# bin/gate.txt with the sha256 of bin/gomod, so that what is measured is proved. The status is 1 if a program fails or
+# prints something else, or it refuses, and 2 for wrong arguments.
 set -euo pipefail
 cd "$(dirname "$0")/.."
 # shellcheck source=tools/lib.sh
