@@ -89,12 +89,14 @@ def absent(commands):
     words = set(re.findall(r"[\w./-]+", "\n".join(commands)))
     for script in [it for it in words if it.endswith(".sh") and os.path.isfile(it)]:
         words |= set(re.findall(r"[\w./-]+", re.sub(r"(?m)^\s*#.*", "", read(script))))
-    return [it for it in OPTIONAL if it in words and not (shutil.which(it) and (it != "bwrap" or makes_sandboxes()))]
+    there = [it for it in OPTIONAL if shutil.which(it) and (it != "bwrap" or makes_sandboxes())]
+    return [it for it in OPTIONAL if it in words and it not in there]
 
 
 @functools.cache
 def makes_sandboxes():
-    return subprocess.run(["bwrap", "--unshare-all", "--ro-bind", "/", "/", "true"], capture_output=True).returncode == 0
+    words = ["bwrap", "--unshare-all", "--ro-bind", "/", "/", "true"]
+    return subprocess.run(words, capture_output=True).returncode == 0
 
 
 def lay_room(room):
