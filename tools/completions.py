@@ -1,11 +1,13 @@
 """What the completions of share/completions do in real shells, for tools/check-help.sh.
 
-bash and zsh run in a terminal of their own. A line is typed, then TAB, then a key that this binds to write the line to
-a file. fish says itself how it completes a line (`complete -C`). All run in a scratch folder with a go.mod, folders and
-a home with go's cache. It prints each line that comes out wrong, how many were right and wrong, and how many were
-skipped for want of which shell. The status is 1 if one was wrong.
+Each runs in a terminal of its own, in a scratch folder with a go.mod, folders and a home with go's cache. A line is
+typed, then TAB, then a key that this binds to write the line to a file. Beside hostile texts, a module's path and a
+folder, Enter follows TAB: what gomod is given is compared, and none of them may have run. It prints each line that
+comes out wrong, how many were right and wrong, and how many were skipped for want of which shell. The status is 1 if
+one was wrong.
 """
 
+import concurrent.futures
 import contextlib
 import os
 import pty
@@ -13,7 +15,6 @@ import re
 import select
 import shutil
 import signal
-import subprocess
 import tempfile
 import time
 
@@ -42,6 +43,7 @@ gomod list --prox|gomod list --proxy
 gomod list --proxy |gomod list --proxy HOME/go/pkg/mod/cache/download
 gomod list --proxy ../fi|gomod list --proxy ../first
 gomod list --proxy ../first,../sec|gomod list --proxy ../first,../second
+gomod list --proxy '../first,../sec|gomod list --proxy '../first,../second
 gomod graph --proxy ../first,|gomod graph --proxy ../first,HOME/go/pkg/mod/cache/download
 gomod versions --proxy HOME/go/pkg/mo|gomod versions --proxy HOME/go/pkg/mod
 gomod graph --mod mai|gomod graph --mod main.mod
@@ -54,19 +56,34 @@ gomod chain example.com/com|gomod chain example.com/com
 gomod edit go.mod dropreq|gomod edit go.mod droprequire=
 """
 PAIRS = [it.split("|") for it in LINES.strip().split("\n")]
+# A path that gomod wouldn't read, beside the good path a.b/c, and the only folder. No file `ran` may appear.
+HOSTILE = ("$(id>ran)", "`id>ran`", "a;id>ran;", "a|id>ran", "a&id>ran", "<(id>ran)", "~root", "${HOME}", "*", "!!",
+           "-m", "a'b", 'a"b', "a\\b", "a\nid>ran")
+# What is typed there before TAB and Enter, and the words that gomod is given.
+BESIDE = (("chain ", "chain a.b/c"), ("list --proxy ", "list --proxy TEXT"), ("list --proxy ./", "list --proxy ./TEXT"),
+          ("list --proxy x,", "list --proxy x,TEXT"), ("list --proxy x\\|", "list --proxy x|TEXT"))
 
 
 def lay_room(room):
+    """Lays the files of the scratch folder."""
     for it in ("module", "first", "second", "home/go/pkg/mod/cache/download"):
         os.makedirs(f"{room}/{it}")
     for name in ("go.mod", "main.mod"):
         write(f"{room}/module/{name}", GO_MOD)
+    for number, text in enumerate(HOSTILE):
+        os.makedirs(f"{room}/{number}/{text}")
+        write(f"{room}/{number}/go.mod", "require {0} v1.0.0\nrequire (\n{0} v1.0.0\na.b/c v1.0.0\n)\n".format(
+            text.replace("\n", "")))
+    # what gomod is given, a byte of value 0 after each word
+    write(f"{room}/bin/gomod", f"#!/bin/sh\nprintf '%s\\0' \"$@\" > {room}/left && mv {room}/left {room}/left.whole\n",
+          0o755)
 
 
 def environment(room):
     """The environment of a shell: go's own variables would move its cache."""
     kept = {name: value for name, value in os.environ.items() if not name.startswith(("GO", "FISH", "XDG"))}
-    return {**kept, "HOME": f"{room}/home", "TERM": "dumb", "PS1": "", "LC_ALL": "C.UTF-8"}
+    path = f"{room}/bin:{os.environ['PATH']}"
+    return {**kept, "PATH": path, "HOME": f"{room}/home", "TERM": "dumb", "PS1": "", "LC_ALL": "C.UTF-8"}
 
 
 class Terminal:
@@ -83,21 +100,21 @@ class Terminal:
         os.write(self.terminal, text.encode())
 
     def wait_for_file(self):
-        """What the shell has left in the file, which then goes, or None if there is none in time."""
+        """The words that the shell has left in the file, which then goes, or none if it has left no file in time."""
         until = time.monotonic() + SECONDS
         while time.monotonic() < until:
-            if select.select([self.terminal], [], [], 0.02)[0]:
+            if select.select([self.terminal], [], [], 0.005)[0]:
                 with contextlib.suppress(OSError):
                     os.read(self.terminal, 65536)
             if os.path.exists(f"{self.left}.whole"):
                 text = read(f"{self.left}.whole")
                 os.remove(f"{self.left}.whole")
-                return text
-        return None
+                return text.split("\0")[:-1]
+        return []
 
-    def completed(self, line):
-        """What TAB makes of a line, after ^U has removed the one before."""
-        self.say(f"\x15{line}\t\x18\x13")
+    def completed(self, line, key="\x18\x13"):
+        """What a key leaves after TAB, after ^U has removed the line before."""
+        self.say(f"\x15{line}\t{key}")
         return self.wait_for_file()
 
     def close(self):
@@ -109,62 +126,55 @@ class Terminal:
 def in_bash(room):
     """A bash with our completion, whose ^X^S leaves the line."""
     write(f"{room}/rc", f". {TOP}/share/completions/gomod.bash\nbind 'set bell-style none'\n"
-          f"leave() {{ printf %s \"$READLINE_LINE\" > {room}/left && mv {room}/left {room}/left.whole; }}\n"
-          "bind -x '\"\\C-x\\C-s\": leave'\nstty -ixon; READLINE_LINE=ready; leave\n")
+          "bind -x '\"\\C-x\\C-s\": gomod \"$READLINE_LINE\"'\nstty -ixon; gomod ready\n")
     return Terminal(["bash", "--noprofile", "--rcfile", f"{room}/rc", "-i"], room)
 
 
 def in_zsh(room):
     """A zsh with our completion, whose ^X^S leaves the line."""
     write(f"{room}/home/.zshrc", f"fpath=({TOP}/share/completions $fpath)\nautoload -Uz compinit && compinit -D -u\n"
-          f"leave() {{ printf %s \"$BUFFER\" > {room}/left && mv {room}/left {room}/left.whole }}\n"
-          "zle -N leave\nbindkey -e\nbindkey '^X^S' leave\nbindkey '^U' kill-whole-line\n"
-          "stty -ixon; unsetopt beep; setopt no_always_last_prompt; BUFFER=ready; leave\n")
+          "leave() { gomod $BUFFER }\nzle -N leave\nbindkey -e\nbindkey '^X^S' leave\nbindkey '^U' kill-whole-line\n"
+          "stty -ixon; unsetopt beep; setopt no_always_last_prompt; gomod ready\n")
     return Terminal(["zsh", "-d", "-i"], room)
 
 
-class Fish:
-    """fish, which completes a line without a terminal."""
-
-    def __init__(self, room):
-        self.room = room
-
-    def wait_for_file(self):
-        """It is always ready."""
-        return "ready"
-
-    def completed(self, line):
-        """The line with its last word completed, if there is one way to do that."""
-        script = f"source {TOP}/share/completions/gomod.fish; complete -C $argv[1]"
-        ran = subprocess.run(["fish", "--no-config", "-c", script, line], cwd=f"{self.room}/module",
-                             env=environment(self.room), stdin=subprocess.DEVNULL, capture_output=True, text=True,
-                             timeout=SECONDS)
-        found = sorted({it.split("\t")[0] for it in ran.stdout.split("\n") if it})
-        if len(found) != 1:
-            return line
-        head, _, _ = line.rpartition(" ")
-        return f"{head} {found[0]}" + ("" if found[0].endswith(("/", "=")) else " ")
-
-    def close(self):
-        """There is nothing to end."""
+def in_fish(room):
+    """A fish with our completion, whose ^X^S leaves the line."""
+    write(f"{room}/rc", f"source {TOP}/share/completions/gomod.fish\nfunction fish_prompt; end\n"
+          "function fish_title; end\nbind \\cx\\cs 'gomod (commandline)'; bind \\cu kill-whole-line\n"
+          "stty -ixon; gomod ready\n")
+    return Terminal(["fish", "--no-config", "-i", "-C", f"source {room}/rc"], room)
 
 
-SHELLS = {"bash": in_bash, "zsh": in_zsh, "fish": Fish}
+SHELLS = {"bash": in_bash, "zsh": in_zsh, "fish": in_fish}
 
 
-def differences(name, room):
-    """The lines that a shell completes wrongly, each with what comes out."""
-    shell = SHELLS[name](room)
+def differences(shell, room):
+    """The lines that a shell completes wrongly, each with what comes out and what is wanted."""
     try:
-        if shell.wait_for_file() != "ready":
-            yield "(it doesn't start)", "", None
+        if shell.wait_for_file() != ["ready"]:
+            yield "(it doesn't start)", "", ""
             return
         for typed, wanted in PAIRS:
             typed, wanted = (re.sub("HOME", f"{room}/home", it) for it in (typed, wanted))
-            came = shell.completed(typed)
-            # what follows a completed word, a slash or a blank, is the shell's affair
-            if came is None or came.rstrip(" /") != wanted:
-                yield typed, wanted, came
+            came = "".join(shell.completed(typed))
+            # what follows a completed word, a slash, a quote or a blank, is the shell's affair
+            if came.rstrip(" /'") != wanted:
+                yield typed, came, wanted
+        shutil.rmtree(f"{room}/home/go")
+        for number, text in enumerate(HOSTILE):
+            shell.completed(f"cd {room}/{number}; gomod", "\r")
+            # fish leaves out two of the folders
+            names = [text, text + "/"] + [""] * (text[0] == "~" or "\n" in text)
+            for typed, wanted in BESIDE:
+                # a path is typed as far as the good one begins like it
+                typed = f"gomod {typed}" + "a" * (text[0] == "a" and "TEXT" not in wanted)
+                came = " ".join(shell.completed(typed, "\r"))
+                with contextlib.suppress(OSError):
+                    os.remove(f"{room}/{number}/ran")
+                    came += " (and it ran)"
+                if came not in [wanted.replace("TEXT", it).rstrip(" ") for it in names]:
+                    yield f"{typed} (beside {text!r})", came, wanted
     finally:
         shell.close()
 
@@ -172,14 +182,17 @@ def differences(name, room):
 def main():
     """Completes all lines in all shells."""
     tried = [it for it in SHELLS if shutil.which(it)]
-    wrong = 0
-    for name in tried:
-        with tempfile.TemporaryDirectory(prefix="gomod-completion-") as room:
+    wrong, count = 0, len(PAIRS) + len(HOSTILE) * len(BESIDE)
+    with contextlib.ExitStack() as rooms, concurrent.futures.ThreadPoolExecutor() as pool:
+        begun = [rooms.enter_context(tempfile.TemporaryDirectory(prefix="gomod-completion-")) for _ in tried]
+        for room in begun:
             lay_room(room)
-            for typed, wanted, came in differences(name, room):
-                wrong += 1
-                print(f"{name}: '{typed}' becomes '{came}', and should '{wanted}'")
-    print(f"lines completed in {', '.join(tried)}: {len(tried) * len(PAIRS) - wrong} right, {wrong} wrong")
+        shells = [SHELLS[name](room) for name, room in zip(tried, begun)]
+        for name, found in zip(tried, pool.map(lambda *it: list(differences(*it)), shells, begun)):
+            wrong += len(found)
+            for typed, came, wanted in found:
+                print(f"{name}: '{typed}' becomes {came!r}, and should {wanted!r}")
+    print(f"lines completed in {', '.join(tried)}: {len(tried) * count - wrong} right, {wrong} wrong")
     for name in (it for it in SHELLS if it not in tried):
-        print(f"skipped, for want of {name}: {len(PAIRS)} completed lines")
+        print(f"skipped, for want of {name}: {count} completed lines")
     return wrong > 0

@@ -1,26 +1,52 @@
 # Completion of gomod for bash, kept by hand: `source` this file, or put it, named gomod, where bash-completion looks
 # (~/.local/share/bash-completion/completions). tools/check-help.sh compares it with `gomod --help`.
+# No text of a file or a folder reaches `compgen -W`, which expands each word.
 
-# The folders of --proxy, of a list the last one: those here, and go's cache if nothing is typed of it.
+# The folders of --proxy, of a list the last one: those here, and go's cache if nothing is typed of it. bash completes
+# and quotes a folder that stands alone, but after a comma it would leave `$(` as it is.
 _gomod_folders() {
-    local last=${1##*[,|]} cache=${GOPATH:-$HOME/go}
+    local quote=${1%"${1#[\'\"]}"} cache=${GOPATH:-$HOME/go} folder folders
+    local last=${1##*[,|]}
     local list=${1%"$last"}
+    [[ -n $list ]] || last=${last#"$quote"}
+    list=${list#"$quote"}
+    if [[ -z $list && -n $last ]]; then
+        compopt -o dirnames 2> /dev/null
+        return
+    fi
+    # the shell takes away backslashes, and expands $HOME
+    # shellcheck disable=SC2016,SC2162
+    [[ -n $quote ]] || IFS= read -d '' last < <(printf '%s\0' "${last/#'$HOME'/$HOME}")
+    mapfile -td '' folders < <(shopt -s nullglob && shopt -u failglob && printf '%s\0' "$last"*/)
     cache=${GOMODCACHE:-${cache%%:*}/pkg/mod}/cache/download
-    mapfile -t COMPREPLY < <(compgen -d -P "$list" -- "$last")
-    [[ -z $last && -d $cache ]] && COMPREPLY+=("$list$cache")
-    compopt -o filenames 2> /dev/null
+    [[ -z $last ]] && folders+=("$cache")
+    for folder in "${folders[@]}"; do
+        [[ -d $folder ]] || continue
+        folder=${folder%/}
+        case $quote in
+            '') printf -v folder %q "$folder" ;;
+            \') folder=${folder//\'/\'\\\'\'} ;;
+            # here some would have to be quoted otherwise
+            *) [[ $folder != *[\\\$\`\"!]* ]] || continue ;;
+        esac
+        COMPREPLY+=("$list$folder/")
+    done
+    compopt -o nospace 2> /dev/null
 }
 
-# The modules that the go.mod of this folder requires.
+# The modules that the go.mod of this folder requires, of those that need no quotes.
 _gomod_paths() {
-    local paths
-    paths=$(awk '
-        { gsub(/["`]|\/\/.*/, "") }
+    local path paths
+    [[ -f go.mod ]] && mapfile -t paths < <(head -c 16777216 go.mod | awk '
+        { sub(/\/\/.*/, "") }
         block && $1 == ")" { block = 0 }
-        block && NF { print $1 }
-        $1 == "require" && $2 != "(" { print $2 }
-        /^[ \t]*require[ \t]*\(/ { block = 1 }' go.mod 2> /dev/null)
-    mapfile -t COMPREPLY < <(compgen -W "$paths" -- "$1")
+        { path = block ? $1 : $1 == "require" ? $2 : "" }
+        { gsub(/^["`]|["`]$/, "", path) }
+        path ~ /^[A-Za-z0-9_][A-Za-z0-9._~\/-]*$/ { print path }
+        /^[ \t]*require[ \t]*\(/ { block = 1 }')
+    for path in "${paths[@]}"; do
+        [[ $path == "${1#[\'\"]}"* ]] && COMPREPLY+=("$path")
+    done
 }
 
 _gomod() {
@@ -59,8 +85,7 @@ _gomod() {
             return
             ;;
         --mod | --sum)
-            mapfile -t COMPREPLY < <(compgen -f -- "$current")
-            compopt -o filenames 2> /dev/null
+            compopt -o default 2> /dev/null
             return
             ;;
         --after)
@@ -87,8 +112,7 @@ _gomod() {
     elif [[ $command == chain || $command == versions ]] && [[ $plain -eq 0 ]]; then
         _gomod_paths "$current"
     elif [[ $command == fmt || $command == edit ]] && [[ $plain -eq 0 ]]; then
-        mapfile -t COMPREPLY < <(compgen -f -- "$current")
-        compopt -o filenames 2> /dev/null
+        compopt -o default 2> /dev/null
     elif [[ $command == edit ]]; then
         mapfile -t COMPREPLY < <(compgen -W "$operations" -- "$current")
         compopt -o nospace 2> /dev/null

@@ -1,13 +1,24 @@
 # Completion of gomod for fish, kept by hand: put it into ~/.config/fish/completions. tools/check-help.sh compares it
 # with `gomod --help`: the commands of an option are those that its condition names.
 
-# The folders of --proxy, of a list the last one: those here, and go's cache if nothing is typed of it.
+# The folders of --proxy, of a list the last one: those here, and go's cache if nothing is typed of it. fish quotes what
+# it adds to a word as a whole, but for a `~` in front, so a folder that begins with one is left out.
 function __gomod_folders
     set -l word (commandline -ct | string replace -r '^--proxy=' '')
-    set -l list (string match -r '^.*[,|]' -- $word)
-    set -l last (string replace -r '^.*[,|]' '' -- $word)
-    for it in (__fish_complete_directories $last Folder)
-        printf '%s%s\n' "$list" $it
+    set -l quote (string match -r '^[\'"]' -- "$word")
+    set -l list (string match -r '^.*[,|]' -- "$word")
+    set -l last (string replace -r '^.*[,|]' '' -- "$word")
+    if set -q list[1]
+        set last "$quote$last"
+        set -q quote[1]; and set list (string sub -s 2 -- $list); or set list (string unescape -- $list)
+    end
+    # a folder with a line feed in its name comes in parts, which are none
+    for it in (__fish_complete_directories $last '' | string replace -r '\t.*' '')
+        if string match -q '~*' -- $word; or begin
+                test -d $it; and not string match -q '~*' -- "$list$it"
+            end
+            printf '%s%s\tFolder\n' "$list" $it
+        end
     end
     set -l cache $GOMODCACHE
     if not set -q cache[1]
@@ -15,19 +26,20 @@ function __gomod_folders
         set -q go[1]; or set go $HOME/go
         set cache $go[1]/pkg/mod
     end
-    if test -z "$last" -a -d $cache[1]/cache/download
+    if string match -qr '^[\'"]?$' -- "$last"; and test -d $cache[1]/cache/download
         printf "%s%s\tGo's cache\n" "$list" $cache[1]/cache/download
     end
 end
 
-# The modules that the go.mod of this folder requires.
+# The modules that the go.mod of this folder requires, of those that need no quotes.
 function __gomod_paths
-    awk '
-        { gsub(/["`]|\/\/.*/, "") }
+    test -f go.mod; and head -c 16777216 go.mod | awk '
+        { sub(/\/\/.*/, "") }
         block && $1 == ")" { block = 0 }
-        block && NF { print $1 }
-        $1 == "require" && $2 != "(" { print $2 }
-        /^[ \t]*require[ \t]*\(/ { block = 1 }' go.mod 2>/dev/null
+        { path = block ? $1 : $1 == "require" ? $2 : "" }
+        { gsub(/^["`]|["`]$/, "", path) }
+        path ~ /^[A-Za-z0-9_][A-Za-z0-9._~\/-]*$/ { print path }
+        /^[ \t]*require[ \t]*\(/ { block = 1 }'
 end
 
 complete -c gomod -f
