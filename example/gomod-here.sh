@@ -6,7 +6,7 @@
 #
 # It needs gomod on the PATH. The status is gomod's, or 3 if there is no go.mod or no cache. It reads no go.work.
 set -euo pipefail
-help() { awk 'NR > 1 { if (!/^#/) exit; print substr($0, 3) }' "$0" && exit "$1"; }
+help() { awk 'NR > 1 { if (!/^#/) exit; print substr($0, 3) }' < "$0" && exit "$1"; }
 case ${1-} in list | graph | chain) ;; -h | --help) help 0 ;; *) help 2 >&2 ;; esac
 
 refuse() {
@@ -14,10 +14,10 @@ refuse() {
   exit 3
 }
 
-folder=$PWD
-until [ -f "${folder%/}/go.mod" ]; do
-  [ "$folder" != / ] || refuse "there is no go.mod in $PWD or above it"
-  folder=$(dirname "$folder")
+folder=${PWD%/}
+until [ -f "$folder/go.mod" ]; do
+  [ -n "$folder" ] || refuse "there is no go.mod in $PWD or above it"
+  folder=${folder%/*}
 done
 
 # A setting of go: what `go env -w` wrote counts if the environment says nothing.
@@ -35,6 +35,6 @@ if [ -z "$cache" ]; then
 fi
 [ -d "$cache/cache/download" ] || refuse "there is no $cache/cache/download; 'go mod download' fills it"
 
-words=(--mod "${folder%/}/go.mod" --proxy "$cache/cache/download")
-[ ! -e "${folder%/}/go.sum" ] || words+=(--sum "${folder%/}/go.sum")
+words=(--mod "$folder/go.mod" --proxy "$cache/cache/download")
+[ ! -e "$folder/go.sum" ] || words+=(--sum "$folder/go.sum")
 exec gomod "$@" "${words[@]}"
