@@ -1,10 +1,9 @@
 """What the completions of share/completions do in real shells, for tools/check-help.sh.
 
 Each runs in a terminal of its own, in a scratch folder with a go.mod, folders and a home with go's cache. A line is
-typed, then TAB, then a key that this binds to write the line to a file. Beside hostile texts, a module's path and a
-folder, Enter follows TAB: what gomod is given is compared, and none of them may have run. It prints each line that
-comes out wrong, how many were right and wrong, and how many were skipped for want of which shell. The status is 1 if
-one was wrong.
+typed, then TAB, then a key that this binds to write the line to a file. Beside a hostile path and folder Enter follows
+TAB: gomod is given the right words, and nothing else has run. It prints each line that comes out wrong, how many were
+right and wrong, and how many were skipped for want of which shell. The status is 1 if one was wrong.
 """
 
 import concurrent.futures
@@ -56,7 +55,7 @@ gomod chain example.com/com|gomod chain example.com/com
 gomod edit go.mod dropreq|gomod edit go.mod droprequire=
 """
 PAIRS = [it.split("|") for it in LINES.strip().split("\n")]
-# A path that gomod wouldn't read, beside the good path a.b/c, and the only folder. No file `ran` may appear.
+# Beside the good path a.b/c, and as the only folder: no file `ran` may appear.
 HOSTILE = ("$(id>ran)", "`id>ran`", "a;id>ran;", "a|id>ran", "a&id>ran", "<(id>ran)", "~root", "${HOME}", "*", "!!",
            "-m", "a'b", 'a"b', "a\\b", "a\nid>ran")
 # What is typed there before TAB and Enter, and the words that gomod is given.

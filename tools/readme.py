@@ -12,9 +12,8 @@ folder (`NAME=$(mktemp -d)`) is the first in both. They run at the top of a scra
 repository, which they have to leave as it was, and with bin/ on the PATH. A block is skipped if it, or a script that it
 runs, calls bwrap, curl, dot, git, jq or vim and there is no such command, or bwrap may not make a sandbox.
 
-The commands of docs/use/COMMANDS.md and RECIPES.md run once more on the project of a stranger, whose texts and folders
-would run something or lead elsewhere, and which has links. What they print is not compared: no file outside their
-scratch folders may change, nothing may have run, and what was fetched has the bytes of the proxy.
+The commands of COMMANDS.md and RECIPES.md run once more, on a stranger's project with hostile texts and links: no file
+outside their scratch folders may change, no text may run, and what is fetched has to have the bytes of the proxy.
 
 It also compares the pieces of code of docs/lib/LIBRARY.md, fenced as rust, with the sources of the crate that is named
 before them (`From CRATE:`). The one that is a whole program is that of crates/library_example; it compiles and runs it
@@ -57,8 +56,6 @@ PROGRAM_LINES = 40
 PROGRAM_SOURCE = "crates/library_example/src/main.rt"
 # How the text before a piece of code ends, with the crate that has it.
 CRATE_NAMED = r"\bFrom (\w+):\Z"
-# Pages whose commands users give files of others.
-STRANGE = ("docs/use/COMMANDS.md", "docs/use/RECIPES.md")
 
 
 def blocks(lines):
@@ -140,28 +137,21 @@ def scratch_room():
 
 
 def lay_stranger(room):
-    """Lays the project of a stranger in top/stranger, and what it asks for in the proxy. Its links lead to `outside`."""
-    project, proxy = f"{room}/top/stranger", f"{room}/top/example/cache/download"
+    """Lays a stranger's project in top/stranger, and what that asks for. It leads to `outside`, beside top."""
     mod = read("example/go.mod")
     for number, text in enumerate(HOSTILE):
-        write(f"{project}/{text}/go.mod", f"module z.x/m{number}\n")
+        write(f"{room}/top/stranger/{text}/go.mod", f"module z.x/m{number}\n")
         if "\n" not in text:
             mod += f"require z.x/m{number} v1.0.0\nreplace z.x/m{number} => {json.dumps('./' + text)}\n"
-    # two right sides that lead from $scratch/mods to the room, and one that doesn't fit, but is read
-    for place, words in (("outside/a/@v/v1.0.0", "../../../outside/a v1.0.0"), ("outside/go", ".. ../../../outside/go")):
-        write(f"{room}/top/{place}.mod", "")
-        mod += f'replace z.x/{len(mod)} => "./q => {words}"\n'
-    write(f"{proxy}/z.x/!b/@v/v2.0.0.mod", "module z.x/b\n")
-    write(f"{project}/go.mod", mod + 'require z.x/b v1.0.0\nreplace z.x/b v1.0.0 => "z.x/B" "v2.0.0"\n')
+    # two that would lead from $scratch/mods to the room, and one to fetch, which doesn't fit
+    for words in ("./q => ../../../outside/a v1.0.0", "./q => .. ../../../outside/go", 'z.x/B" "v2.0.0'):
+        mod += f'replace z.x/b{len(mod)} v1.0.0 => "{words}"\n'
+    write(f"{room}/top/stranger/go.mod", mod)
+    for name in ("outside/a/@v/v1.0.0", "outside/go", "example/cache/download/z.x/!b/@v/v2.0.0"):
+        write(f"{room}/top/{name}.mod", "module z.x/b\n")
     os.mkdir(f"{room}/outside")
     for name in ("old.mod", "new.mod", "go.mod.new", "go.mod.list", "go.mod.errors"):
-        os.symlink(f"{room}/outside/{name}", f"{project}/{name}")
-
-
-def of_stranger(command):
-    """A command with the files of a stranger instead of ours."""
-    command = re.sub(r"cp example/go\.mod( example/go\.sum)?", "cp -a stranger/.", command).replace("seq 100", "seq 2")
-    return re.sub(r"example/[\w-]+\.mod", "stranger/go.mod", command)
+        os.symlink(f"{room}/outside/{name}", f"{room}/top/stranger/{name}")
 
 
 def printed(commands, shell, program, folder):
@@ -227,28 +217,26 @@ class Documents:
         self.tally.tell("folders left as they were", not changed, message)
         return wrong
 
-    def run_on_stranger(self, names):
-        """Runs the commands of pages on the project of a stranger, in one shell."""
-        commands = []
-        for name in names:
-            found = [examples(*it) for it in blocks(read(name).split("\n"))]
-            commands += [command for block in found for _, command, _ in block if not absent([command])]
-            # commands without a prompt that write a file: these run in a copy of the project
-            lines = re.findall(r"(?m)^    ((?!\$ ).* > .*)", read(name))
-            commands += [f"(cp -a stranger $TMPDIR && cd $TMPDIR/stranger && {it})" for it in lines]
+    def run_on_stranger(self):
+        """Runs the commands of two pages on a stranger's project, in one shell, where cp copies that."""
+        text = read("docs/use/COMMANDS.md") + read("docs/use/RECIPES.md")
+        text = re.sub(r"example/[\w-]+\.mod", "stranger/go.mod", text)
+        commands = ['cp() { command cp -a stranger/. "${@: -1}"; }', "seq() { echo 1 2; }"]
+        commands += [it for it in re.findall(r"(?m)^    \$ (.*)", text) if not absent([it])]
+        # without a prompt, but writing a file
+        commands += [f"cp $TMPDIR && cd $TMPDIR && {it}" for it in re.findall(r"(?m)^    (\w.* > .*)", text)]
         with scratch_room() as room:
             lay_stranger(room)
             before = files_in(room)
-            got = printed(map(of_stranger, commands), ["bash", "-c"], self.program, room)
+            got = printed(commands, ["bash", "-c"], self.program, room)
             after = files_in(room)
         wrong = [it for it in {*before, *after} if before.get(it) != after.get(it) and not it.startswith("tmp/")]
-        wrong += [it for it in after if os.path.basename(it) == "ran"]
-        wrong += ["not all commands ran"] * (len(got) < len(commands))
-        if shutil.which("curl"):
-            mods = [{it.split(place, 1)[1]: text for it, text in after.items() if place in it and text != "a folder"}
-                    for place in ("/mods/", "top/example/cache/download/")]
-            wrong += ["mods"] * (mods[0] != {it: text for it, text in mods[1].items() if it.endswith(".mod")})
-        self.tally.tell("projects of strangers", not wrong, f"beside the project of a stranger: {', '.join(wrong)}")
+        wrong += [it for it in after if it.endswith("/ran")] + commands[len(got):]
+        fetched, there = ({it.split(place)[1]: after[it] for it in after if re.search(rf"{place}.*\.mod$", it)}
+                          for place in ("/mods/", "top/example/cache/download/"))
+        if shutil.which("curl") and fetched != there:
+            wrong.append("$scratch/mods")
+        self.tally.tell("strangers' projects", not wrong, f"a stranger's project: {', '.join(wrong)}")
 
     def find_comments(self, name, lines):
         """Whether no indented line has a comment behind a command: zsh takes one that is typed for words."""
@@ -345,8 +333,8 @@ def main(*names):
             if not is_quick:
                 documents.compile_program(name, text)
         documents.follow_links(name, text)
-    if not {*STRANGE} - {*names} or not names:
-        documents.run_on_stranger(STRANGE)
+    if not names and os.path.isdir("crates"):
+        documents.run_on_stranger()
     status = documents.tally.status()
     for tools, number in sorted(documents.skipped.items()):
         print(f"skipped, for want of {tools}: {number} examples")
