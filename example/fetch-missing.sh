@@ -4,9 +4,9 @@
 #
 #   fetch-missing.sh GO.MOD FOLDER URL     URL as in GOPROXY, such as https://proxy.golang.org or file:///a/folder
 #
-# It needs gomod and curl (7.75 or newer) on the PATH. `gomod list --sum` checks the files afterwards. Each URL that fails
-# is named once. The status is 1, and gomod's report is printed, if a round gets none of the files that are missing.
-# The main file may be a stranger's: curl is told only paths and versions that gomod reads, and FOLDER has no links.
+# It needs gomod and curl (7.75 or newer) on the PATH. `gomod list --sum` checks the files afterwards. Each URL that
+# fails is named once. The status is 1, and gomod's report is printed, if a round gets none of the files that are missing.
+# GO.MOD may be a stranger's: curl is told only paths and versions that gomod reads, and FOLDER has to have no links.
 set -euo pipefail
 export LC_ALL=C
 help() { awk 'NR > 1 { if (!/^#/) exit; print substr($0, 3) }' < "$0" && exit "$1"; }
@@ -69,7 +69,7 @@ get() {
 }
 
 [[ $url != *[\"\\[:cntrl:]]* ]] || refuse "a URL has no \", \\ or control byte"
-mkdir -p "$folder"
+mkdir -p -- "$folder"
 link=$(find "$folder" -type l -print -quit)
 [ -z "$link" ] || refuse "$link is a link, and may lead out of the folder"
 for ((round = 1; ; round++)); do

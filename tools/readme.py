@@ -137,7 +137,7 @@ def scratch_room():
 
 
 def lay_stranger(room):
-    """Lays a stranger's project in top/stranger, and what that asks for. It leads to `outside`, beside top."""
+    """Lays a stranger's project, and what it asks for. It leads to `outside`, beside top."""
     mod = read("example/go.mod")
     for number, text in enumerate(HOSTILE):
         write(f"{room}/top/stranger/{text}/go.mod", f"module z.x/m{number}\n")
@@ -218,7 +218,7 @@ class Documents:
         return wrong
 
     def run_on_stranger(self):
-        """Runs the commands of two pages on a stranger's project, in one shell, where cp copies that."""
+        """Runs the commands of two pages on a stranger's project, which cp copies."""
         text = read("docs/use/COMMANDS.md") + read("docs/use/RECIPES.md")
         text = re.sub(r"example/[\w-]+\.mod", "stranger/go.mod", text)
         commands = ['cp() { command cp -a stranger/. "${@: -1}"; }', "seq() { echo 1 2; }"]
