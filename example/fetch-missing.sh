@@ -5,8 +5,8 @@
 #   fetch-missing.sh GO.MOD FOLDER URL     URL as in GOPROXY, such as https://proxy.golang.org or file:///a/folder
 #
 # It needs gomod and curl (7.75 or newer) on the PATH. `gomod list --sum` checks the files afterwards. Each URL that
-# fails is named once. The status is 1, and gomod's report is printed, if a round gets none of the files that are missing.
-# GO.MOD may be a stranger's: curl is told only paths and versions that gomod reads, and FOLDER has to have no links.
+# fails is named once. The status is 1, and gomod's report is printed, if a round gets none of the missing files. GO.MOD
+# may be a stranger's: curl is told only paths and versions that gomod reads, and FOLDER has to have no links.
 set -euo pipefail
 export LC_ALL=C
 help() { awk 'NR > 1 { if (!/^#/) exit; print substr($0, 3) }' < "$0" && exit "$1"; }
