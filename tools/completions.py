@@ -163,10 +163,10 @@ def differences(shell, room):
         shutil.rmtree(f"{room}/home/go")
         for number, text in enumerate(HOSTILE):
             shell.completed(f"cd {room}/{number}; gomod", "\r")
-            # fish leaves out two of the folders
+            # fish leaves out two folders
             names = [text, text + "/"] + [""] * (text[0] == "~" or "\n" in text)
             for typed, wanted in BESIDE:
-                # a path is typed as far as the good one begins like it
+                # as far as the good path begins like it
                 typed = f"gomod {typed}" + "a" * (text[0] == "a" and "TEXT" not in wanted)
                 came = " ".join(shell.completed(typed, "\r"))
                 with contextlib.suppress(OSError):
