@@ -2,15 +2,19 @@
 use Rattle.std.proofs.Common.{◌≡◌, ◌∙◌, ◌∷◌, ◌++◌, ◌+◌, ◌<◌, ◌&&◌, ℕ, is_some, not, Bool, List, [], true, false, ap, ap₂, get_or, length, map, refl, sym, take}
 use Rattle.std.proofs.lemmas.List.{map_more, map_push}
 use Rattle.clap.specs.Built.{AddsArg, AddsInTurn, AddsSubcommand}
-use Rattle.clap.specs.Simple.{App, app_of, new_app, with_rule, with_subcommand}
+use Rattle.clap.specs.Simple.{App, app_of, new_app, new_rule, with_rule, with_subcommand}
 use Rattle.clap.specs.Walk.{Rule, Text, is_empty, rule_of}
 use Rattle.clap.specs.declared.builder.arg.Arg.{Arg}
 use Rattle.clap.specs.declared.builder.command.Command.{Command}
 use Rattle.clap.specs.declared.builder.command.Command.TheViews.{out-Command}
+use Rattle.gomod_words.specs.Private.Made.{formed, rule_in}
 use Rattle.gomod_words.specs.Table.{app_in, arguments_in, name_in, rule_for, with_rules_for, with_commands}
 use Rattle.gomod_words.specs.declared.table.Argument.{Argument}
 use Rattle.gomod_words.specs.declared.table.Argument.TheVariants as a
+use Rattle.gomod_words.specs.declared.table.ArgumentRow.{ArgumentRow}
 use Rattle.gomod_words.specs.declared.table.CommandName.{CommandName}
+use Rattle.gomod_words.specs.declared.table.Form.{Form}
+use Rattle.gomod_words.specs.declared.table.Form.TheVariants as form
 
 third_unset : (a b c d : Bool) → (a && (b && (not c && d))) ≡ true → c ≡ false
 third_unset true true false d holds = refl
@@ -99,3 +103,14 @@ command_more made new names i d command text arguments less before items is name
     ∙ ap (λ (app : App). map app_in (take i names) ++ app ∷ [])
     (is ∙ ap₂ (λ (name : Text) (all : List Argument). with_rules_for (new_app name) all) name_is arguments_are)
     ∙ sym (map_more app_in names i d less)
+
+-- the name of a row is that of what the parser reads of it
+formed-id : (how : Form) (rule : Rule) → (formed how rule).id ≡ rule.id
+formed-id form.Operand rule = refl
+formed-id form.Operands rule = refl
+formed-id form.Option rule = refl
+formed-id (form.Default value) rule = refl
+formed-id form.Flag rule = refl
+
+pub row_name : (row : ArgumentRow) (rule : Rule) → rule_in row ≡ rule → row.name.now ≡ rule.id
+row_name row rule same = sym (formed-id row.form (record (new_rule row.name.now) { required = row.is_required })) ∙ ap (λ (r : Rule). r.id) same

@@ -1,5 +1,5 @@
 -- What is known about the words at each fault.
-use Rattle.std.proofs.Common.{◌≡◌, ◌≢◌, ◌∙◌, ℕ, Bool, List, [], Option, None, Result, Ok, Err, IfErr, IfOk, IsOk, true, sym, subst, inl, inr, refl}
+use Rattle.std.proofs.Common.{◌≡◌, ◌≢◌, ◌∙◌, List, [], Option, None, Result, Ok, Err, IfErr, IfOk, true, sym, subst, inl, inr, refl}
 use Rattle.clap.specs.Walk.{Row, Text}
 use Rattle.clap.specs.Simple.{App, HasMatchesOf, is_simple, subcommand_of, subcommand_rows_of}
 use Rattle.clap.specs.Faults.{fault_of, is_simple_and_free}
@@ -12,8 +12,8 @@ use Rattle.clap.specs.declared.error.kind.ErrorKind.{ErrorKind}
 use Rattle.clap.specs.declared.error.kind.ErrorKind.TheVariants.{DisplayHelp, DisplayVersion, OutOfMemory}
 use Rattle.gomod_words.specs.Dashed.{dashed_in}
 use Rattle.gomod_words.specs.Table.{gomod_app}
-use Rattle.gomod_words.specs.Usage.{AreRecognized, AreAccepted, AskFor, HasBadPath, HasBadProxy, IsFaultBy, IsFaultOf, IsMeant, IsReadFault, ShowsLine, ShowsUsage, usage_of}
-use Rattle.gomod_words.specs.Private.Usage.{AskForSomething, IsEntriesFault, IsParserFault}
+use Rattle.gomod_words.specs.Usage.{AreRecognized, AreAccepted, AskFor, HasBadPath, HasBadProxy, IsFaultBy, IsFaultOf, IsMeant, IsReadFault, ShowsLine, ShowsUsage}
+use Rattle.gomod_words.specs.Private.Usage.{IsEntriesFault, IsParserFault}
 use Rattle.gomod_words.specs.declared.usage.Command.{Command}
 use Rattle.gomod_words.specs.declared.usage.Places.{Places}
 use Rattle.gomod_words.specs.declared.usage.UsageFault.{UsageFault}
@@ -26,11 +26,10 @@ pub read_fault : (words : List Text) (fault : UsageFault) → dashed_in words �
 read_fault words fault undashed known shows = subst (λ (o : Option Text). IsFaultBy o words fault) (sym undashed) (known, shows)
 
 -- the same of a result that may be a fault
-pub read_result : {T : Type 0} (words : List Text) (usage : List ℕ) (result : Result T UsageFault) → dashed_in words ≡ None → IfErr result (IsReadFault words)
-    → IfErr result (ShowsLine usage) → usage ≡ usage_of words → IfErr result (IsFaultOf words)
-read_result words usage (Ok value) undashed known shows same = tt
-read_result words usage (Err fault) undashed known shows same =
-    read_fault words fault undashed known (shows_usage words fault (subst (λ (u : List ℕ). ShowsLine u fault) same shows))
+pub read_result : {T : Type 0} (words : List Text) (result : Result T UsageFault) → dashed_in words ≡ None → IfErr result (IsReadFault words)
+    → IfErr result (ShowsLine words) → IfErr result (IsFaultOf words)
+read_result words (Ok value) undashed known shows = tt
+read_result words (Err fault) undashed known shows = read_fault words fault undashed known (shows_usage words fault shows)
 
 -- a fault of the entries is a fault of the words
 entries_fault : (words : List Text) (entered : Option (Text × List Row)) (fault : UsageFault) → AreAccepted words
@@ -56,18 +55,6 @@ pub entries_read : (words : List Text) (entered : Option (Text × List Row))
 entries_read words entered (Ok read) undashed taken same known =
     let P : Option (Text × List Row) → Type 0 = λ o. IsMeant o read.0 read.1 in record { undashed = undashed; taken = taken; meant = subst P same known }
 entries_read words entered (Err fault) undashed taken same known = tt
-
-some_asked : (words : List Text) (result : Result (Command × Places) UsageFault)
-    → IfOk result (λ read. AskFor words read.0 read.1) → IsOk result → AskForSomething words
-some_asked words (Ok read) asked ok = (read.0, read.1, asked)
-some_asked words (Err fault) asked ok = cc ok
-
--- words that are found to be read ask for a command
-pub read_asks : {E : Type 0} (words : List Text) (result : Result (Command × Places) UsageFault) (is : Result Bool E)
-    → IfOk result (λ read. AskFor words read.0 read.1)
-    → IfOk is (λ b. b ≡ true → IsOk result) → IfOk is (λ b. b ≡ true → AskForSomething words)
-read_asks words result (Ok b) asked known = λ yes. some_asked words result asked (known yes)
-read_asks words result (Err e) asked known = tt
 
 -- an error whose kind is not that memory ran out has a kind that applies to the words
 kind_among : (words : List Text) (error : Error) → HasKind (fault_of gomod_app words) error → kind_of error ≢ OutOfMemory

@@ -4,9 +4,7 @@ mod EntriesFaults
 mod Exclusion
 mod Faults
 pub mod GivenWords
+mod HintWords
 mod Limits
-mod PastEnd
 mod Queries
-mod RowLemmas
-mod TipLemmas
 mod UsageLines

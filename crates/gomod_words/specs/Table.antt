@@ -1,5 +1,5 @@
 -- The table of commands and options: what each is called, and what the parser is given of it.
-use Rattle.std.specs.Prelude.{ℕ, ◌∷◌, Bool, List, [], Option, Some, false, true, codes, find}
+use Rattle.std.specs.Prelude.{ℕ, ◌∷◌, List, [], Option, Some, true, codes, find}
 use Rattle.std.specs.Str.{bytes_eq}
 use Rattle.clap.specs.Lexer.{usize_max}
 use Rattle.clap.specs.Walk.{Rule, Text}
@@ -9,30 +9,6 @@ use Rattle.gomod_words.specs.declared.table.Argument.{Argument}
 use Rattle.gomod_words.specs.declared.table.Argument.TheVariants as a
 use Rattle.gomod_words.specs.declared.table.CommandName.{CommandName}
 use Rattle.gomod_words.specs.declared.table.CommandName.TheVariants as n
-use Rattle.gomod_words.specs.declared.table.OptionName.{OptionName}
-use Rattle.gomod_words.specs.declared.table.OptionName.TheVariants.{Proxy, Mod, Sum, After, Limit, Retracted}
-
--- the name of an option
-abbrev pub option_text : OptionName → Text
-option_text Proxy = codes "proxy"
-option_text Mod = codes "mod"
-option_text Sum = codes "sum"
-option_text After = codes "after"
-option_text Limit = codes "limit"
-option_text Retracted = codes "retracted"
-
--- every option
-abbrev pub options : List OptionName
-options = Proxy ∷ Mod ∷ Sum ∷ After ∷ Limit ∷ Retracted ∷ []
-
--- the option with this name
-unfoldable pub option_named : Text → Option OptionName
-option_named name = find (λ option. bytes_eq name (option_text option)) options
-
--- the option takes a value
-abbrev pub has_value : OptionName → Bool
-has_value Retracted = false
-has_value option = true
 
 -- the name of a command
 abbrev pub name_in : CommandName → Text
@@ -81,21 +57,20 @@ repeated_positional_rule name =
     record (positional_rule name) { range = Some (record { start_inclusive = 1; end_inclusive = usize_max }) }
 
 -- an option `--NAME VALUE`, which may be left out
-abbrev pub option_rule : OptionName → Rule
-option_rule option =
-    record (new_rule (option_text option)) { long = Some (option_text option); value_names = 1 }
+abbrev pub option_rule : Text → Rule
+option_rule name = record (new_rule name) { long = Some name; value_names = 1 }
 
 -- an option `--NAME VALUE`, which must be given
-abbrev pub required_option_rule : OptionName → Rule
-required_option_rule option = record (option_rule option) { required = true }
+abbrev pub required_option_rule : Text → Rule
+required_option_rule name = record (option_rule name) { required = true }
 
 -- an option `--NAME VALUE`, which has this value if it is left out
-abbrev pub default_option_rule : OptionName → Text → Rule
-default_option_rule option value = record (option_rule option) { defaults = value ∷ [] }
+abbrev pub default_option_rule : Text → Text → Rule
+default_option_rule name value = record (option_rule name) { defaults = value ∷ [] }
 
 -- a flag `--NAME`
-abbrev pub flag_rule : OptionName → Rule
-flag_rule option = record (new_rule (option_text option)) { long = Some (option_text option); action = Some SetTrue }
+abbrev pub flag_rule : Text → Rule
+flag_rule name = record (new_rule name) { long = Some name; action = Some SetTrue }
 
 -- an argument
 abbrev pub rule_for : Argument → Rule
@@ -103,13 +78,17 @@ rule_for a.FmtFile = positional_rule (codes "file")
 rule_for a.EditFile = positional_rule (codes "file")
 rule_for a.Operations = repeated_positional_rule (codes "op")
 rule_for a.Path = positional_rule (codes "path")
-rule_for a.Proxy = option_rule Proxy
-rule_for a.RequiredProxy = required_option_rule Proxy
-rule_for a.Mod = default_option_rule Mod (codes "go.mod")
-rule_for a.Sum = option_rule Sum
-rule_for a.After = option_rule After
-rule_for a.Limit = option_rule Limit
-rule_for a.Retracted = flag_rule Retracted
+rule_for a.Proxy = option_rule (codes "proxy")
+rule_for a.RequiredProxy = required_option_rule (codes "proxy")
+rule_for a.Mod = default_option_rule (codes "mod") (codes "go.mod")
+rule_for a.Sum = option_rule (codes "sum")
+rule_for a.After = option_rule (codes "after")
+rule_for a.Limit = option_rule (codes "limit")
+rule_for a.Retracted = flag_rule (codes "retracted")
+
+-- the name of an argument
+abbrev pub name_of : Argument → Text
+name_of argument = (rule_for argument).id
 
 -- a command with these arguments more
 abbrev pub with_rules_for : App → List Argument → App

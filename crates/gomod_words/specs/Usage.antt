@@ -2,9 +2,10 @@
 -- have no meaning.
 use Rattle.std.specs.Prelude.{◌≡◌, ◌≢◌, ◌⊎◌, ◌&&◌, ◌||◌, ◌∷◌, ◌++◌, not, ℕ, Bool, IfSome, List, [], Option, Some, None, true, false, codes, encode_utf8_all, flat_map, is_some, map, option_map, unwrap_or, if◌then◌else◌, String}
 use Rattle.std.specs.Char.Escape.{escape_ascii}
-use Rattle.std.specs.List.{list_all}
+use Rattle.std.specs.List.{Contains, list_all}
 use Rattle.std.specs.Option.{option_map_or}
 use Rattle.std.specs.Str.{bytes_eq}
+use Rattle.std.specs.Str.Iter.{HasSubslice}
 use Rattle.std.specs.Global.{Global, Vec}
 use Rattle.std.specs.String.{string_bytes}
 use Rattle.clap.specs.Walk.{Row, Text, all_of, first_of}
@@ -17,25 +18,25 @@ use Rattle.clap.specs.declared.error.kind.ErrorKind.TheVariants.{DisplayHelp, Di
 use Rattle.gm_name.specs.Path.{IsPath}
 use Rattle.gm_store.specs.Proxies.{folders_in, folders_of, is_folder, marks_in, marks_of}
 use Rattle.gm_store.specs.declared.fallback.proxy_list.ProxyList.{ProxyList}
-use Rattle.gomod_words.specs.Dashed.{dashed_in, edit_words, joined_words, omitted_words}
+use Rattle.gomod_words.specs.Dashed.{dashed_in}
+use Rattle.gomod_words.specs.Hints.{IsHintOf}
 use Rattle.gomod_words.specs.Limits.{limit_of}
-use Rattle.gomod_words.specs.Table.{command_named, gomod_app, name_in, option_text, usage_for}
-use Rattle.gomod_words.specs.Typed.{left_text, typed_words}
+use Rattle.gomod_words.specs.Table.{command_named, gomod_app, name_in, name_of, usage_for}
 use Rattle.gomod_words.specs.declared.table.CommandName.TheVariants as n
-use Rattle.gomod_words.specs.declared.table.OptionName.{OptionName}
-use Rattle.gomod_words.specs.declared.table.OptionName.TheVariants.{Proxy, Mod, Sum, After, Limit, Retracted}
+use Rattle.gomod_words.specs.declared.table.Argument.{Argument}
+use Rattle.gomod_words.specs.declared.table.Argument.TheVariants.{Proxy, Mod, Sum, After, Limit, Retracted}
 use Rattle.gomod_words.specs.declared.usage.Command.{Command}
 use Rattle.gomod_words.specs.declared.usage.Command.TheVariants.{Versions, Fmt, Edit, Graph, List as Rows, Chain}
 use Rattle.gomod_words.specs.declared.usage.Places.{Places}
 use Rattle.gomod_words.specs.declared.usage.UsageFault.{UsageFault}
 use Rattle.gomod_words.specs.declared.usage.UsageFault.TheVariants.{NoMemory, Help, Version, Line, BadPath, BadProxy}
 
--- the first value of an option, or `None` if it is not given
-abbrev pub given : OptionName → List Row → Option Text
-given option rows = first_of (option_text option) rows
+-- the first value of an argument, or `None` if it is not given
+abbrev pub given : Argument → List Row → Option Text
+given argument rows = first_of (name_of argument) rows
 
 -- whether a flag is given
-abbrev pub is_given : OptionName → List Row → Bool
+abbrev pub is_given : Argument → List Row → Bool
 is_given flag rows = option_map_or (λ value. bytes_eq value (codes "true")) (given flag rows) false
 
 -- the text is a valid list of proxy folders
@@ -200,39 +201,57 @@ IsLineOf text NoMemory = Unit {0}
 IsLineOf text (Line line) = string_bytes line ≡ text
 IsLineOf text _ = ⊥
 
--- what is wrong with an operation that was written with a dash in front, where an operation is one of these words after
--- `edit`, what to type instead, and which words that leaves out
-abbrev pub edit_message : List ℕ → List Text → List ℕ
-edit_message operation words =
-    codes "error: operations have no dash: " ++ operation
-    ++ codes "\n\n  tip: gomod edit" ++ typed_words (edit_words words) ++ left_text (omitted_words words)
+-- what stands between a message and its tips
+abbrev pub tip_mark : List ℕ
+tip_mark = codes "\n\n  tip: "
 
--- the same, where an operation may be an option with its value in the next word
-abbrev pub dashed_message : List ℕ → List Text → List ℕ
-dashed_message operation words = edit_message operation (joined_words words)
+-- the message with this hint after it, or with none
+abbrev pub with_tip : List ℕ → Option Text → List ℕ
+with_tip message None = message
+with_tip message (Some hint) = message ++ (tip_mark ++ hint)
 
--- the words after the program's name and a command's
-abbrev pub words_after : List Text → List Text
-words_after (program ∷ name ∷ words) = words
-words_after _ = []
+-- the text is this message, and what the table of hints says of a word among these, if anything
+abbrev pub HasHintOf : List Text → List ℕ → List ℕ → Type 0
+HasHintOf words message text = (hint : Option Text) × IfSome hint (IsHintOf words) × (text ≡ with_tip message hint)
 
--- the usage error of an operation that was written with a dash in front, among these words
-abbrev pub dashed_text : List ℕ → List Text → List ℕ
-dashed_text operation words = usage_text (dashed_message operation (words_after words)) (usage_of words)
+-- The text is this message, at most one hint, which the table has for a word among these, their usage line, and how to
+-- get help.
+abbrev pub IsUsageText : List Text → List ℕ → List ℕ → Type 0
+IsUsageText words message text =
+    (shown : List ℕ) × HasHintOf words message shown × (text ≡ usage_text shown (usage_of words))
 
--- a usage error shows what is wrong, and this usage line
-abbrev pub ShowsLine : List ℕ → UsageFault → Type 0
-ShowsLine usage (Line text) = (message : List ℕ) × (string_bytes text ≡ usage_text message usage)
-ShowsLine usage _ = Unit {0}
+-- the fault is the usage error of these words with this message, or memory ran out
+abbrev pub IsLineOn : List Text → List ℕ → UsageFault → Type 0
+IsLineOn words message NoMemory = Unit {0}
+IsLineOn words message (Line line) = IsUsageText words message (string_bytes line)
+IsLineOn words message _ = ⊥
 
--- A usage error of these words shows their usage line. Without a word after the program's name it is the help.
+-- what is wrong with an operation that was written with a dash in front
+abbrev pub dashed_message : List ℕ → List ℕ
+dashed_message operation = codes "error: operations have no dash: " ++ operation
+
+-- one of these words has the text in it
+abbrev pub IsWithin : List ℕ → List Text → Type 0
+IsWithin text words = (word : Text) × Contains words word × HasSubslice word text
+
+-- the message has no tip in it, unless a word has what a tip begins with
+abbrev pub HasNoTip : List Text → List ℕ → Type 0
+HasNoTip words message = HasSubslice message tip_mark → IsWithin tip_mark words
+
+-- a usage error of these words shows what is wrong, at most one hint, and their usage line
+abbrev pub ShowsLine : List Text → UsageFault → Type 0
+ShowsLine words (Line text) =
+    (message : List ℕ) × HasNoTip words message × IsUsageText words message (string_bytes text)
+ShowsLine words _ = Unit {0}
+
+-- A usage error of these words shows that. Without a word after the program's name it is the help.
 abbrev pub ShowsUsage : List Text → UsageFault → Type 0
-ShowsUsage (program ∷ first ∷ words) fault = ShowsLine (usage_of (program ∷ first ∷ words)) fault
+ShowsUsage (program ∷ first ∷ words) fault = ShowsLine (program ∷ first ∷ words) fault
 ShowsUsage _ fault = Unit {0}
 
 -- what a fault says about words with this operation with a dash in front, or with none
 abbrev pub IsFaultBy : Option Text → List Text → UsageFault → Type 0
-IsFaultBy (Some operation) words fault = IsLineOf (dashed_text operation words) fault
+IsFaultBy (Some operation) words fault = IsLineOn words (dashed_message operation) fault
 IsFaultBy None words fault = IsReadFault words fault × ShowsUsage words fault
 
 -- What a fault says about the words: an operation of `edit` has a dash in front; or none has, and the parser reads the

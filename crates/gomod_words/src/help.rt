@@ -3,11 +3,6 @@
 //! `-h` shows the short texts and the examples. `--help` shows the long ones, and the errors that a command reports.
 //! The lines of help are at most 100 characters wide.
 
-ghost use Rattle.std.specs.Prelude.{◌≡◌, map};
-ghost use Rattle.gomod_words.specs.Usage.{usage_line, usage_of};
-
-use crate::table::{command_named, command_row};
-
 /// The version of the program, and the kit that it is proved with.
 pub(crate) const VERSION: &str = "1.1.0 (Rattle, logic dac8208d650f15bf)";
 
@@ -34,28 +29,6 @@ pub(crate) const VERSIONS_USAGE: &str = "gomod versions [OPTIONS] <PATH>";
 
 /// How a usage error ends.
 pub(crate) const TRY_HELP: &str = "\n\nFor more information, try '--help'.\n";
-
-/// The usage line of the words of a command line: that of the command that they name, first or after `help`, or that
-/// of the program if they name none. The first word is the program's name.
-pub(crate) fn usage_of(words: &[&str]) -> &'static str
-    ensures { result.now ≡ usage_of (map (λ word. word.now) words.now) }
-{
-    match words {
-        [_, first, second, ..] => usage_line(if *first == "help" { *second } else { *first }),
-        [_, first] => usage_line(*first),
-        _ => GOMOD_USAGE,
-    }
-}
-
-/// The usage line of the command with this name, or that of the program if there is no such command.
-fn usage_line(name: &str) -> &'static str
-    ensures { result.now ≡ usage_line name.now }
-{
-    match command_named(name) {
-        Some(command) => command_row(command).usage,
-        None => GOMOD_USAGE,
-    }
-}
 
 /// What the help of the program ends with.
 pub(crate) const GOMOD_END: &str = "\

@@ -11,22 +11,18 @@
 //! and no go.sum. With `--limit 0` it is a `UsageFault::Line`.
 #![tactic(auto)]
 
-mod advice;
 mod command;
 mod dashed;
 mod given;
 mod help;
-mod items;
+mod hints;
 pub mod laws;
-mod lines;
-mod names;
-mod placed;
 mod query;
 mod refusal;
-mod rows;
 mod table;
-mod typed;
 mod usage;
+mod words;
 
 pub use crate::given::{Words, given_words};
-pub use crate::usage::{Command, Places, UsageFault, read_words};
+pub use crate::usage::{Command, Places, UsageFault};
+pub use crate::words::read_words;

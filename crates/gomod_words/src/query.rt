@@ -1,26 +1,22 @@
 //! The meaning of the words of `graph`, `list` and `chain`. The three share the options that say where the
 //! module graph comes from, so these are read in one place.
 
-ghost use Rattle.std.specs.Prelude.{◌≡◌, ℕ, IfErr, IfOk, IfSome, List, Some, codes, option_map, true, unwrap_or};
+ghost use Rattle.std.specs.Prelude.{◌≡◌, IfErr, IfOk, IfSome, Some, codes, option_map, true, unwrap_or};
 ghost use Rattle.std.specs.Option.{option_copied};
 ghost use Rattle.std.specs.String.{string_bytes};
-ghost use Rattle.clap.specs.Words.{found_of, rows_of};
 ghost use Rattle.gm_name.specs.Path.{IsPath};
 ghost use Rattle.gomod_words.specs.Limits.{limit_of};
-ghost use Rattle.gomod_words.specs.Usage.{ArePlaces, IsLimit, IsProxy, Means, ShowsLine, given, is_input, is_input_twice, is_line_or_memory};
-ghost use Rattle.gomod_words.specs.Private.Usage.{IsAfterFault, IsEntriesFault, IsLimitFault, IsPlacesFault};
+ghost use Rattle.gomod_words.specs.Usage.{ArePlaces, IsLimit, IsProxy, given, is_input, is_input_twice, is_line_or_memory};
+ghost use Rattle.gomod_words.specs.Private.Usage.{IsAfterFault, IsFaultIn, IsLimitFault, IsPlacesFault, IsReadOf, entries};
 
-use crate::table::OptionName;
+use crate::table::Argument;
 use crate::usage::{
-    Command, Places, UsageFault, line, option_value, read_path, read_proxy, value_of,
+    Command, Places, UsageFault, missing, read_path, read_proxy, refused, value_of,
 };
 use clap::ArgMatches;
 use gm_name::{ModPath, has_only_digits};
 use gm_store::ProxyList;
 use std::alloc::{AllocError, Global};
-
-/// What to do instead of giving a `--limit` that is no number.
-const ABOUT_LIMIT: &str = "\n\n  tip: without --limit all rows are printed";
 
 /// The number of rows that a text stands for, or `None` if it is not one or more ASCII digits that form a
 /// number from 1 to 4,294,967,295.
@@ -37,49 +33,41 @@ pub(crate) fn limit_in(text: &str) -> Option<u32>
     }
 }
 
+/// How the message on an invalid value of `--limit` begins.
+pub(crate) const BAD_VALUE: &str = "error: invalid value '";
+
 /// The fault for a value of `--limit` that is not a valid number of rows.
-#[tactic(auto, using(crate::proofs::UsageLines::line_shows))]
-fn bad_limit(alloc: Global, text: &str, usage: &str) -> UsageFault
-    ensures kind { is_line_or_memory result ≡ true }
-    ensures usage { ShowsLine usage.now result }
+fn bad_limit(alloc: Global, text: &str) -> UsageFault
+    ensures { is_line_or_memory result ≡ true }
 {
-    match format!(in alloc;
-        "error: invalid value '{text}' for '--limit <N>': not a number from 1 to 4294967295{ABOUT_LIMIT}"
-    ) {
-        Ok(message) => line(alloc, message.as_str(), usage),
-        Err(_) => UsageFault::NoMemory,
-    }
+    refused(format!(in alloc;
+        "{BAD_VALUE}{text}' for '--limit <N>': not a number from 1 to 4294967295"
+    ))
 }
 
 /// The number of rows that `--limit` asks for, or `None` if the option is not given. An invalid number is
 /// refused with `Line`.
-fn limit_given<'a>(
-    alloc: Global,
-    found: &ArgMatches<'a>,
-    usage: &str,
-) -> Result<Option<u32>, UsageFault>
-    ensures limit { IfOk result (IsLimit (given OptionName.Limit (rows_of (found_of found.now)))) }
-    ensures fault { IfErr result (IsLimitFault (given OptionName.Limit (rows_of (found_of found.now)))) }
-    ensures usage { IfErr result (ShowsLine usage.now) }
+fn limit_given<'a>(alloc: Global, found: &ArgMatches<'a>) -> Result<Option<u32>, UsageFault>
+    ensures limit { IfOk result (IsLimit (given Argument.Limit (entries found.now))) }
+    ensures fault { IfErr result (IsLimitFault (given Argument.Limit (entries found.now))) }
 {
-    let Some(text) = option_value(found, OptionName::Limit) else {
+    let Some(text) = value_of(found, Argument::Limit) else {
         return Ok(None);
     };
     match limit_in(text) {
         Some(limit) => Ok(Some(limit)),
-        None => Err(bad_limit(alloc, text, usage)),
+        None => Err(bad_limit(alloc, text)),
     }
 }
 
 /// The path that `--after` names, or `None` if the option is not given. An invalid path is refused with
 /// `BadPath`.
 fn after_given<'a>(alloc: Global, found: &ArgMatches<'a>) -> Result<Option<ModPath>, UsageFault>
-    ensures after { IfOk result (λ after. (given OptionName.After (rows_of (found_of found.now)) ≡ after)
+    ensures after { IfOk result (λ after. (given Argument.After (entries found.now) ≡ after)
         × IfSome after IsPath) }
-    ensures fault { IfErr result (IsAfterFault (given OptionName.After (rows_of (found_of found.now)))) }
-    ensures usage { (usage : List ℕ) → IfErr result (ShowsLine usage) }
+    ensures fault { IfErr result (IsAfterFault (given Argument.After (entries found.now))) }
 {
-    match option_value(found, OptionName::After) {
+    match value_of(found, Argument::After) {
         Some(text) => Ok(Some(read_path(alloc, text)?)),
         None => Ok(None),
     }
@@ -87,28 +75,23 @@ fn after_given<'a>(alloc: Global, found: &ArgMatches<'a>) -> Result<Option<ModPa
 
 /// The proxy folders, which must be given. Their absence is refused with `Line`, which has the usage line of the
 /// command, and an invalid value with `BadProxy`.
-fn proxy_given<'a>(
-    alloc: Global,
-    found: &ArgMatches<'a>,
-    usage: &str,
-) -> Result<ProxyList, UsageFault>
+fn proxy_given<'a>(alloc: Global, found: &ArgMatches<'a>) -> Result<ProxyList, UsageFault>
     ensures proxy { IfOk result (λ list.
-        IsProxy (given OptionName.Proxy (rows_of (found_of found.now))) (Some list)) }
-    ensures fault { IfErr result (IsPlacesFault (rows_of (found_of found.now))) }
-    ensures usage { IfErr result (ShowsLine usage.now) }
+        IsProxy (given Argument.Proxy (entries found.now)) (Some list)) }
+    ensures fault { IfErr result (IsPlacesFault (entries found.now)) }
 {
-    match option_value(found, OptionName::Proxy) {
+    match value_of(found, Argument::Proxy) {
         Some(value) => read_proxy(alloc, value),
-        None => Err(line(alloc, "error: no DIR given", usage)),
+        None => Err(missing(alloc, Argument::Proxy)),
     }
 }
 
 /// The name of the main file: that of `--mod`, or `go.mod`.
 fn main_given<'a>(alloc: Global, found: &ArgMatches<'a>) -> Result<String, AllocError>
     ensures { IfOk result (λ main. string_bytes main
-        ≡ unwrap_or (given OptionName.Mod (rows_of (found_of found.now))) (codes "go.mod")) }
+        ≡ unwrap_or (given Argument.Mod (entries found.now)) (codes "go.mod")) }
 {
-    match option_value(found, OptionName::Mod) {
+    match value_of(found, Argument::Mod) {
         Some(name) => String::from_str(alloc, name),
         None => String::from_str(alloc, "go.mod"),
     }
@@ -117,9 +100,9 @@ fn main_given<'a>(alloc: Global, found: &ArgMatches<'a>) -> Result<String, Alloc
 /// The name of the go.sum, or `None` if `--sum` is not given.
 fn sums_given<'a>(alloc: Global, found: &ArgMatches<'a>) -> Result<Option<String>, AllocError>
     ensures { IfOk result (λ sums. option_map string_bytes sums
-        ≡ given OptionName.Sum (rows_of (found_of found.now))) }
+        ≡ given Argument.Sum (entries found.now)) }
 {
-    match option_value(found, OptionName::Sum) {
+    match value_of(found, Argument::Sum) {
         Some(name) => Ok(Some(String::from_str(alloc, name)?)),
         None => Ok(None),
     }
@@ -137,25 +120,23 @@ fn is_input(name: Option<&str>) -> bool
 
 /// Whether standard input is named twice, as the main file and as the go.sum.
 fn is_input_twice<'a>(found: &ArgMatches<'a>) -> bool
-    ensures { result ≡ is_input_twice (rows_of (found_of found.now)) }
+    ensures { result ≡ is_input_twice (entries found.now) }
 {
-    is_input(option_value(found, OptionName::Mod)) && is_input(option_value(found, OptionName::Sum))
+    is_input(value_of(found, Argument::Mod)) && is_input(value_of(found, Argument::Sum))
 }
 
-/// The files and folders of a command over a module graph with this usage line. That standard input is both files is
-/// refused with `Line`, after what is wrong with the folders.
-fn read_places<'a>(alloc: Global, found: &ArgMatches<'a>, usage: &str) -> Result<Places, UsageFault>
-    ensures places { IfOk result (ArePlaces (rows_of (found_of found.now))) }
-    ensures fault { IfErr result (IsPlacesFault (rows_of (found_of found.now))) }
-    ensures usage { IfErr result (ShowsLine usage.now) }
+/// The files and folders of a command over a module graph. That standard input is both files is refused with `Line`,
+/// after what is wrong with the folders.
+fn read_places<'a>(alloc: Global, found: &ArgMatches<'a>) -> Result<Places, UsageFault>
+    ensures places { IfOk result (ArePlaces (entries found.now)) }
+    ensures fault { IfErr result (IsPlacesFault (entries found.now)) }
 {
-    let proxy = proxy_given(alloc, found, usage)?;
+    let proxy = proxy_given(alloc, found)?;
     if is_input_twice(found) {
-        return Err(line(
+        return Err(refused(String::from_str(
             alloc,
             "error: standard input can't be both --mod and --sum",
-            usage,
-        ));
+        )));
     }
     let main = main_given(alloc, found)?;
     let sums = sums_given(alloc, found)?;
@@ -170,13 +151,11 @@ fn read_places<'a>(alloc: Global, found: &ArgMatches<'a>, usage: &str) -> Result
 pub(crate) fn read_graph<'a>(
     alloc: Global,
     found: &ArgMatches<'a>,
-    usage: &str,
 ) -> Result<(Command, Places), UsageFault>
-    ensures read { IfOk result (λ read. Means (codes "graph") (rows_of (found_of found.now)) read.0 read.1) }
-    ensures fault { IfErr result (IsEntriesFault (Some (codes "graph", rows_of (found_of found.now)))) }
-    ensures usage { IfErr result (ShowsLine usage.now) }
+    ensures read { IfOk result (IsReadOf (codes "graph") found.now) }
+    ensures fault { IfErr result (IsFaultIn (codes "graph") found.now) }
 {
-    let places = read_places(alloc, found, usage)?;
+    let places = read_places(alloc, found)?;
     Ok((Command::Graph, places))
 }
 
@@ -186,15 +165,13 @@ pub(crate) fn read_graph<'a>(
 pub(crate) fn read_list<'a>(
     alloc: Global,
     found: &ArgMatches<'a>,
-    usage: &str,
 ) -> Result<(Command, Places), UsageFault>
-    ensures read { IfOk result (λ read. Means (codes "list") (rows_of (found_of found.now)) read.0 read.1) }
-    ensures fault { IfErr result (IsEntriesFault (Some (codes "list", rows_of (found_of found.now)))) }
-    ensures usage { IfErr result (ShowsLine usage.now) }
+    ensures read { IfOk result (IsReadOf (codes "list") found.now) }
+    ensures fault { IfErr result (IsFaultIn (codes "list") found.now) }
 {
-    let limit = limit_given(alloc, found, usage)?;
+    let limit = limit_given(alloc, found)?;
     let after = after_given(alloc, found)?;
-    let places = read_places(alloc, found, usage)?;
+    let places = read_places(alloc, found)?;
     Ok((Command::List { after, limit }, places))
 }
 
@@ -202,16 +179,14 @@ pub(crate) fn read_list<'a>(
 pub(crate) fn read_chain<'a>(
     alloc: Global,
     found: &ArgMatches<'a>,
-    usage: &str,
 ) -> Result<(Command, Places), UsageFault>
-    ensures read { IfOk result (λ read. Means (codes "chain") (rows_of (found_of found.now)) read.0 read.1) }
-    ensures fault { IfErr result (IsEntriesFault (Some (codes "chain", rows_of (found_of found.now)))) }
-    ensures usage { IfErr result (ShowsLine usage.now) }
+    ensures read { IfOk result (IsReadOf (codes "chain") found.now) }
+    ensures fault { IfErr result (IsFaultIn (codes "chain") found.now) }
 {
-    let Some(text) = value_of(found, "path") else {
-        return Err(line(alloc, "error: no PATH given", usage));
+    let Some(text) = value_of(found, Argument::Path) else {
+        return Err(missing(alloc, Argument::Path));
     };
     let path = read_path(alloc, text)?;
-    let places = read_places(alloc, found, usage)?;
+    let places = read_places(alloc, found)?;
     Ok((Command::Chain(path), places))
 }

@@ -1,34 +1,29 @@
-//! What the parser's text says of words that it refuses. The parser gives the kind of an error and its text alone, and
-//! the text has words in it, as they were typed.
+//! What is wrong with words, in the parser's text. The parser gives the kind of an error and its text alone, and the text
+//! has words in it, as they were typed.
 
-use crate::help::{TRY_HELP, usage_of};
+ghost use Rattle.std.specs.Prelude.{◌≡◌, true};
+ghost use Rattle.std.specs.Str.Iter.{HasSubslice};
+ghost use Rattle.gomod_words.specs.Hints.{texts_of};
+ghost use Rattle.gomod_words.specs.Usage.{IsWithin};
+
+use crate::help::TRY_HELP;
+use crate::table::{command_in, command_row, usage_of};
 use clap::error::ErrorKind;
 
-/// What the parser's text says of words that it refuses, without its usage line: `usage_of` says which one is shown.
-#[derive(Clone, Copy)]
-pub(crate) struct Refusal<'t> {
-    /// What is wrong.
-    pub(crate) message: &'t str,
-    /// The names that are similar to a word, if there are any. The parser's other tips are left out, since what they
-    /// say does not work.
-    pub(crate) similar: Option<&'t str>,
-}
+/// What stands between a message and its tips.
+pub(crate) const TIP: &str = "\n\n  tip: ";
 
-/// What stands between the parser's message and its tips.
-const TIP: &str = "\n\n  tip: ";
-
-/// What stands between the parser's message and its usage line.
+/// What stands between a message and its usage line.
 const USAGE: &str = "\n\nUsage: ";
 
-/// The parts of the parser's text on these words.
-pub(crate) fn refusal_in<'t>(kind: ErrorKind, text: &'t str, words: &[&str]) -> Refusal<'t> {
-    if matches!(kind, ErrorKind::DisplayHelpOnMissingArgumentOrSubcommand) {
-        return bare("error: no command given");
-    }
+/// What is wrong with these words, in the parser's text on them: all before its tips and its usage line, which
+/// `usage_of` says.
+pub(crate) fn message_in<'t>(kind: ErrorKind, text: &'t str, words: &[&str]) -> &'t str {
     let front = before_usage(text, usage_of(words));
     match kind {
+        ErrorKind::DisplayHelpOnMissingArgumentOrSubcommand => "error: no command given",
         ErrorKind::UnknownArgument => {
-            split_at_tip(
+            before_tip(
                 front,
                 "error: unexpected argument",
                 "' found\n\n  tip: ",
@@ -36,22 +31,34 @@ pub(crate) fn refusal_in<'t>(kind: ErrorKind, text: &'t str, words: &[&str]) -> 
             )
         }
         ErrorKind::InvalidSubcommand => {
-            split_at_tip(
+            before_tip(
                 front,
                 "error: unrecognized subcommand",
                 "'\n\n  tip: ",
                 words,
             )
         }
-        _ => bare(front),
+        _ => front,
     }
 }
 
-/// A message without a tip.
-fn bare(message: &str) -> Refusal<'_> {
-    Refusal {
-        message,
-        similar: None,
+/// What this message of the parser's is about, as the message names it.
+pub(crate) fn subject_in<'t>(kind: ErrorKind, message: &'t str, words: &[&str]) -> Option<&'t str> {
+    match kind {
+        ErrorKind::UnknownArgument => message
+            .strip_prefix("error: unexpected argument '")?
+            .strip_suffix("' found"),
+        ErrorKind::InvalidSubcommand => message
+            .strip_prefix("error: unrecognized subcommand '")?
+            .strip_suffix("'"),
+        ErrorKind::InvalidValue => {
+            let (option, _) = message
+                .strip_prefix("error: a value is required for '")?
+                .split_once(" ")?;
+            Some(option)
+        }
+        ErrorKind::MissingRequiredArgument => Some(command_row(command_in(words)?).name),
+        _ => None,
     }
 }
 
@@ -72,44 +79,33 @@ fn without_suffix<'t>(text: &'t str, suffix: &str) -> &'t str {
     }
 }
 
-/// The message before its tips and what they name, where this mark ends the one and begins the others. If a word has a
-/// mark in it, nothing tells where the message ends, and there is this short one.
-fn split_at_tip<'t>(front: &'t str, short: &'t str, mark: &str, words: &[&str]) -> Refusal<'t> {
+/// The message before its tips, where this mark ends the one and begins the others. If a word has the mark in it, nothing
+/// tells where the message ends, and there is this short one.
+fn before_tip<'t>(front: &'t str, short: &'t str, mark: &str, words: &[&str]) -> &'t str {
     if is_within(mark, words) {
-        return bare(short);
+        return short;
     }
     match front.split_once(mark) {
-        Some((_, tips)) => Refusal {
-            message: without_suffix(without_suffix(front, tips), TIP),
-            similar: if is_within("\n", words) {
-                None
-            } else {
-                similar_in(tips)
-            },
-        },
-        None => bare(front),
+        Some((_, tips)) => without_suffix(without_suffix(front, tips), TIP),
+        None => front,
     }
 }
 
-/// Whether a word has this text in it.
-fn is_within(text: &str, words: &[&str]) -> bool {
+/// Whether one of these words has this text in it.
+pub(crate) fn is_within(text: &str, words: &[&str]) -> bool
+    ensures { result ≡ true → IsWithin text.now (texts_of words.now) }
+{
     for word in words {
-        if word.contains(text) {
+        if has_text(word, text) {
             return true;
         }
     }
     false
 }
 
-/// The first of the parser's tips, if it names something similar.
-fn similar_in(tips: &str) -> Option<&str> {
-    let first = match tips.split_once('\n') {
-        Some((first, _)) => first,
-        None => tips,
-    };
-    if first.starts_with("a similar ") || first.starts_with("some similar ") {
-        Some(first)
-    } else {
-        None
-    }
+/// Whether a word has this text in it.
+pub(crate) fn has_text(word: &str, text: &str) -> bool
+    ensures { result ≡ true → HasSubslice word.now text.now }
+{
+    word.contains(text)
 }

@@ -1,10 +1,11 @@
 //! The table of commands and options: what each is called, the texts of its help, and the arguments that it takes.
 //! Operations are named in the crate gm_operation.
 
-ghost use Rattle.std.specs.Prelude.{◌≡◌, Some};
+ghost use Rattle.std.specs.Prelude.{◌≡◌};
+ghost use Rattle.gomod_words.specs.Hints.{texts_of};
 ghost use Rattle.gomod_words.specs.Private.Made.{rule_in};
-ghost use Rattle.gomod_words.specs.Private.Placed.{typed_option};
-ghost use Rattle.gomod_words.specs.Table.{arguments_in, command_named, has_value, name_in, option_named, option_text, rule_for, usage_for};
+ghost use Rattle.gomod_words.specs.Table.{arguments_in, command_named, name_in, rule_for, usage_for};
+ghost use Rattle.gomod_words.specs.Usage.{usage_line, usage_of};
 
 use crate::help::{self, End, Help};
 
@@ -69,95 +70,11 @@ pub(crate) fn command_named(name: &str) -> Option<CommandName>
     }
 }
 
-/// An option of the program.
-#[derive(Clone, Copy, PartialEq, Eq)]
-pub(crate) enum OptionName {
-    /// `--proxy DIR`.
-    Proxy,
-    /// `--mod FILE`.
-    Mod,
-    /// `--sum FILE`.
-    Sum,
-    /// `--after PATH`.
-    After,
-    /// `--limit N`.
-    Limit,
-    /// `--retracted`.
-    Retracted,
-}
-
-/// The name of `--proxy`.
-const PROXY: &str = "proxy";
-
-/// The name of `--mod`.
-const MOD: &str = "mod";
-
-/// The name of `--sum`.
-const SUM: &str = "sum";
-
-/// The name of `--after`.
-const AFTER: &str = "after";
-
-/// The name of `--limit`.
-const LIMIT: &str = "limit";
-
-/// The name of `--retracted`.
-const RETRACTED: &str = "retracted";
-
-/// The option with this name.
-#[tactic(auto, unfolding(crate::specs::Table::option_named))]
-pub(crate) fn option_named(name: &str) -> Option<OptionName>
-    ensures { result ≡ option_named name.now }
-{
-    match name {
-        PROXY => Some(OptionName::Proxy),
-        MOD => Some(OptionName::Mod),
-        SUM => Some(OptionName::Sum),
-        AFTER => Some(OptionName::After),
-        LIMIT => Some(OptionName::Limit),
-        RETRACTED => Some(OptionName::Retracted),
+/// The command that the words of a command line name first. The first word is the program's name.
+pub(crate) fn command_in(words: &[&str]) -> Option<CommandName> {
+    match words {
+        [_, name, ..] => command_named(name),
         _ => None,
-    }
-}
-
-/// The name of an option, without its dashes. No other option has it.
-#[tactic(auto, unfolding(crate::specs::Table::option_named))]
-pub(crate) fn option_text(option: OptionName) -> &'static str
-    ensures text { result.now ≡ option_text option }
-    ensures named { option_named result.now ≡ Some option }
-{
-    match option {
-        OptionName::Proxy => PROXY,
-        OptionName::Mod => MOD,
-        OptionName::Sum => SUM,
-        OptionName::After => AFTER,
-        OptionName::Limit => LIMIT,
-        OptionName::Retracted => RETRACTED,
-    }
-}
-
-/// An option as it is typed.
-pub(crate) fn typed_option(option: OptionName) -> &'static str
-    ensures { result.now ≡ typed_option option }
-{
-    match option {
-        OptionName::Proxy => "--proxy",
-        OptionName::Mod => "--mod",
-        OptionName::Sum => "--sum",
-        OptionName::After => "--after",
-        OptionName::Limit => "--limit",
-        OptionName::Retracted => "--retracted",
-    }
-}
-
-/// Whether an option takes a value.
-pub(crate) fn has_value(option: OptionName) -> bool
-    ensures { result ≡ has_value option }
-{
-    match option {
-        OptionName::Retracted => false,
-        OptionName::Proxy | OptionName::Mod | OptionName::Sum => true,
-        OptionName::After | OptionName::Limit => true,
     }
 }
 
@@ -233,26 +150,13 @@ pub(crate) struct CommandRow {
     pub(crate) arguments: &'static [Argument],
 }
 
-/// The row of an argument that must be given.
-macro_rules! required {
-    ($name:expr, $form:expr, $shown:literal, $help:expr) => {
+/// The row of an argument, which must be given or may be left out.
+macro_rules! row {
+    ($name:literal, $form:expr, $is_required:literal, $shown:literal, $help:expr) => {
         ArgumentRow {
             name: $name,
             form: $form,
-            is_required: true,
-            shown: $shown,
-            help: $help,
-        }
-    };
-}
-
-/// The row of an argument that may be left out.
-macro_rules! optional {
-    ($name:expr, $form:expr, $shown:literal, $help:expr) => {
-        ArgumentRow {
-            name: $name,
-            form: $form,
-            is_required: false,
+            is_required: $is_required,
             shown: $shown,
             help: $help,
         }
@@ -264,17 +168,17 @@ pub(crate) fn argument_row(argument: Argument) -> ArgumentRow
     ensures { rule_in result ≡ rule_for argument }
 {
     match argument {
-        Argument::FmtFile => required!("file", Form::Operand, "FILE", help::FMT_FILE),
-        Argument::EditFile => required!("file", Form::Operand, "FILE", help::EDIT_FILE),
-        Argument::Operations => required!("op", Form::Operands, "OP", help::OPERATION),
-        Argument::Path => required!("path", Form::Operand, "PATH", help::PATH),
-        Argument::Proxy => optional!(PROXY, Form::Option, "DIR", help::PROXY),
-        Argument::RequiredProxy => required!(PROXY, Form::Option, "DIR", help::PROXY),
-        Argument::Mod => optional!(MOD, Form::Default("go.mod"), "FILE", help::MOD),
-        Argument::Sum => optional!(SUM, Form::Option, "FILE", help::SUM),
-        Argument::After => optional!(AFTER, Form::Option, "PATH", help::AFTER),
-        Argument::Limit => optional!(LIMIT, Form::Option, "N", help::LIMIT),
-        Argument::Retracted => optional!(RETRACTED, Form::Flag, "", help::RETRACTED),
+        Argument::FmtFile => row!("file", Form::Operand, true, "FILE", help::FMT_FILE),
+        Argument::EditFile => row!("file", Form::Operand, true, "FILE", help::EDIT_FILE),
+        Argument::Operations => row!("op", Form::Operands, true, "OP", help::OPERATION),
+        Argument::Path => row!("path", Form::Operand, true, "PATH", help::PATH),
+        Argument::Proxy => row!("proxy", Form::Option, false, "DIR", help::PROXY),
+        Argument::RequiredProxy => row!("proxy", Form::Option, true, "DIR", help::PROXY),
+        Argument::Mod => row!("mod", Form::Default("go.mod"), false, "FILE", help::MOD),
+        Argument::Sum => row!("sum", Form::Option, false, "FILE", help::SUM),
+        Argument::After => row!("after", Form::Option, false, "PATH", help::AFTER),
+        Argument::Limit => row!("limit", Form::Option, false, "N", help::LIMIT),
+        Argument::Retracted => row!("retracted", Form::Flag, false, "", help::RETRACTED),
     }
 }
 
@@ -338,5 +242,27 @@ pub(crate) fn command_row(command: CommandName) -> CommandRow
             end: help::VERSIONS_END,
             arguments: &[Argument::Path, Argument::Proxy, Argument::Retracted],
         },
+    }
+}
+
+/// The usage line of the words of a command line: that of the command that they name, first or after `help`, or that
+/// of the program if they name none. The first word is the program's name.
+pub(crate) fn usage_of(words: &[&str]) -> &'static str
+    ensures { result.now ≡ usage_of (texts_of words.now) }
+{
+    match words {
+        [_, first, second, ..] => usage_line(if *first == "help" { *second } else { *first }),
+        [_, first] => usage_line(*first),
+        _ => help::GOMOD_USAGE,
+    }
+}
+
+/// The usage line of the command with this name, or that of the program if there is no such command.
+fn usage_line(name: &str) -> &'static str
+    ensures { result.now ≡ usage_line name.now }
+{
+    match command_named(name) {
+        Some(command) => command_row(command).usage,
+        None => help::GOMOD_USAGE,
     }
 }

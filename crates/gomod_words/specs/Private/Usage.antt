@@ -2,16 +2,26 @@
 use Rattle.std.specs.Prelude.{◌≡◌, ◌≢◌, ◌⊎◌, List, Option, Some, None, true, false}
 use Rattle.std.specs.String.{string_bytes}
 use Rattle.clap.specs.Walk.{Row, Text}
+use Rattle.clap.specs.Words.{found_of, rows_of}
 use Rattle.clap.specs.declared.error.Error.{Error}
+use Rattle.clap.specs.declared.parser.matches.ArgMatches.{ArgMatches}
 use Rattle.clap.specs.Values.{kind_of}
 use Rattle.clap.specs.declared.error.kind.ErrorKind.TheVariants.{DisplayHelp, DisplayVersion, OutOfMemory}
 use Rattle.gm_name.specs.Path.{IsPath}
-use Rattle.gomod_words.specs.declared.table.OptionName.TheVariants.{Proxy}
+use Rattle.gomod_words.specs.declared.table.Argument.TheVariants.{Proxy}
 use Rattle.gomod_words.specs.declared.usage.Command.{Command}
 use Rattle.gomod_words.specs.declared.usage.Places.{Places}
 use Rattle.gomod_words.specs.declared.usage.UsageFault.{UsageFault}
 use Rattle.gomod_words.specs.declared.usage.UsageFault.TheVariants.{NoMemory, Help, Version, Line, BadPath, BadProxy}
-use Rattle.gomod_words.specs.Usage.{AreRecognized, AskFor, HasBadPath, HasBadProxy, given, has_limit, is_input_twice, is_proxy, version_line}
+use Rattle.gomod_words.specs.Usage.{AreRecognized, HasBadPath, HasBadProxy, Means, given, has_limit, is_input_twice, is_proxy, version_line}
+
+-- the entries of a command
+abbrev pub entries : ArgMatches → List Row
+entries found = rows_of (found_of found)
+
+-- what the entries of the command with this name stand for
+abbrev pub IsReadOf : Text → ArgMatches → (Command × Places) → Type 0
+IsReadOf name found read = Means name (entries found) read.0 read.1
 
 -- what a fault says about the entries
 abbrev pub IsEntriesFault : Option (Text × List Row) → UsageFault → Type 0
@@ -22,9 +32,9 @@ IsEntriesFault entered (Line text) = ¬ (AreRecognized entered)
 IsEntriesFault entered (BadPath text) = HasBadPath entered (string_bytes text)
 IsEntriesFault entered (BadProxy text) = HasBadProxy entered (string_bytes text)
 
--- the words ask for a command
-abbrev pub AskForSomething : List Text → Type 0
-AskForSomething words = (command : Command) × (places : Places) × AskFor words command places
+-- what a fault says about the entries of the command with this name
+abbrev pub IsFaultIn : Text → ArgMatches → UsageFault → Type 0
+IsFaultIn name found = IsEntriesFault (Some (name, entries found))
 
 -- the fault that a parser's error stands for
 abbrev pub IsParserFault : Error → UsageFault → Type 0

@@ -4,11 +4,7 @@ use Rattle.std.specs.Option.{option_copied}
 use Rattle.gomod_words.specs.Private.Usage.{IsEntriesFault}
 use Rattle.gomod_words.proofs.EntriesFaults.{passed, path_fault}
 use Rattle.gomod_words.proofs.Queries.{chain_places_fault}
-use Rattle.gomod_words.proofs.UsageLines.{line_shows}
 use Rattle.gomod_words.proofs.query.read_chain.Goals as goal
-
-pub returns-in_default-clause-usage : goal.returns-in_default-clause-usage
-returns-in_default-clause-usage c = line_shows (codes "error: no PATH given") c.args.usage.now c.line.result c.line.ensures.text
 
 pub returns-in_err-path-clause-fault : goal.returns-in_err-path-clause-fault
 returns-in_err-path-clause-fault c =
