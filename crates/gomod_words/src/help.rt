@@ -296,18 +296,18 @@ macro_rules! query_end {
   go.sum:LINE: BadSum                not a path, a version and a hash
   go.sum:0: TooMany                  the file has more than 16777216 bytes
   PATH@VERSION: Missing              its go.mod, or its replacement's, is in none of the folders
-  PATH@VERSION: NotFetchable         no proxy can have its path, and no folder replaces it
+  PATH@VERSION: NotFetchable         no proxy can have its path, or that of its replacement
   PATH@VERSION: NoSum                the go.sum has no hash of its go.mod
   PATH@VERSION: SumDiffers           the go.sum has another hash of its go.mod
   PATH@VERSION: TooLong              its go.mod has more than 16777216 bytes
   PATH@VERSION: Malformed LINE KIND  its go.mod is faulty; 'gomod edit --help' explains KIND
-  PATH@VERSION: WrongPath            its go.mod declares another path
+  PATH@VERSION: WrongPath            its go.mod declares no path, or another one
   gomod: TooMany                     more than 65536 module versions are needed",
             $own,
             "
   gomod: bad proxy DIR               a folder is empty, 'direct' or 'off' (status 2)
   gomod: cannot read FILE            the main file or the go.sum is missing or unreadable (status 3)
-  gomod: device at PATH@VERSION      its go.mod is there, but can't be read (status 3)
+  gomod: device at PATH@VERSION      its go.mod can't be looked up or read (status 3)
   gomod: device at FOLDER            likewise of a module that a folder replaces (status 3)
   gomod: no memory                   memory ran out (status 3)"
         )
@@ -363,7 +363,7 @@ Examples:
   gomod: bad path PATH               not a module path (status 2)
   gomod: bad proxy DIR               a folder is empty, 'direct' or 'off' (status 2)
   gomod: cannot read -               standard input can't be read (status 3)
-  gomod: device at PATH list         the list is there, but can't be read (status 3)
-  gomod: device at PATH@VERSION      that file is there, but can't be read (status 3)
+  gomod: device at PATH list         the list can't be looked up or read (status 3)
+  gomod: device at PATH@VERSION      that file can't be looked up or read (status 3)
   gomod: no memory                   memory ran out (status 3)"
 );
