@@ -43,21 +43,20 @@ gm_store_sums/src/sum_lines.rt
   fault_of lgikkshh no line is invalid, so reading stopped for memory
 gomod_run/src/program.rt
   ending_of gvgkikul the list of words could not be made
-gomod_words/src/advice.rt
-  advised kkqhpmsm the message could not be made
-gomod_words/src/dashed.rt
-  dashed pguptgij the message could not be made
 gomod_words/src/given.rt
   given_words nvnjsqjn the list of words could not grow, or has the greatest size
   word_at stkluvvv the buffer has the greatest size
-gomod_words/src/query.rt
-  bad_limit osljronq the message could not be made
 gomod_words/src/usage.rt
-  fault_of nrhnkkon the parser says so
-  fault_of mruksllh its text could not be made
   version pmgqmuqm the line could not be made
   unreadable roukrjth the message could not be made
-  line qvmhsluo the text could not be made
+  dashed tqgmuvuh the message could not be made
+  refused gsqsokkg the message could not be made
+  hinted rknrmgsq its tip could not be added
+  usage_error qvmhsluo the text could not be made
+gomod_words/src/words.rt
+  fault_of nrhnkkon the parser says so
+  fault_of mruksllh its text could not be made
+  read_shown gshorqvh the matches of a parse say so, which have no help and no version
 """
 # the same for each call that asks for room by its size: why the size is no more than is needed
 SIZED = """

@@ -8,9 +8,13 @@ src/kind.rt and specs/Operations.antt of gm_operation. A name that one table has
 is one that stands in another file too, or twice in a table. A string is a name with or without its dashes or its `=`;
 longer texts, such as help, aren't looked at, but for help's list of operations.
 
-Aside are crates that no program or library of users is made of (cases, tests, laws, page, library_example), and, by a
-list in tools/names.py, words that are spelled alike and are something else: the directives of a go.mod file, and `mod`
-of the go command.
+Aside are crates that no program or library of users is made of (cases, tests, laws, page, library_example), the tables
+of hints, and, by a list in tools/names.py, words that are spelled alike and are something else: the directives of a
+go.mod file.
+
+Each row of the tables of hints (src/hints.rt of gomod_words) has a command in tips.txt or words.txt: with one of its
+names, or with any word for a form (`*.mod`), and with its text as the tip. Each command of gomod that a tip shows, up to
+a `|` or `>`, prints in one of them, with some word in the place of PATH and the like.
 """
 
 import collections
@@ -18,13 +22,14 @@ import pathlib
 import re
 
 import script
+from case_files import DATA, case_of, chosen_cases, moderate_sizes
 from sources import CRATES, files
 
 # each kind of names, the files with its tables, and what a row of each looks like
 TABLES = {
     "option": (
-        ("gomod_words/src/table.rt", r'^const \w+: &str = "([\w-]+)";'),
-        ("gomod_words/specs/Table.antt", r'^option_text \w+ = codes "([\w-]+)"'),
+        ("gomod_words/src/table.rt", r' row!\("([\w-]+)", Form::[^,]+, false,'),
+        ("gomod_words/specs/Table.antt", r'^rule_for a\.\w+ = (?:default_)?(?:option|flag)_rule \(codes "([\w-]+)"'),
     ),
     "operation": (
         ("gm_operation/src/kind.rt", r'^ +"(\w+)" => Some\(OperationKind::'),
@@ -32,6 +37,9 @@ TABLES = {
     ),
 }
 HELP = "gomod_words/src/help.rt"
+HINTS = "gomod_words/src/hints.rt"
+# what stands for a word in the command that a tip shows
+PLACE = r"\b(PATH|VERSION|FOLDER|FILE|DIR|OP)\b"
 # crates that no program or library of users is made of
 ASIDE = "gomod_case_* gomod_laws gomod_tests library_example page run_cases".split()
 DIRECTIVES = "module go require replace exclude retract"
@@ -41,9 +49,7 @@ OTHERWISE = {
     "gm_file/specs/**/*": (DIRECTIVES, "directives of a go.mod file"),
     "gm_file_edit/src/a*.rt": (DIRECTIVES, "directives that an operation writes"),
     "gm_file_edit/specs/Edited.antt": (DIRECTIVES, "directives that an operation writes"),
-    "gomod_words/src/advice.rt": ("mod", "the command `go mod`"),
-    "gomod_words/src/rows.rt": ("mod", "the command `go mod`, and a value of go's -mod"),
-    "gomod_words/specs/Private/Tips.antt": ("mod", "the command `go mod`"),
+    "gomod_words/src/words.rt": ("limit", "the option that a message is about"),
 }
 
 
@@ -65,7 +71,7 @@ def places_of(names):
     for path in [*files("src/**/*.rt"), *files("specs/**/*.antt")]:
         below = path.relative_to(CRATES)
         folder = below.parts[1]
-        if is_like(pathlib.Path(below.parts[0]), ASIDE):
+        if is_like(pathlib.Path(below.parts[0]), ASIDE) or str(below) == HINTS:
             continue
         found = [it for it in (re.sub(r"^--?|=$", "", it) for it in strings(path)) if it in places]
         for pattern, (words, _) in OTHERWISE.items():
@@ -109,6 +115,32 @@ def wrong_help(operations):
         yield f"{HELP}: the list of operations {'lacks' if name in operations else 'has'} '{name}'"
 
 
+def hints():
+    """The names of each row of the tables of hints, and the strings of its text."""
+    tables = (CRATES / HINTS).read_text(encoding="utf-8").partition("const HINTS")[2].rpartition("\n];")[0]
+    for row in tables.split("hint!(")[1:]:
+        names, _, text = row.partition(",")
+        yield re.findall(r'"([^"]*)"', names), [it.replace("\\n", "\n") for it in re.findall(r'"([^"]*)"', text)]
+
+
+def wrong_hints():
+    """Rows of the tables of hints without a case, and commands of tips that no case runs."""
+    printing, tips = [], []
+    for _, *case in chosen_cases([f"{DATA}/tips.txt", f"{DATA}/words.txt"], moderate_sizes):
+        for run in case_of(*case).commands():
+            *words, report = (it.decode("utf-8", "replace") for it in [*run.words, run.report])
+            keys = {re.sub("^--", "-", it.partition("=")[0]) for it in words[1:]}
+            printing += [] if run.status else [" ".join(words)]
+            tips.append((keys, report.partition("\n\n  tip: ")[2].partition("\n\n")[0]))
+    for names, texts in hints():
+        names = {it.rstrip("=") for it in names}
+        if not any((keys & names or "*" in min(names)) and all(it in tip for it in texts) for keys, tip in tips):
+            yield f"{HINTS}: no case has the row of '{min(names)}'"
+    for command in sorted({it.strip() for _, tip in tips for it in re.findall(r"'(gomod [^'|>]*)", tip)}):
+        if not any(re.fullmatch(re.sub(PLACE, r"\\S+", re.escape(command)), it) for it in printing):
+            yield f"{HINTS}: no case prints by '{command}'"
+
+
 def main():
     """Looks at all names."""
     kinds = {name: kind for kind, tables in TABLES.items() for table in tables for name in rows_of(*table)}
@@ -117,6 +149,7 @@ def main():
     wrong += [line for name, kind in kinds.items() for line in wrong_places(kind, name, places)]
     wrong += wrong_help({name for name, kind in kinds.items() if kind == "operation"})
     wrong += [f"tools/names.py: {it} has no such word" for it in unused]
+    wrong += wrong_hints()
     for line in wrong:
         print(line)
     counts = collections.Counter(kinds.values())

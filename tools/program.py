@@ -13,7 +13,6 @@ import multiprocessing
 import os
 import re
 import resource
-import shutil
 import socket
 import subprocess
 import sys
@@ -33,19 +32,6 @@ WAYS = [("allocation {} refused", 0), ("allocation {} and all later ones refused
 BATCH = 8 * AT_ONCE
 # the name that each command is called by, as from a folder whose name is not UTF-8
 NAME = b"b\xff/gomod"
-# what a usage error says to type, and what it says is left out of that
-TIP = re.compile(
-    rb"\n\n  tip: ((?:gomod|go|\(cd) .*?)(?=\n       |\n\nUsage: )(?:.*\n       left out: (.*)\n\nUsage: )?", re.S
-)
-# a value of a flag, but for those by which it asks for nothing
-VALUE = rb"(=(?!(?:0|[fF]|false|False|FALSE)$).*)?"
-# words that what is to be typed has no word of its own for: commands, and options that it does without
-ACCOUNTED = re.compile(
-    rb"(?i:mod|ls|list|all|why|get|add|fmt|format|edit|version|graph|tree|help|chain|versions|update|upgrade)"
-    rb"|--?(versions?|v|print|fmt|proxy|C|w)|--proxy=|--?modfile"
-    rb"|json|--format|--output(=.*)?|-o|--"
-    rb"|(-?-json|-(d|l|w|i)|--?(check|diff|write|in-place|retracted))" + VALUE
-)
 NO_MEMORY = b"", b"gomod: no memory\n", 3
 PASSED = b"changed 0\n"
 # how many seconds a command has
@@ -72,38 +58,6 @@ def limited(kind, most):
         yield
     finally:
         resource.setrlimit(kind, before)
-
-
-def shell_words(line, folder):
-    """The words of a command line, as bash reads them, up to what is done with its output."""
-    line = re.sub(rb"^\(|\)$| && |( > | \| ).*", b" ", line)
-    words = [b"bash", b"-c", b"printf '%s\\0' " + line]
-    read = subprocess.run(words, cwd=folder, stdin=subprocess.DEVNULL, capture_output=True)
-    return read.stdout.split(b"\0")[:-1] if read.returncode == 0 else []
-
-
-def parts_of(word):
-    """What may stand in the place of a word: without its dashes, its value, what stands before a version."""
-    bare = word.lstrip(b"-")
-    parts = bare + b"=", bare if bare != word else b"", bare.partition(b"=")[2], word.partition(b"@")[0]
-    return [it for it in parts if it]
-
-
-def tip_of(run):
-    """What the report says to type, and the words that it says are left out."""
-    found = TIP.search(run.report)
-    return (found[1], found[2] or b"") if found else None
-
-
-def lost_words(run, tip, left, folder):
-    """The words of the command that are neither to be typed nor left out."""
-    read = shell_words(tip, folder) + shell_words(left, folder)
-    if not shell_words(tip, folder):
-        return [b"(unreadable)"]
-    text = b"\0".join(read)
-    read += [piece for it in read for piece in it.split(b",")]
-    lost = [it for it in run.words[1:] if it not in read and not ACCOUNTED.fullmatch(it)]
-    return [it for it in lost if not any(part in read or (len(part) > 1 and part in text) for part in parts_of(it))]
 
 
 class Commands:
@@ -205,50 +159,18 @@ class Commands:
                     self.refusals += 1
                     yield number, (out, report, status)
 
-    def pasted(self, tip, folder):
-        """The status and the report of a command line that is typed in bash, in a copy of the folder of its case."""
-        copy, home = (os.path.join(self.scratch.encode(), it) for it in (b"pasted", b"nowhere"))
-        shutil.copytree(folder, copy, symlinks=True)
-        try:
-            places = os.fsencode(os.path.dirname(self.program)) + b":" + os.environb.get(b"PATH", b"")
-            own = os.path.join(copy, b"~")
-            environment = {**os.environb, b"PATH": places, b"HOME": own if os.path.isdir(own) else home}
-            words = [b"bash", b"-c", tip]
-            got = subprocess.run(words, cwd=copy, env=environment, stdin=subprocess.DEVNULL, capture_output=True)
-            return got.returncode, got.stderr
-        finally:
-            shutil.rmtree(copy)
-
-    def tip_fault(self, run, case, folder):
-        """What is wrong with what a run says to type, if anything is."""
-        tip = tip_of(run)
-        if tip is None or case.is_sized:
-            return None
-        lost = lost_words(run, *tip, self.scratch)
-        if lost:
-            return f"lost: {b' '.join(lost).decode('utf-8', 'replace')}"
-        if tip[0].startswith(b"go ") or not any(it.name == b"go.mod" for it in case.pieces):
-            return None
-        status, report = self.pasted(tip[0], folder)
-        return f"status {status}: {report.decode('utf-8', 'replace')}" if status or report else None
-
-    def faults_of(self, run, case, folder, stdin, file_bytes):
-        """What is wrong with a run: what it was, given as a text or as a result beside the one that is wanted."""
+    def fault_of(self, run, case, folder, stdin, file_bytes):
+        """What a run was, what it came to and what is wanted, or None if that is the same."""
         got, over, wanted = self.result(run, case, folder, stdin, None, file_bytes, case.memory), "", self.wanted(run)
         if got == wanted and REFUSE_MEMORY:
             if not case.is_sized:
                 over, got = self.refused(run, case, folder, stdin) or ("", got)
             wanted = NO_MEMORY if over and REFUSE_LATER else wanted
-        elif got == wanted:
-            fault = self.tip_fault(run, case, folder)
-            if fault:
-                yield "what is to be typed", fault
         stream = self.stream_to_cut(run)
         if got == wanted and stream:
             over, wanted = f"{stream} is /dev/full", CUT
             got = self.result(run, case, folder, stdin, None, None, case.memory, stream)
-        if got != wanted:
-            yield over, (got, wanted)
+        return None if got == wanted else (over, got, wanted)
 
     def all_faults(self, path, case):
         """What is wrong with a case, in lines, the first of which says which case it is."""
@@ -257,12 +179,11 @@ class Commands:
             stdin = case.stdin()
             file_bytes = len(stdin) + bytes_below(folder) if case.is_sized else None
             for run in case.commands():
-                for over, fault in self.faults_of(run, case, folder, stdin, file_bytes):
+                fault = self.fault_of(run, case, folder, stdin, file_bytes)
+                if fault:
+                    over, got, wanted = fault
                     said.append(f"  line {run.line}{over and ', '}{over}: $ {run.text.decode()}")
-                    if isinstance(fault, str):
-                        said.append(f"  {fault}")
-                    else:
-                        said += [shown("got", *fault[0]), shown("wanted", *fault[1])]
+                    said += [shown("got", *got), shown("wanted", *wanted)]
         return [f"{path}:{case.line}: {case.title}", *said] if said else []
 
 

@@ -24,10 +24,6 @@
 # its report: the status must be 3, and the other stream empty. After the cases `fmt -` reads a pipe, a file, a socket,
 # as a child of Node has it, and a standard input that is closed or a folder.
 #
-# What a usage error says to type is given to bash. In a case with a go.mod it is run in a copy of the folder, whose `~`
-# is the home folder, and must exit with 0; otherwise, and if it is a command of go, bash reads its words alone. Each
-# word of the command must be among the words to type or those that are left out, or be in ACCOUNTED (tools/program.py).
-#
 # Then all cases run once more in another world (tools/other_world.py). There strace, if it is there, shows that a
 # command opens no file but those that the case names, once, to read it, and once it is loaded makes no calls of the
 # system but twelve (tools/opened.py). If there is no strace, or it may not look at processes, the last line says so.
