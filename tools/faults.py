@@ -52,7 +52,8 @@ LENGTHS = {"read": range(1, 20), "write": range(20)}
 MAIN, SUMS = "example/go.mod", "example/go.sum"
 # Two command lines or more of each command, each with its standard input. Together those of a command read each kind of
 # file that it has: by name and from standard input, of a proxy and a folder, with and without sums. E is example/, D
-# and V are of the cases, and M has a main file whose faults are longer than what is written at once.
+# and V are of the cases. What is printed of L and reported of M takes three writes or more: their paths are long.
+LONG = ["local" + 600 * "/long-name" + f"/{it}" for it in range(6)]
 LINES = [
     ("fmt E/hand-written.mod", b""),
     ("fmt -", MAIN),
@@ -65,6 +66,9 @@ LINES = [
     ("list --mod E/go.mod --proxy E/none", b""),
     ("list --mod D/go.mod --proxy D/proxy", b""),
     ("list --mod M/go.mod --proxy M", b""),
+    ("graph --mod L/go.mod --proxy L", b""),
+    ("list --mod L/go.mod --proxy L", b""),
+    (f"chain {LONG[-1]} --mod L/go.mod --proxy L", b""),
     ("chain rsc.io/sampler --mod E/go.mod --proxy E/none,E/cache/download --sum E/go.sum", b""),
     ("chain example.com/Upper --mod D/go.mod --proxy D/proxy", b""),
     ("chain rsc.io/sampler --mod - --proxy E/cache/download", MAIN),
@@ -74,8 +78,9 @@ LINES = [
     ("edit --help", b""),
 ]
 FOLDERS = {"E": "example", "D": "crates/run_cases/data/example", "V": "crates/run_cases/data/versions"}
-# the modules of the main file in D that a folder and another module replace
+# the modules of the main files in D and L that folders and another module replace
 REPLACED = {"./local": "example.com/local@v0.0.0", "example.com/fork@v1.1.0": "example.com/c@v1.9.0"}
+REPLACED |= {f"./{number}": f"{it}@v1.0.0" for number, it in enumerate(LONG)}
 NO_MEMORY = b"", b"gomod: no memory\n", 3
 # how many seconds a run has
 LIMIT = 60
@@ -286,8 +291,13 @@ def try_faults(program, seconds, seed):
     with tempfile.TemporaryDirectory(prefix="gomod-faults-") as folder:
         for name, place in FOLDERS.items():
             shutil.copytree(place, os.path.join(folder, name))
-        many = "".join(f"require local/{it} v1.0.0\n" for it in range(200))
+        many = "".join(f"require local/{200 * 'm'}/{it} v1.0.0\n" for it in range(200))
         write(os.path.join(folder, "M", "go.mod"), f"module m\n{many}")
+        required = [*(f"require {it} v1.0.0\n" for it in LONG), ""]
+        replaced = "".join(f"replace {it} => ./{number}\n" for number, it in enumerate(LONG))
+        write(os.path.join(folder, "L", "go.mod"), f"module m\n{required[0]}{replaced}")
+        for number, it in enumerate(LONG):
+            write(os.path.join(folder, "L", str(number), "go.mod"), f"module {it}\n{required[number + 1]}")
         trial = Trial(program, compiled(folder), folder)
         lines = [Line(trial, *it) for it in LINES]
         trial.try_each(lines)

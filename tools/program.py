@@ -216,6 +216,26 @@ def reads_each_input(program):
     return good
 
 
+def prints_large_graph(program, n=1000):
+    """Whether `graph` prints n*n edges in 16 MiB, which are compared as they come, and exits with 3 if its reader leaves."""
+    targets = [f"a.b/{it}@v1.0.0" for it in sorted(map(str, range(n)))]
+    sources = [f"e.x/p@v1.0.{it}" for it in range(n)]
+    with tempfile.TemporaryDirectory() as folder:
+        for name, head, to in ("", "m\nreplace e.x/p => ./x", sources), ("x", "e.x/p", targets):
+            text = "".join(f"require {it}\n" for it in to).replace("@", " ")
+            script.write(os.path.join(folder, name, "go.mod"), f"module {head}\ngo 1.17\n{text}")
+        words = ["bash", "-c", 'ulimit -v 16384 && exec "$0" graph --proxy .', program]
+        for status, most in (0, n), (3, n // 2):
+            with subprocess.Popen(words, cwd=folder, stdout=subprocess.PIPE) as command:
+                edges = [("m", sources), *((it, targets) for it in sources[:most])]
+                texts = ("".join(f"{source} {it}\n" for it in to).encode() for source, to in edges)
+                good = all(command.stdout.read(len(it)) == it for it in texts) and (status or not command.stdout.read(1))
+            if not good or command.returncode != status:
+                print(f"{n * n} edges in 16 MiB, status {command.returncode}: $ gomod graph --proxy .")
+                return False
+    return True
+
+
 def is_run_here(case):
     """Whether a case is run as this user, with files as its words name them."""
     is_large = REFUSE_MEMORY and (case.is_large() or case.has(*PIPES))
@@ -261,6 +281,7 @@ def run_here(program, is_proved, words):
                 print(*said, sep="\n", end="\n" if said else "")
         if not words and not REFUSE_MEMORY:
             counts[reads_each_input(program)] += 1
+            counts[prints_large_graph(program)] += 1
         return counts[True], counts[False], Commands.here.refusals if REFUSE_MEMORY else 0
 
 

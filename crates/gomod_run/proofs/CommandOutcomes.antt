@@ -1,5 +1,5 @@
 -- What the commands do with what was found.
-use Rattle.std.proofs.Common.{◌≡◌, ◌∙◌, ◌++◌, ℕ, Bool, List, [], ◌∷◌, Option, Some, None, Result, Ok, Err, IfOk, MatchResult, sym, refl, subst, ap, inl, inr, append-nil, drop, length}
+use Rattle.std.proofs.Common.{◌≡◌, ◌∙◌, ◌++◌, ℕ, Bool, List, [], ◌∷◌, Option, None, Result, Ok, Err, IfOk, MatchResult, sym, refl, subst, ap, inl, inr, append-nil, drop, length}
 use Rattle.std.proofs.Math.Logic.{⊎_map}
 use Rattle.std.proofs.Math.Seq.{drop-append_seam}
 use Rattle.std.proofs.lemmas.List.{append_cancel_left}
@@ -15,19 +15,16 @@ use Rattle.gm_file.specs.Misreading.{IsBytesFault}
 use Rattle.gm_graph.specs.Refusals.{refused_in, refused_names}
 use Rattle.gm_graph.specs.declared.cache.load_fault.LoadFault.{LoadFault}
 use Rattle.gm_graph.specs.declared.cache.load_fault.LoadFault.TheVariants as load
-use Rattle.gm_graph_select.specs.BuildList.{IsRestAfter}
-use Rattle.gm_graph.specs.Entries.{Entry}
 use Rattle.gm_graph_select.specs.Graph.{among, edge}
 use Rattle.gm_graph_select.proofs.Same.{same_chain}
 use Rattle.gm_graph.specs.declared.fault.Fault.{Fault}
 use Rattle.gm_graph.specs.Run.{AreTooMany, AskedInTurn, IsDue, IsEdge, IsRead, LoadingNeeds, Run, run_of}
 use Rattle.gm_graph.specs.Outcome.{IsLoaded, LoadedGraph as Loaded}
 use Rattle.gomod_run.specs.FromFaults.{report_by_bytes, report_by_load}
-use Rattle.gomod_run.specs.Outcome.{OrNoMemory, Outcome, failure_outcome, text_outcome, refusal_outcome, report_outcome}
+use Rattle.gomod_run.specs.Outcome.{OrNoMemory, Outcome, failure_outcome, refusal_outcome, report_outcome}
 use Rattle.gomod_run.specs.Reports.{device_line}
 use Rattle.gomod_run.specs.declared.queries.query.Query.{Query}
 use Rattle.gomod_run.specs.declared.queries.query.Query.TheVariants.{Graph, List as Rows, Chain}
-use Rattle.gomod_run.specs.ListQuery.{up_to, list_text, PrintsRows, path_listed}
 use Rattle.gomod_run.specs.Queries.{AreFound, AreInvalidSums, FilesReadAs, Given, Prints, QueryEnds, answers_of, device, faulty, given_of, no_fault, too_many}
 use Rattle.gomod_run.specs.Needs.{AnswersByName, FailsInTurn, GraphNeeds}
 use Rattle.gomod_run.specs.Private.Refusals.{IsRefusedRead}
@@ -44,12 +41,6 @@ use Rattle.gomod_run.specs.Private.Found.{IsOutcomeOfFound, PrintsFound, Reports
 use Rattle.gomod_run.proofs.MainMisreading.{main_refused}
 
 -- ---- what is printed
-
--- the case where the rows after a path are printed
-pub rest_printed : (main : Main) (rows others : List Entry) (path : List ℕ) (limit : Option ℕ) (outcome : Outcome) → IsRestAfter main.path rows path others
-    → OrNoMemory (λ outcome. outcome ≡ text_outcome (list_text main.path (up_to limit others))) outcome
-    → OrNoMemory (PrintsRows main rows (Some path) limit) outcome
-rest_printed main rows others path limit outcome is = ⊎_map (path_listed path others refl is) (λ memory. memory)
 
 -- a command prints the same of what was found as of the run
 prints_for : (query : Query) {run : Run} {asked : List Name} {loaded : Loaded} (outcome : Outcome) → IsLoaded run asked loaded

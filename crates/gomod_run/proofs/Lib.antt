@@ -16,7 +16,9 @@ pub mod WrittenTexts
 pub mod Takings
 pub mod Waiting
 pub mod ReportLines
-pub mod TextLines
+pub mod WrittenLines
+pub mod PartOfRows
+pub mod Utf8Texts
 pub mod MainMisreading
 pub mod InTurn
 pub mod CommandOutcomes

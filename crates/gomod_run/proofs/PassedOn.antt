@@ -1,10 +1,11 @@
 -- What `?` passes on to the outcome.
 use Rattle.std.proofs.lemmas.Result.{err_from_is_err_and}
-use Rattle.std.proofs.Common.{◌≡◌, ◌∙◌, Result, Ok, Err, ap}
+use Rattle.std.proofs.Common.{◌≡◌, ◌∙◌, List, ℕ, Result, Ok, Err, ap}
 use Rattle.std.specs.Prelude.{String}
 use Rattle.std.specs.declared.alloc.Global.{Global}
 use Rattle.std.specs.Result.{IsErrAnd}
-use Rattle.gomod_run.specs.Outcome.{Outcome, out_of_memory, outcome_view, report_outcome}
+use Rattle.gomod_run.specs.Outcome.{Outcome, ended_view, out_of_memory, report_outcome}
+use Rattle.gomod_run.specs.Private.Ended.{outcome_view}
 use Rattle.gomod_run.specs.declared.reports.report.Report.{Report}
 use Rattle.gomod_run.specs.declared.reports.report.Report.TheVariants as report
 
@@ -14,6 +15,13 @@ pub passed : (Is : Outcome → Type 0) (told : Report) (result : Result (String 
     → Is (outcome_view result)
 passed Is told (Err other) same is = rw same is
 passed Is told (Ok text) same is = absurd same
+
+-- the same of a text that is seen as its bytes
+pub passed_text : (Is : Outcome → Type 0) (told : Report) (result : Result (List ℕ) Report)
+    → IsErrAnd result (λ passed. passed ≡ told) → Is (report_outcome told)
+    → Is (ended_view result)
+passed_text Is told (Err other) same is = rw same is
+passed_text Is told (Ok text) same is = absurd same
 
 -- memory ran out, which is passed on
 pub no_memory : (result : Result (String Global) Report) → IsErrAnd result (λ told. told ≡ report.NoMemory) → outcome_view result ≡ out_of_memory

@@ -1,7 +1,8 @@
 -- Texts that were given one after another.
-use Rattle.std.proofs.Common.{◌≡◌, ◌∙◌, ◌+◌, ◌<◌, ◌≤◌, ◌++◌, ℕ, zero, suc, List, [], ◌∷◌, length, get_or, take, drop, Result, Ok, Err, IsErr, true, false, refl, sym, ap, subst, subst₂, arith, add-one, append_assoc, append-nil, take-suc}
+use Rattle.std.proofs.Common.{◌≡◌, ◌∙◌, ◌+◌, ◌<◌, ◌≤◌, ◌++◌, ℕ, zero, suc, List, [], ◌∷◌, length, length-append, get_or, take, drop, Result, Ok, Err, IsErr, true, false, refl, sym, ap, subst, subst₂, arith, add-one, append_assoc, append-nil, take-suc}
 use Rattle.std.proofs.lemmas.List.{flat_map_more}
 use Rattle.std.specs.List.{flat_map}
+use Rattle.std.specs.Prelude.{IsOk, OnOk, ◌↔◌}
 use Rattle.gm_store.specs.Taken.{SinkState}
 use Rattle.gm_store.specs.declared.sinks.WriteFault.{WriteFault}
 use Rattle.gomod_run.proofs.Takings.{part_of_longer, took_both, took_nothing, took_then_part}
@@ -19,6 +20,14 @@ pub gives_part : (a b : SinkState) (w v u xs ys zs : List ℕ) (f : WriteFault) 
     → IsGiven a w b v xs (Err f) → IsGiven a w b u zs (Err f)
 gives_part a b w v u xs ys zs f e one before given was =
     rw (e, ← append_assoc given xs ys) (part_of_longer before b (given ++ xs) ys (one before given was))
+
+-- one that waits behind what waited
+pub gives_waiting : (a : SinkState) (waiting left text : List ℕ) → left ≡ waiting ++ text → IsGiven {E = WriteFault} a waiting a left text (Ok tt)
+gives_waiting a waiting left text e before given was = record {
+  taken = was.taken;
+  parts = ap (λ (t : List ℕ). t ++ text) was.parts ∙ append_assoc was.taken waiting text ∙ ap (λ (t : List ℕ). was.taken ++ t) (sym e);
+  took = was.took;
+}
 
 -- ---- what is written at once
 
@@ -97,6 +106,33 @@ around f (x ∷ xs) zero d end less = append_assoc (f x) (flat_map f xs) end
 around f (x ∷ xs) (suc i) d end less =
     append_assoc (f x) (flat_map f xs) end ∙ ap (λ (t : List ℕ). f x ++ t) (around f xs i d end (omega arith))
     ∙ sym (append_assoc (f x) (flat_map f (take i xs)) (f (get_or xs i d) ++ (flat_map f (drop (suc i) xs) ++ end)))
+
+-- what has room is appended
+has_room : {E : Type 0} {Fits Is : Type 0} (r : Result (Unit {0}) E) → (IsOk r ↔ Fits) → OnOk r Is → Fits → Is
+has_room (Ok t) variant is fits = is
+has_room (Err e) variant is fits = let e : false ≡ true = variant.1 fits in cc e
+
+-- a piece has room if the text has, and is appended to those before it
+pub appended : {E X : Type 0} (f : X → List ℕ) (xs : List X) (i : ℕ) (d : X) (old end front new : List ℕ) (room : ℕ) (r : Result (Unit {0}) E)
+    → i < length xs → length (old ++ (flat_map f xs ++ end)) ≤ room → front ≡ old ++ flat_map f (take i xs)
+    → (IsOk r ↔ (length front + length (f (get_or xs i d)) ≤ room)) → OnOk r (new ≡ front ++ f (get_or xs i d))
+    → new ≡ old ++ flat_map f (take (i + 1) xs)
+appended f xs i d old end front new room r less whole before variant is =
+    let piece = f (get_or xs i d) in
+    let so_far = flat_map f (take i xs) in
+    let rest = flat_map f (drop (suc i) xs) ++ end in
+    let fits : length front + length piece ≤ room = omega (
+      arith,
+      whole,
+      ap length before,
+      length-append old so_far,
+      ap length (around f xs i d end less),
+      length-append old (flat_map f xs ++ end),
+      length-append so_far (piece ++ rest),
+      length-append piece rest,
+    ) in
+    has_room r variant is fits ∙ ap (λ (t : List ℕ). t ++ piece) before ∙ append_assoc old so_far piece
+    ∙ ap (λ (t : List ℕ). old ++ t) (sym (one_more f xs i d less))
 
 -- ---- a whole text, from an empty buffer to the end
 

@@ -15,6 +15,7 @@ pub mod Queries
 pub mod QueryLaws
 pub mod Reports
 pub mod Runs
+pub mod Sources
 pub mod Taking
 pub mod Versions
 pub mod Written

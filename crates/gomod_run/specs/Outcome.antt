@@ -1,7 +1,5 @@
 -- What a command ends with: what is printed, what is reported, and the exit status.
-use Rattle.std.specs.Prelude.{◌≡◌, ◌⊎◌, ℕ, List, [], Result, Ok, Err, String}
-use Rattle.std.specs.declared.alloc.Global.{Global}
-use Rattle.std.specs.String.{string_bytes}
+use Rattle.std.specs.Prelude.{◌≡◌, ◌⊎◌, ℕ, List, [], Result, Ok, Err}
 use Rattle.gm_store.specs.Asked.{name_of}
 use Rattle.gm_graph.specs.ClassWords.{class_word}
 use Rattle.gomod_run.specs.declared.reports.report.Report.{Report}
@@ -68,7 +66,7 @@ report_status _ = Fault
 abbrev pub report_outcome : Report → Outcome
 report_outcome told = record { text = []; report = report_text told; status = code_of (report_status told) }
 
--- the outcome that a result of the library stands for: a text to print, or a report
-abbrev pub outcome_view : Result (String Global) Report → Outcome
-outcome_view (Ok text) = text_outcome (string_bytes text)
-outcome_view (Err told) = report_outcome told
+-- the outcome that a result of the library stands for: a text to print, seen as its bytes, or a report
+abbrev pub ended_view : Result (List ℕ) Report → Outcome
+ended_view (Ok text) = text_outcome text
+ended_view (Err told) = report_outcome told

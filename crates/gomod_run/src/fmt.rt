@@ -1,6 +1,7 @@
 //! `fmt`: `gm_syntax` parses and lays out, and this file makes the text or the report of the result.
 
-ghost use Rattle.gomod_run.specs.Outcome.{OrNoMemory, outcome_view};
+ghost use Rattle.gomod_run.specs.Outcome.{OrNoMemory};
+ghost use Rattle.gomod_run.specs.Private.Ended.{outcome_view};
 ghost use Rattle.gomod_run.specs.Fmt.{FmtEnds};
 
 use crate::reports::report::Report;

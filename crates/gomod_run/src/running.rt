@@ -2,7 +2,9 @@
 
 ghost use Rattle.std.specs.Prelude.{◌≡◌, [], None, false};
 ghost use Rattle.std.specs.Option.{option_map};
-ghost use Rattle.gomod_run.specs.Outcome.{outcome_view, code_of};
+ghost use Rattle.std.specs.Str.{IsUtf8};
+ghost use Rattle.gomod_run.specs.Outcome.{code_of, ended_view};
+ghost use Rattle.gomod_run.specs.Private.Ended.{outcome_view};
 ghost use Rattle.gomod_run.specs.Runs.{ComesTo, HoldsAtAnyEnd, RunEnds, is_query, run_between};
 ghost use Rattle.gomod_run.specs.Written.{EndsAsStated, IsWritten};
 
@@ -12,11 +14,23 @@ use crate::queries::answering::answer;
 use crate::queries::query::Query;
 use crate::reports::report::Report;
 use crate::reports::status::Status;
+use crate::text::Text;
 use crate::versions::versions_outcome;
 use crate::writing::write_outcome;
 use gm_store::{Asks, Sink};
 use gomod_words::Command;
 use std::alloc::Global;
+
+/// A text that was made, or a report.
+fn whole<'c>(ended: Result<String, Report<'c>>) -> Result<Text, Report<'c>>
+    ensures same { ended_view result ≡ outcome_view ended.entry }
+    ensures utf8 { IsUtf8 (ended_view result).text }
+{
+    match ended {
+        Ok(text) => Ok(Text::whole(text)),
+        Err(told) => Err(told),
+    }
+}
 
 /// What a command ends with over the main file, a go.sum if one is given, and a store that has not been asked yet:
 /// a text or a report.
@@ -26,16 +40,17 @@ fn outcome<'c, F: Asks>(
     main: &[u8],
     sums: Option<&[u8]>,
     files: &mut F,
-) -> Result<String, Report<'c>>
+) -> Result<Text, Report<'c>>
     requires { (F.state files.old).asked ≡ [] }
-    ensures { ComesTo command.now main.now (option_map (λ sums. sums.now) sums.entry)
+    ensures comes { ComesTo command.now main.now (option_map (λ sums. sums.now) sums.entry)
         (F.may_answer files.old) (F.may_answer files.new) (F.state files.old) (F.state files.new)
-        (outcome_view result) }
+        (ended_view result) }
+    ensures utf8 { IsUtf8 (ended_view result).text }
 {
     match command {
-        Command::Versions { path, all } => versions_outcome(alloc, path, *all, files),
-        Command::Fmt => fmt_outcome(alloc, main),
-        Command::Edit(operations) => edit_outcome(alloc, operations.as_slice(), main),
+        Command::Versions { path, all } => whole(versions_outcome(alloc, path, *all, files)),
+        Command::Fmt => whole(fmt_outcome(alloc, main)),
+        Command::Edit(operations) => whole(edit_outcome(alloc, operations.as_slice(), main)),
         Command::Graph => answer(alloc, Query::Graph, main, sums, files),
         Command::List { after, limit } => {
             answer(

@@ -12,7 +12,8 @@ ghost use Rattle.gm_store.specs.Latest.{IsLatest};
 ghost use Rattle.gm_store.specs.States.{HasServed, StoreState};
 ghost use Rattle.gm_graph.specs.Reading.{IsFileReading};
 ghost use Rattle.gm_graph.specs.Summaries.{RetractsBy, reading_of};
-ghost use Rattle.gomod_run.specs.Outcome.{OrNoMemory, outcome_view, report_outcome, text_outcome};
+ghost use Rattle.gomod_run.specs.Outcome.{OrNoMemory, report_outcome, text_outcome};
+ghost use Rattle.gomod_run.specs.Private.Ended.{outcome_view};
 ghost use Rattle.gomod_run.specs.Versions.{list_refusal, versions_line};
 ghost use Rattle.gomod_run.specs.Private.VersionsRuns.{AreVersionsAnswered, IsListAnswered, IsVersionsRun};
 

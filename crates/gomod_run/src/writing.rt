@@ -1,14 +1,14 @@
 //! Writing what a command ends with. All writing is in this file, so that the status after a failed sink is settled in
 //! one place.
 
-ghost use Rattle.std.specs.Str.{IsUtf8};
 ghost use Rattle.gm_store.specs.Taken.{SinkState};
-ghost use Rattle.gomod_run.specs.Outcome.{code_of, outcome_view, text_outcome, report_outcome};
+ghost use Rattle.gomod_run.specs.Outcome.{code_of, ended_view, report_outcome, text_outcome};
 ghost use Rattle.gomod_run.specs.Written.{IsWritten};
 
 use crate::reports::report::Report;
 use crate::reports::status::Status;
-use gm_store::{Sink, write_all};
+use crate::text::{Text, write_whole};
+use gm_store::Sink;
 
 /// Writes a text to the output, and returns the status of the run: `Done`, or `Device` if the sink fails.
 pub(crate) fn write_text<O: Sink>(out: &mut O, text: &str) -> Status
@@ -16,7 +16,19 @@ pub(crate) fn write_text<O: Sink>(out: &mut O, text: &str) -> Status
         (O.state out.old) (O.state out.new) report report
         (code_of result) }
 {
-    match write_all(out, text.as_bytes()) {
+    match write_whole(out, text) {
+        Ok(()) => Status::Done,
+        Err(_) => Status::Device,
+    }
+}
+
+/// Writes a text to the output, likewise. It takes no memory.
+pub(crate) fn write_lines<O: Sink>(out: &mut O, text: &Text) -> Status
+    ensures { (report : SinkState) → IsWritten (text_outcome text.now)
+        (O.state out.old) (O.state out.new) report report
+        (code_of result) }
+{
+    match text.write(out) {
         Ok(()) => Status::Done,
         Err(_) => Status::Device,
     }
@@ -37,17 +49,16 @@ pub(crate) fn write_report<R: Sink>(report: &mut R, told: &Report<'_>) -> Status
 
 /// Writes what a command ends with: a text to `out` or a report to `report`. Returns the status of the run.
 pub(crate) fn write_outcome<O: Sink, R: Sink>(
-    ended: Result<String, Report<'_>>,
+    ended: Result<Text, Report<'_>>,
     out: &mut O,
     report: &mut R,
 ) -> Status
-    ensures utf8 { IsUtf8 (outcome_view ended.entry).text }
-    ensures written { IsWritten (outcome_view ended.entry)
+    ensures { IsWritten (ended_view ended.entry)
         (O.state out.old) (O.state out.new) (R.state report.old) (R.state report.new)
         (code_of result) }
 {
     match ended {
-        Ok(text) => write_text(out, text.as_str()),
+        Ok(text) => write_lines(out, &text),
         Err(told) => write_report(report, &told),
     }
 }

@@ -4,11 +4,13 @@
 
 ghost use Rattle.std.specs.Prelude.{◌≡◌, [], IfOk, MatchResult, List, ℕ};
 ghost use Rattle.std.specs.Option.{option_copied};
+ghost use Rattle.std.specs.Str.{IsUtf8};
 ghost use Rattle.gm_file.specs.Main.{main_of};
 ghost use Rattle.gomod_run.specs.FromFaults.{report_by_load};
 ghost use Rattle.gomod_run.specs.Queries.{AreInvalidSums, AreSums};
-ghost use Rattle.gomod_run.specs.Outcome.{OrNoMemory, outcome_view, report_outcome, refusal_outcome};
+ghost use Rattle.gomod_run.specs.Outcome.{OrNoMemory, ended_view, report_outcome, refusal_outcome};
 ghost use Rattle.gomod_run.specs.Runs.{ComesTo, command_of};
+ghost use Rattle.gomod_run.specs.Private.Folders.{AreUtf8Folders};
 ghost use Rattle.gomod_run.specs.Private.Found.{IsOutcomeOfFound, PrintsFound};
 
 use crate::queries::chain::chain_outcome;
@@ -16,6 +18,7 @@ use crate::queries::graph::graph_outcome;
 use crate::queries::list::list_outcome;
 use crate::queries::query::Query;
 use crate::reports::report::Report;
+use crate::text::Text;
 use gm_file::MainFile;
 use gm_graph::{LoadFault, Loaded, load};
 use gm_store::Asks;
@@ -38,21 +41,28 @@ fn sum_table<'a, 'r>(
     }
 }
 
+/// The folders of a main file are UTF-8, since it holds them as strings. This does nothing: the contract is a law.
+fn folders_are_utf8(main: &MainFile<'_>)
+    ensures { AreUtf8Folders (main_of main.now).replaces }
+{
+    let _replaces = main.replaces();
+}
+
 /// What a query ends with if no opened module has a fault.
 fn query_outcome<'q>(
     alloc: Global,
     query: Query<'q>,
     main: &MainFile<'_>,
-    loaded: &Loaded,
-) -> Result<String, Report<'q>>
-    requires no_fault { loaded.now.faults ≡ [] }
-    requires main { loaded.now.main ≡ (main_of main.now).path }
-    ensures { OrNoMemory (PrintsFound query.entry (main_of main.now) loaded.now) (outcome_view result) }
+    loaded: Loaded,
+) -> Result<Text, Report<'q>>
+    requires no_fault { loaded.faults ≡ [] }
+    requires main { loaded.main ≡ (main_of main.now).path }
+    ensures { OrNoMemory (PrintsFound query.entry (main_of main.now) loaded) (ended_view result) }
 {
     match query {
         Query::Graph => graph_outcome(alloc, main, loaded),
         Query::List(after, limit) => list_outcome(alloc, main, loaded, after, limit),
-        Query::Chain(path) => chain_outcome(alloc, main, loaded, path),
+        Query::Chain(path) => chain_outcome(alloc, main, &loaded, path),
     }
 }
 
@@ -63,15 +73,15 @@ fn loaded_outcome<'q>(
     query: Query<'q>,
     main: &MainFile<'_>,
     loaded: Result<Loaded, LoadFault>,
-) -> Result<String, Report<'q>>
+) -> Result<Text, Report<'q>>
     requires { IfOk loaded (λ loaded. loaded.main ≡ (main_of main.now).path) }
     ensures { MatchResult loaded
-        (λ loaded. OrNoMemory (IsOutcomeOfFound query.entry (main_of main.now) loaded) (outcome_view result))
-        (λ fault. outcome_view result ≡ report_outcome (report_by_load fault)) }
+        (λ loaded. OrNoMemory (IsOutcomeOfFound query.entry (main_of main.now) loaded) (ended_view result))
+        (λ fault. ended_view result ≡ report_outcome (report_by_load fault)) }
 {
     let loaded = loaded?;
     if loaded.faults().is_empty() {
-        return query_outcome(alloc, query, main, &loaded);
+        return query_outcome(alloc, query, main, loaded);
     }
     Err(Report::Faults(loaded.into_faults()))
 }
@@ -103,13 +113,15 @@ pub fn answer<'q, F: Asks>(
     file: &[u8],
     sums: Option<&[u8]>,
     files: &mut F,
-) -> Result<String, Report<'q>>
+) -> Result<Text, Report<'q>>
     requires { (F.state files.old).asked ≡ [] }
-    ensures { ComesTo (command_of query.entry) file.now (option_copied sums.entry)
+    ensures comes { ComesTo (command_of query.entry) file.now (option_copied sums.entry)
         (F.may_answer files.old) (F.may_answer files.new) (F.state files.old) (F.state files.new)
-        (outcome_view result) }
+        (ended_view result) }
+    ensures utf8 { IsUtf8 (ended_view result).text }
 {
     let main = MainFile::read_bytes(alloc, file)?;
+    folders_are_utf8(&main);
     let table = sum_table(alloc, sums)?;
     let loaded = load(alloc, &main, files, table.as_ref());
     loaded_outcome(alloc, query, &main, loaded)

@@ -1,40 +1,52 @@
 //! `chain`: the steps of a shortest chain of requirements. A line has one field of a line of `graph`.
 
-ghost use Rattle.std.specs.Prelude.{◌≡◌, ◌++◌, IfOk, OnOk, []};
-ghost use Rattle.std.specs.String.{string_bytes};
+ghost use Rattle.std.specs.Prelude.{◌≡◌, []};
 ghost use Rattle.gomod_run.specs.ChainQuery.{chain_text, step_line, ShowsChain};
 ghost use Rattle.gm_file.specs.Main.{main_of};
 ghost use Rattle.gm_graph_select.specs.Graph.{among};
-ghost use Rattle.gomod_run.specs.Outcome.{OrNoMemory, outcome_view};
+ghost use Rattle.gomod_run.specs.Outcome.{OrNoMemory, ended_view};
+ghost use Rattle.gomod_run.specs.Private.Giving.{IsGiven};
+ghost use Rattle.gomod_run.specs.Taking.{Took};
 
-use crate::queries::fields::push_step;
+use crate::queries::fields::{step_pieces, vertex_of};
+use crate::reports::buffer::LineBuffer;
 use crate::reports::report::Report;
+use crate::text::Text;
 use gm_file::MainFile;
 use gm_graph::Loaded;
 use gm_graph_select::{ChainFault, Step};
-use gm_name::{ModPath, NoMemory};
+use gm_name::ModPath;
+use gm_store::{Sink, WriteFault};
 use std::alloc::Global;
 
-/// Appends the line of a step.
-fn push_step_line(out: &mut String, main: &ModPath, step: &Step) -> Result<(), NoMemory>
-    ensures { OnOk result (string_bytes out.new ≡ string_bytes out.old ++ step_line main.now step.now) }
+/// Gives the line of a step.
+fn give_step<O: Sink>(
+    buffer: &mut LineBuffer,
+    sink: &mut O,
+    main: &ModPath,
+    step: &Step,
+) -> Result<(), WriteFault>
+    ensures { IsGiven (O.state sink.old) buffer.old (O.state sink.new) buffer.new
+        (step_line main.now step.now) result }
 {
-    push_step(out, main, step)?;
-    out.push_str("\n")
+    let (path, at, version) = step_pieces(main, vertex_of(step));
+    buffer.give_line(sink, &[path, at, version])
 }
 
-/// The steps of a chain, one per line, in the given order. Each is written as a field of a line of
-/// `graph_text`.
-///
-/// Refused only when memory runs out. The time is proportional to the length of the text.
-pub fn chain_text(alloc: Global, main: &ModPath, steps: &[Step]) -> Result<String, NoMemory>
-    ensures { IfOk result (λ text. string_bytes text ≡ chain_text main.now steps.now) }
+/// Writes the steps of a chain, one per line, in the given order. Each is written as a field of a line of
+/// `write_edges`. It takes no memory.
+pub(crate) fn write_steps<O: Sink>(
+    sink: &mut O,
+    main: &ModPath,
+    steps: &[Step],
+) -> Result<(), WriteFault>
+    ensures { Took (O.state sink.old) (O.state sink.new) (chain_text main.now steps.now) result }
 {
-    let mut text = String::new(alloc);
+    let mut buffer = LineBuffer::new();
     'steps: for step in steps {
-        push_step_line(&mut text, main, step)?;
+        give_step(&mut buffer, sink, main, step)?;
     }
-    Ok(text)
+    buffer.end(sink)
 }
 
 /// `chain`: the steps, or a report if the path is not in the build list.
@@ -43,16 +55,16 @@ pub(crate) fn chain_outcome<'q>(
     main: &MainFile<'_>,
     loaded: &Loaded,
     path: &'q ModPath,
-) -> Result<String, Report<'q>>
+) -> Result<Text, Report<'q>>
     requires no_fault { loaded.now.faults ≡ [] }
     requires main { loaded.now.main ≡ (main_of main.now).path }
     ensures { OrNoMemory (ShowsChain path.now (main_of main.now) (among loaded.now.edges) loaded.now.rows)
-        (outcome_view result) }
+        (ended_view result) }
 {
     match loaded.chain(alloc, path) {
         Ok(steps) => {
-            let text = chain_text(alloc, main.module(), &steps)?;
-            Ok(text)
+            let main = main.module().copy(alloc)?;
+            Ok(Text::steps(main, steps))
         }
         Err(ChainFault::NotListed) => Err(Report::NotListed(path)),
         Err(ChainFault::NoMemory) => Err(Report::NoMemory),

@@ -1,44 +1,31 @@
 //! Fields that the lines of `graph` and of `chain` share, so that a module looks the same in both.
 
-ghost use Rattle.std.specs.Prelude.{◌≡◌, ◌++◌, OnOk};
-ghost use Rattle.std.specs.String.{string_bytes};
+ghost use Rattle.std.specs.Prelude.{◌≡◌, ◌++◌};
 ghost use Rattle.gm_graph_select.specs.EdgeList.{step_of_ref};
-ghost use Rattle.gomod_run.specs.LineParts.{step_text, vertex_text};
+ghost use Rattle.gomod_run.specs.LineParts.{step_text};
 
 use gm_graph_select::Step;
-use gm_name::{ModPath, ModVer, NoMemory};
+use gm_name::{ModPath, ModVer};
 
-/// Appends `PATH@VERSION` of a module. Refused only when memory runs out.
-pub(crate) fn push_vertex(out: &mut String, vertex: &ModVer) -> Result<(), NoMemory>
-    ensures { OnOk result (string_bytes out.new ≡ string_bytes out.old ++ vertex_text vertex.now) }
+/// The module of a step, or `None` for the main module.
+pub(crate) fn vertex_of(step: &Step) -> Option<&ModVer>
+    ensures { step_of_ref result ≡ step.now }
 {
-    out.push_str(vertex.path().as_str())?;
-    out.push_str("@")?;
-    out.push_str(vertex.version().as_str())
-}
-
-/// Appends `PATH@VERSION` of a module, or the main module's path if there is none. Refused only when memory runs out.
-pub(crate) fn push_main_or(
-    out: &mut String,
-    main: &ModPath,
-    other: Option<&ModVer>,
-) -> Result<(), NoMemory>
-    ensures { OnOk result (string_bytes out.new
-        ≡ string_bytes out.old ++ step_text main.now (step_of_ref other.entry)) }
-{
-    match other {
-        None => out.push_str(main.as_str()),
-        Some(vertex) => push_vertex(out, vertex),
+    match step {
+        Step::Main => None,
+        Step::Of(vertex) => Some(vertex),
     }
 }
 
-/// Appends the path of the main module, or `PATH@VERSION` of another module. Refused only when memory runs
-/// out.
-pub(crate) fn push_step(out: &mut String, main: &ModPath, step: &Step) -> Result<(), NoMemory>
-    ensures { OnOk result (string_bytes out.new ≡ string_bytes out.old ++ step_text main.now step.now) }
+/// `PATH@VERSION` of a module in three pieces, or the main module's path and two empty ones.
+pub(crate) fn step_pieces<'a>(
+    main: &'a ModPath,
+    other: Option<&'a ModVer>,
+) -> (&'a str, &'a str, &'a str)
+    ensures { result.0.now ++ (result.1.now ++ result.2.now) ≡ step_text main.now (step_of_ref other.entry) }
 {
-    match step {
-        Step::Main => push_main_or(out, main, None),
-        Step::Of(vertex) => push_main_or(out, main, Some(vertex)),
+    match other {
+        None => (main.as_str(), "", ""),
+        Some(vertex) => (vertex.path().as_str(), "@", vertex.version().as_str()),
     }
 }

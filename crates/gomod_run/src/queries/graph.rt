@@ -1,54 +1,76 @@
 //! `graph`: the edges of the module graph, as `go mod graph` prints them.
 
-ghost use Rattle.std.specs.Prelude.{◌≡◌, ◌++◌, IfOk, OnOk};
-ghost use Rattle.std.specs.String.{string_bytes};
+ghost use Rattle.std.specs.Prelude.{◌≡◌};
 ghost use Rattle.gm_graph_select.specs.EdgeList.{edge_of_ref};
 ghost use Rattle.gomod_run.specs.GraphQuery.{edge_line, graph_text};
 ghost use Rattle.gm_file.specs.Main.{main_of};
-ghost use Rattle.gomod_run.specs.Outcome.{OrNoMemory, outcome_view, text_outcome};
+ghost use Rattle.gomod_run.specs.Outcome.{OrNoMemory, ended_view, text_outcome};
+ghost use Rattle.gomod_run.specs.Private.Giving.{IsGiven};
+ghost use Rattle.gomod_run.specs.Taking.{Took};
 
-use crate::queries::fields::{push_main_or, push_vertex};
+use crate::queries::fields::step_pieces;
+use crate::reports::buffer::LineBuffer;
 use crate::reports::report::Report;
+use crate::text::Text;
 use gm_file::MainFile;
 use gm_graph::Loaded;
 use gm_graph_select::{EdgeRef, Edges};
-use gm_name::{ModPath, NoMemory};
+use gm_name::ModPath;
+use gm_store::{Sink, WriteFault};
 use std::alloc::Global;
 
-/// Appends the line of an edge: the module that requires, a space, and the module that is required.
-fn push_edge(out: &mut String, main: &ModPath, edge: EdgeRef<'_>) -> Result<(), NoMemory>
-    ensures { OnOk result (string_bytes out.new ≡ string_bytes out.old ++ edge_line main.now (edge_of_ref edge.entry)) }
+/// Gives the line of an edge: the module that requires, a space, and the module that is required.
+fn give_edge<O: Sink>(
+    buffer: &mut LineBuffer,
+    sink: &mut O,
+    main: &ModPath,
+    edge: EdgeRef<'_>,
+) -> Result<(), WriteFault>
+    ensures { IsGiven (O.state sink.old) buffer.old (O.state sink.new) buffer.new
+        (edge_line main.now (edge_of_ref edge.entry)) result }
 {
-    push_main_or(out, main, edge.from)?;
-    out.push_str(" ")?;
-    push_vertex(out, edge.to)?;
-    out.push_str("\n")
+    let (path, at, version) = step_pieces(main, edge.from);
+    let to = edge.to;
+    buffer.give_line(
+        sink,
+        &[
+            path,
+            at,
+            version,
+            " ",
+            to.path().as_str(),
+            "@",
+            to.version().as_str(),
+        ],
+    )
 }
 
-/// The edges as `go mod graph` prints them (Go Modules Reference, "go mod graph"): one per line, in the given
-/// order, as two fields separated by a space. A field is `PATH@VERSION`, or for the main module its path
-/// `main`.
-///
-/// Refused only when memory runs out. The time is proportional to the length of the text.
-pub fn graph_text(alloc: Global, main: &ModPath, edges: Edges<'_>) -> Result<String, NoMemory>
-    ensures { IfOk result (λ text. string_bytes text ≡ graph_text main.now edges.entry) }
+/// Writes the edges as `go mod graph` prints them (Go Modules Reference, "go mod graph"): one per line, in the given
+/// order, as two fields separated by a space. A field is `PATH@VERSION`, or for the main module its path `main`. It takes
+/// no memory.
+pub(crate) fn write_edges<O: Sink>(
+    sink: &mut O,
+    main: &ModPath,
+    edges: Edges<'_>,
+) -> Result<(), WriteFault>
+    ensures { Took (O.state sink.old) (O.state sink.new) (graph_text main.now edges.entry) result }
 {
-    let mut text = String::new(alloc);
+    let mut buffer = LineBuffer::new();
     'edges: for edge in edges {
-        push_edge(&mut text, main, edge)?;
+        give_edge(&mut buffer, sink, main, edge)?;
     }
-    Ok(text)
+    buffer.end(sink)
 }
 
 /// `graph`: all edges.
 pub(crate) fn graph_outcome<'r>(
     alloc: Global,
     main: &MainFile<'_>,
-    loaded: &Loaded,
-) -> Result<String, Report<'r>>
-    ensures { OrNoMemory (λ outcome. outcome ≡ text_outcome (graph_text (main_of main.now).path loaded.now.edges))
-        (outcome_view result) }
+    loaded: Loaded,
+) -> Result<Text, Report<'r>>
+    ensures { OrNoMemory (λ outcome. outcome ≡ text_outcome (graph_text (main_of main.now).path loaded.edges))
+        (ended_view result) }
 {
-    let text = graph_text(alloc, main.module(), loaded.edges())?;
-    Ok(text)
+    let main = main.module().copy(alloc)?;
+    Ok(Text::edges(main, loaded))
 }

@@ -1,124 +1,137 @@
 //! `list`: rows of the build list, as `go list -m all` prints them. Its lines differ from those of `graph`: a space
 //! comes before the version, and the replacement follows.
 
-ghost use Rattle.std.specs.Prelude.{◌≡◌, ◌++◌, ◌-◌, IfOk, OnOk, option_map, []};
-ghost use Rattle.std.specs.String.{string_bytes};
+ghost use Rattle.std.specs.Prelude.{◌≡◌, ◌<◌, ◌≤◌, ◌++◌, ◌^◌, [], IfErr, IfOk, List, Option, ℕ, drop, length, take};
+ghost use Rattle.std.specs.Option.{option_copied, option_map};
 ghost use Rattle.gm_file.specs.Views.{right_view};
-ghost use Rattle.gm_graph.specs.Entries.{entries_of_rows, entry_of_row};
-ghost use Rattle.gomod_run.specs.ListQuery.{entry_line, up_to, list_text, module_text, replacement_suffix, replacement_text, PrintsRows};
-ghost use Rattle.std.specs.Option.{option_copied};
 ghost use Rattle.gm_file.specs.Main.{main_of};
-ghost use Rattle.gomod_run.specs.Outcome.{OrNoMemory, outcome_view, text_outcome};
+ghost use Rattle.gm_graph.specs.Entries.{Entry, entries_of_rows, entry_of_row};
+ghost use Rattle.gomod_run.specs.ListQuery.{entry_line, up_to, list_text, module_text, replacement_suffix, PrintsRows};
+ghost use Rattle.gomod_run.specs.Outcome.{OrNoMemory, ended_view, report_outcome, text_outcome};
+ghost use Rattle.gomod_run.specs.Private.Giving.{IsGiven};
+ghost use Rattle.gomod_run.specs.Taking.{Took};
 
+use crate::reports::buffer::LineBuffer;
 use crate::reports::report::Report;
+use crate::text::Text;
 use gm_file::{MainFile, Right};
 use gm_graph::{Loaded, Row, Rows};
 use gm_graph_select::Step;
-use gm_name::{ModPath, NoMemory};
+use gm_name::ModPath;
+use gm_store::{Sink, WriteFault};
 use std::alloc::Global;
 
-/// Appends the path of the main module, or `PATH VERSION` of another module.
-fn push_module(out: &mut String, main: &ModPath, step: &Step) -> Result<(), NoMemory>
-    ensures { OnOk result (string_bytes out.new ≡ string_bytes out.old ++ module_text main.now step.now) }
+/// The path of the main module, or `PATH VERSION` of another module, in three pieces.
+fn module_pieces<'a>(main: &'a ModPath, step: &'a Step) -> (&'a str, &'a str, &'a str)
+    ensures { result.0.now ++ (result.1.now ++ result.2.now) ≡ module_text main.now step.now }
 {
     match step {
-        Step::Main => out.push_str(main.as_str()),
-        Step::Of(vertex) => {
-            out.push_str(vertex.path().as_str())?;
-            out.push_str(" ")?;
-            out.push_str(vertex.version().as_str())
-        }
+        Step::Main => (main.as_str(), "", ""),
+        Step::Of(vertex) => (vertex.path().as_str(), " ", vertex.version().as_str()),
     }
 }
 
-/// Appends the right side of a replacement: `FOLDER` or `PATH VERSION`.
-fn push_right(out: &mut String, right: &Right) -> Result<(), NoMemory>
-    ensures { OnOk result (string_bytes out.new ≡ string_bytes out.old ++ replacement_text (right_view right.now)) }
+/// An arrow and the right side of a replacement, `FOLDER` or `PATH VERSION`, in four pieces. They are empty if there is
+/// none.
+fn right_pieces(right: &Option<Right>) -> (&str, &str, &str, &str)
+    ensures { result.0.now ++ (result.1.now ++ (result.2.now ++ result.3.now))
+        ≡ replacement_suffix (option_map right_view right.now) }
 {
     match right {
-        Right::Folder(text) => out.push_str(text.as_str()),
-        Right::Module(path, version) => {
-            out.push_str(path.as_str())?;
-            out.push_str(" ")?;
-            out.push_str(version.as_str())
-        }
+        None => ("", "", "", ""),
+        Some(Right::Folder(text)) => (" => ", text.as_str(), "", ""),
+        Some(Right::Module(path, version)) => (" => ", path.as_str(), " ", version.as_str()),
     }
 }
 
-/// Appends an arrow and the replacement, if there is one.
-fn push_replacement_suffix(out: &mut String, right: &Option<Right>) -> Result<(), NoMemory>
-    ensures { OnOk result (string_bytes out.new
-        ≡ string_bytes out.old ++ replacement_suffix (option_map right_view right.now)) }
-{
-    match right {
-        Some(right) => {
-            out.push_str(" => ")?;
-            push_right(out, right)
-        }
-        None => Ok(()),
-    }
-}
-
-/// Appends the line of a row.
-fn push_row(out: &mut String, main: &ModPath, row: &Row) -> Result<(), NoMemory>
-    ensures { OnOk result (string_bytes out.new ≡ string_bytes out.old ++ entry_line main.now (entry_of_row row.now)) }
-{
-    push_module(out, main, &row.step)?;
-    push_replacement_suffix(out, &row.right)?;
-    out.push_str("\n")
-}
-
-/// The limit after one more row. `None` means no limit.
-fn limit_after_row(left: Option<u32>) -> Option<u32>
-    ensures { result ≡ option_map (λ n. n - 1) left }
-{
-    match left {
-        Some(count) => Some(count.saturating_sub(1)),
-        None => None,
-    }
-}
-
-/// The rows as `go list -m all` prints them (Go Modules Reference, "go list -m"): one per line, in the given
-/// order, and only the first `limit` of them if a limit is given. The main module is written as its path
-/// `main`, another module as `PATH VERSION`. If it is replaced, ` => ` and `NEWPATH NEWVERSION` or the text
-/// of the folder follow.
-///
-/// Refused only when memory runs out. The time is proportional to the length of the text.
-pub fn list_text(
-    alloc: Global,
+/// Gives the line of a row.
+fn give_row<O: Sink>(
+    buffer: &mut LineBuffer,
+    sink: &mut O,
     main: &ModPath,
-    rows: Rows<'_>,
-    limit: Option<u32>,
-) -> Result<String, NoMemory>
-    ensures { IfOk result (λ text. string_bytes text
-        ≡ list_text main.now (up_to limit (entries_of_rows rows.entry))) }
+    row: &Row,
+) -> Result<(), WriteFault>
+    ensures { IsGiven (O.state sink.old) buffer.old (O.state sink.new) buffer.new
+        (entry_line main.now (entry_of_row row.now)) result }
 {
-    let mut text = String::new(alloc);
-    let mut rest = rows;
-    let mut left = limit;
-    'rows: while let Some(row) = rest.next() {
-        if left == Some(0) {
-            return Ok(text);
-        }
-        push_row(&mut text, main, row)?;
-        left = limit_after_row(left);
-    }
-    Ok(text)
+    let (path, space, version) = module_pieces(main, &row.step);
+    let (arrow, other, gap, number) = right_pieces(&row.right);
+    buffer.give_line(sink, &[path, space, version, arrow, other, gap, number])
 }
 
-/// Rows: the first `limit` of them, or all if there is no limit.
-fn rows_outcome<'r>(
-    alloc: Global,
-    main: &MainFile<'_>,
-    rows: Rows<'_>,
-    limit: Option<u32>,
-) -> Result<String, Report<'r>>
-    ensures { OrNoMemory (λ outcome. outcome
-        ≡ text_outcome (list_text (main_of main.now).path (up_to limit (entries_of_rows rows.entry))))
-        (outcome_view result) }
+/// Writes the rows as `go list -m all` prints them (Go Modules Reference, "go list -m"): one per line, in the given
+/// order. The main module is written as its path `main`, another module as `PATH VERSION`. If it is replaced, ` => ` and
+/// `NEWPATH NEWVERSION` or the text of the folder follow. It takes no memory.
+pub(crate) fn write_rows<O: Sink>(
+    sink: &mut O,
+    main: &ModPath,
+    rows: &[Row],
+) -> Result<(), WriteFault>
+    ensures { Took (O.state sink.old) (O.state sink.new) (list_text main.now (entries_of_rows rows.now)) result }
 {
-    let text = list_text(alloc, main.module(), rows, limit)?;
-    Ok(text)
+    let mut buffer = LineBuffer::new();
+    'rows: for row in rows {
+        give_row(&mut buffer, sink, main, row)?;
+    }
+    buffer.end(sink)
+}
+
+/// How many rows there are up to a limit, if there is one.
+fn count_within(count: usize, limit: Option<u32>) -> usize
+    ensures within { result ≤ count }
+    ensures rows { (rows : List Entry) → length rows ≡ count → take result rows ≡ up_to limit rows }
+{
+    match limit {
+        None => count,
+        Some(limit) => count.min(limit as usize),
+    }
+}
+
+/// The rows but the first `from` of them, and of these the first `limit`, or all if there is no limit.
+pub(crate) fn part_of(rows: &[Row], from: usize, limit: Option<u32>) -> &[Row]
+    ensures { entries_of_rows result.now ≡ up_to limit (drop from (entries_of_rows rows.now)) }
+{
+    if rows.len() < from {
+        return &[];
+    }
+    let rest = &rows[from..];
+    &rest[..count_within(rest.len(), limit)]
+}
+
+/// How many rows there are.
+fn count_of(rows: Rows<'_>) -> usize
+    requires { length rows < 2 ^ 64 }
+    ensures { result ≡ length rows.entry }
+{
+    let mut count = 0;
+    'rows: for _row in rows {
+        count += 1;
+    }
+    count
+}
+
+/// How many rows come before those to print: none, or those up to the row of a path. A path that is not in the build list
+/// is reported.
+fn first_row<'q>(
+    main: &MainFile<'_>,
+    loaded: &Loaded,
+    after: Option<&'q ModPath>,
+) -> Result<usize, Report<'q>>
+    requires no_fault { loaded.now.faults ≡ [] }
+    requires main { loaded.now.main ≡ (main_of main.now).path }
+    ensures printed { IfOk result (λ from. (limit : Option ℕ)
+        → PrintsRows (main_of main.now) loaded.now.rows (option_copied after.entry) limit
+        (text_outcome (list_text (main_of main.now).path (up_to limit (drop from loaded.now.rows))))) }
+    ensures told { IfErr result (λ told. (limit : Option ℕ)
+        → PrintsRows (main_of main.now) loaded.now.rows (option_copied after.entry) limit (report_outcome told)) }
+{
+    let Some(path) = after else {
+        return Ok(0);
+    };
+    match loaded.rest_after(path) {
+        Ok(rest) => Ok(loaded.build_list().len() - count_of(rest)),
+        Err(_) => Err(Report::NotListed(path)),
+    }
 }
 
 /// `list`: all rows, or those after the row of a path, and of these the first `limit`, or all if there is no limit. A
@@ -126,20 +139,16 @@ fn rows_outcome<'r>(
 pub(crate) fn list_outcome<'q>(
     alloc: Global,
     main: &MainFile<'_>,
-    loaded: &Loaded,
+    loaded: Loaded,
     after: Option<&'q ModPath>,
     limit: Option<u32>,
-) -> Result<String, Report<'q>>
-    requires no_fault { loaded.now.faults ≡ [] }
-    requires main { loaded.now.main ≡ (main_of main.now).path }
-    ensures { OrNoMemory (PrintsRows (main_of main.now) loaded.now.rows (option_copied after.entry) limit)
-        (outcome_view result) }
+) -> Result<Text, Report<'q>>
+    requires no_fault { loaded.faults ≡ [] }
+    requires main { loaded.main ≡ (main_of main.now).path }
+    ensures { OrNoMemory (PrintsRows (main_of main.now) loaded.rows (option_copied after.entry) limit)
+        (ended_view result) }
 {
-    let Some(path) = after else {
-        return rows_outcome(alloc, main, Rows::all(loaded.build_list()), limit);
-    };
-    match loaded.rest_after(path) {
-        Ok(rest) => rows_outcome(alloc, main, rest, limit),
-        Err(_) => Err(Report::NotListed(path)),
-    }
+    let from = first_row(main, &loaded, after)?;
+    let main = main.module().copy(alloc)?;
+    Ok(Text::rows(main, loaded, from, limit))
 }

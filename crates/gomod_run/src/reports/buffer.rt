@@ -1,7 +1,7 @@
 //! Lines on their way to a sink. They wait in a buffer of fixed size, so that many short lines take few writes and no
 //! memory.
 
-ghost use Rattle.std.specs.Prelude.{◌≡◌, ◌-◌, ◌^◌, [], OnOk, length, min};
+ghost use Rattle.std.specs.Prelude.{◌≡◌, ◌≤◌, ◌++◌, ◌-◌, ◌^◌, [], OnOk, length, min};
 ghost use Rattle.std.specs.List.{flat_map};
 ghost use Rattle.gomod_run.specs.Private.Giving.{IsGiven, IsEnded};
 ghost use Rattle.gomod_run.specs.LineParts.{line};
@@ -11,7 +11,7 @@ use gm_store::{Sink, WriteFault, write_all};
 use std::marker::Model;
 
 /// How many bytes wait at most. Nearly every line is shorter.
-const ROOM: usize = 4096;
+const ROOM: usize = 16_384;
 
 /// Lines that have not been written yet.
 #[derive(Drop)]
@@ -48,9 +48,22 @@ impl LineBuffer {
         ensures { IsGiven (R.state sink.old) self.old (R.state sink.new) self.new
             (line (flat_map (λ piece. piece.now) pieces.now)) result }
     {
-        if self.bytes.remaining_capacity() < length_of(pieces) {
+        let size = length_of(pieces);
+        if self.bytes.remaining_capacity() < size {
             self.end(sink)?;
         }
+        if self.bytes.remaining_capacity() < size {
+            return self.give_long(sink, pieces);
+        }
+        push_line(&mut self.bytes, pieces);
+        Ok(())
+    }
+
+    /// Gives a line that doesn't fit the buffer, piece by piece.
+    fn give_long<R: Sink>(&mut self, sink: &mut R, pieces: &[&str]) -> Result<(), WriteFault>
+        ensures { IsGiven (R.state sink.old) self.old (R.state sink.new) self.new
+            (line (flat_map (λ piece. piece.now) pieces.now)) result }
+    {
         'pieces: for piece in pieces {
             self.give(sink, piece.as_bytes())?;
         }
@@ -77,6 +90,18 @@ impl LineBuffer {
         self.bytes.clear();
         Ok(())
     }
+}
+
+/// Appends a line of these pieces, for which there must be room. No sink is looked at between two pieces, so that a
+/// line of many short ones takes little time.
+fn push_line(bytes: &mut ArrayVec<u8, ROOM>, pieces: &[&str])
+    requires { length (bytes.old.items ++ line (flat_map (λ piece. piece.now) pieces.now)) ≤ 16384 }
+    ensures { bytes.new.items ≡ bytes.old.items ++ line (flat_map (λ piece. piece.now) pieces.now) }
+{
+    'pieces: for piece in pieces {
+        let _fits = bytes.try_extend_from_slice(piece.as_bytes());
+    }
+    let _fits = bytes.try_push(b'\n');
 }
 
 /// How many bytes a line of these pieces has, with its line feed. Saturates.

@@ -18,7 +18,7 @@ use gm_store::{FileName, Sink, WriteFault};
 
 impl<'a> Report<'a> {
     /// Writes the report to a sink, up to the first failure of the sink. It takes no memory. Whole lines are written,
-    /// as many at once as 4,096 bytes hold; a longer line is written in pieces.
+    /// as many at once as 16,384 bytes hold; a longer line is written in pieces.
     pub fn write<R: Sink>(&self, sink: &mut R) -> Result<(), WriteFault>
         ensures { Took (R.state sink.old) (R.state sink.new) (report_text self.now) result }
     {

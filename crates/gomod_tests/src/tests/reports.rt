@@ -69,26 +69,26 @@ fn seen_of_faults(rt: &impl Abort, alloc: Global, name: &str, class: Class, coun
 
 #[test]
 fn many_lines_are_written_whole_and_together(rt: HostRuntime) {
-    // 136 lines fit 4,096 bytes.
-    let got = seen_of_faults(&rt, rt.alloc(), "example.com/a", Class::Missing, 500);
-    assert_same(&rt, "500 lines of 30 bytes", &got, &(4, 0, 15_000));
+    // 546 lines fit 16,384 bytes.
+    let got = seen_of_faults(&rt, rt.alloc(), "example.com/a", Class::Missing, 1_500);
+    assert_same(&rt, "1,500 lines of 30 bytes", &got, &(3, 0, 45_000));
 }
 
 #[test]
 fn lines_that_fill_the_buffer_are_written_at_once(rt: HostRuntime) {
-    let got = seen_of_faults(&rt, rt.alloc(), "a", Class::NoSum, 256);
-    assert_same(&rt, "256 lines of 16 bytes", &got, &(1, 0, 4_096));
-    let got = seen_of_faults(&rt, rt.alloc(), "ab", Class::NoSum, 241);
-    assert_same(&rt, "241 lines of 17 bytes", &got, &(2, 0, 4_097));
+    let got = seen_of_faults(&rt, rt.alloc(), "a", Class::NoSum, 1_024);
+    assert_same(&rt, "1,024 lines of 16 bytes", &got, &(1, 0, 16_384));
+    let got = seen_of_faults(&rt, rt.alloc(), "ab", Class::NoSum, 964);
+    assert_same(&rt, "964 lines of 17 bytes", &got, &(2, 0, 16_388));
 }
 
 #[test]
 fn a_long_line_is_written_in_pieces(rt: HostRuntime) {
     let mut folder = String::new(rt.alloc());
-    for _ in 0..1_000 {
+    for _ in 0..2_000 {
         folder.push_str("0123456789").expect(&rt, OUT_OF_MEMORY);
     }
     // `gomod: device at `, the folder and the line feed
     let got = seen_of(&rt, &Report::Device(FileName::Folder(folder)));
-    assert_same(&rt, "a line of 10,018 bytes", &got, &(3, 2, 10_018));
+    assert_same(&rt, "a line of 20,018 bytes", &got, &(3, 2, 20_018));
 }

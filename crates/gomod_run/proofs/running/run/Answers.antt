@@ -1,17 +1,17 @@
 use Rattle.std.specs.Option.{option_map}
-use Rattle.gomod_run.specs.Outcome.{outcome_view}
+use Rattle.gomod_run.specs.Outcome.{ended_view}
 use Rattle.gomod_run.proofs.AllAsked.{held_written}
 use Rattle.gomod_run.proofs.running.run.Goals as goal
 
 pub returns-clause-ends : goal.returns-clause-ends
 returns-clause-ends g c = record {
-  outcome = outcome_view c.outcome-ended.result;
-  as_stated = c.outcome-ended.ensures.ends;
-  utf8 = c.write_outcome.ensures.utf8;
-  written = c.write_outcome.ensures.written;
+  outcome = ended_view c.outcome-ended.result;
+  as_stated = c.outcome-ended.ensures.comes.ends;
+  utf8 = c.outcome-ended.ensures.utf8;
+  written = c.write_outcome.ensures;
 }
 
 pub returns-clause-holds : goal.returns-clause-holds
 returns-clause-holds g c =
-    held_written c.args.command.now c.args.main.now (option_map (λ sums. sums.now) c.args.sums) _ _ _ _ (outcome_view c.outcome-ended.result) _ _ _ _ _
-    c.write_outcome.ensures.written c.outcome-ended.ensures.holds
+    held_written c.args.command.now c.args.main.now (option_map (λ sums. sums.now) c.args.sums) _ _ _ _ (ended_view c.outcome-ended.result) _ _ _ _ _
+    c.write_outcome.ensures c.outcome-ended.ensures.comes.holds

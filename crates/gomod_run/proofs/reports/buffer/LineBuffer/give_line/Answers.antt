@@ -1,30 +1,18 @@
-use Rattle.std.proofs.Common.{◌++◌, [], Ok, codes, drop, refl, suc, take, take_all}
-use Rattle.std.specs.List.{flat_map}
-use Rattle.gomod_run.proofs.Waiting.{around, gives_more, gives_no_end, no_more, one_more}
+use Rattle.std.proofs.Common.{[], append-nil, refl, sym}
+use Rattle.gomod_run.proofs.Waiting.{gives_end, gives_more, gives_no_end, gives_waiting}
 use Rattle.gomod_run.proofs.reports.buffer.LineBuffer.give_line.Goals as goal
+use Rattle.gomod_run.proofs.reports.buffer.LineBuffer.give_line.Goals.{then-remaining_capacity-size+in_ok-end, else-remaining_capacity-size}
 
 pub returns-in_err-end : goal.returns-in_err-end
 returns-in_err-end g c =
     gives_no_end _ _ c.args.self.now c.args.self.now c.end.new.self _ c.in_err-end.field-0.0
     c.from_residual.result refl c.from_residual.ensures.0 c.in_err-end.ensures.ended
 
-pub returns-in_err-give : goal.returns-in_err-give
-returns-in_err-give g c =
-    let pieces = c.args.pieces.now in
-    let at = c.pieces.piece-index in
-    no_more _ _ _ c.args.self.now c.pieces.self c.give.new.self (flat_map (λ piece. piece.now) (take at pieces)) _
-    (flat_map (λ piece. piece.now) (drop (suc at) pieces) ++ codes "\n") _
-    c.in_err-give.field-0.0 c.from_residual-in_err-give.result c.from_residual-in_err-give.ensures.0
-    (around (λ piece. piece.now) pieces at (record { ref_ptr = (0, 0); now = [] }) (codes "\n") c.pieces-test.true)
-    c.pieces.invariant (rw c.as_bytes.ensures.value at c.in_err-give.ensures)
-
-pub pieces-preserved : goal.pieces-preserved
-pieces-preserved g c =
-    gives_more _ _ _ c.args.self.now c.pieces.self c.give.new.self _ _ _ (Ok tt)
-    (one_more (λ piece. piece.now) c.args.pieces.now c.pieces.piece-index (record { ref_ptr = (0, 0); now = [] }) c.pieces-test.true)
-    c.pieces.invariant (rw c.as_bytes.ensures.value at c.in_ok-give.ensures)
-
-pub returns : goal.returns
-returns g c =
-    gives_more _ _ _ c.args.self.now c.pieces.self c.give-2.new.self _ (codes "\n") _ c.give-2.result refl
-    (rw (take_all c.pieces.piece-index c.args.pieces.now c.pieces-test.false) at c.pieces.invariant) c.give-2.ensures
+-- nothing was given yet, though what waited may have been written
+pub returns-then-remaining_capacity-size-2 : goal.returns-then-remaining_capacity-size-2
+returns-then-remaining_capacity-size-2 g c =
+    gives_more _ _ _ c.args.self.now c.if-remaining_capacity-size.self c.give_long.new.self [] _ _ c.give_long.result refl
+    (elim c.if-remaining_capacity-size.branch [
+      | then-remaining_capacity-size+in_ok-end w ↦ rw (w.self-is, w.sink-is, w.in_ok-end.ensures.empty) (gives_end _ _ _ tt w.in_ok-end.ensures.ended)
+      | else-remaining_capacity-size w ↦ rw (w.self-is, w.sink-is) (gives_waiting _ _ _ [] (sym (append-nil _)))
+    ]) c.give_long.ensures

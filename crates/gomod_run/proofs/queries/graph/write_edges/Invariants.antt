@@ -1,0 +1,11 @@
+use Rattle.std.proofs.Common.{◌≡◌, ◌++◌, [], List, Ok, ℕ}
+use Rattle.gm_store.specs.declared.sinks.WriteFault.{WriteFault}
+use Rattle.gomod_run.specs.GraphQuery.{graph_text}
+use Rattle.gomod_run.specs.Private.Giving.{IsGiven}
+use Rattle.gomod_run.proofs.queries.graph.write_edges.Given as goal
+
+-- lines were given, and those of the remaining edges are the rest of the text
+abbrev pub invariant-edges : goal.invariant-edges
+invariant-edges g l = (given : List ℕ)
+    × IsGiven {E = WriteFault} (g.O.Sink.state l.fn.sink) [] (g.O.Sink.state l.sink) l.buffer given (Ok tt)
+    × (graph_text l.main l.fn.edges ≡ given ++ graph_text l.main l.edge-iterator)
