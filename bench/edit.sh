@@ -1,7 +1,8 @@
 #!/usr/bin/env bash
 # Times `gomod edit` with one operation and with many, on go.mod files of 65,535 requires, excludes of one path,
 # replaces of one path and retractions, and on one of a single line, and `go mod edit` beside it if there is a go
-# command. The requires are bare words, paths in quotes, blocks of one entry, and paths that all have one hash in gomod.
+# command. The requires are bare words with numbered and with random names, paths in quotes, blocks of one entry, and
+# paths that all have one hash in gomod.
 #
 #   bench/edit.sh            what docs/dev/BENCHMARKS.md has
 #   bench/edit.sh --small    2,000 lines and fewer operations, to see in seconds whether it runs
@@ -39,6 +40,7 @@ if [ -n "$small" ]; then
   count=2000 many=30 added=200 more=800 goal='' goal_strings='' goal_hash='' goal_added=''
 fi
 python3 - "$work" $count $many $added $more << 'PY'
+import hashlib
 import sys
 
 work = sys.argv[1]
@@ -54,9 +56,17 @@ def block(name, verb, entries):
     write(name, ["module example.com/big", "", "go 1.16", "", f"{verb} (", *entries, ")"])
 
 
-def requirement(number):
+def numbered(number):
+    return f"example.com/module{number:06d}"
+
+
+def at_random(number):
+    return f"example.com/{hashlib.sha256(str(number).encode()).hexdigest()[:12]}"
+
+
+def requirement(number, path=numbered):
     comment = " // indirect" if number % 4 == 0 else ""
-    return f"\texample.com/module{number:06d} v1.{number % 40}.{number % 7}{comment}"
+    return f"\t{path(number)} v1.{number % 40}.{number % 7}{comment}"
 
 
 def one_hash(wanted):
@@ -101,6 +111,7 @@ def version(number):
 
 
 block("big.mod", "require", [requirement(number) for number in range(count)])
+block("random.mod", "require", [requirement(number, at_random) for number in range(count)])
 block("excludes.mod", "exclude", [f"\texample.com/one {version(number)}" for number in range(count)])
 block("replaces.mod", "replace", [f"\texample.com/one {version(number)} => ../one" for number in range(count)])
 block("retractions.mod", "retract", [f"\t{version(number)}" for number in range(count)])
@@ -141,6 +152,8 @@ write("retracted", [
 ][:many])
 write("one", [f"require=example.com/module{count // 2:06d}@v1.50.0"])
 write("none", ["droprequire=example.com/absent"])
+for name, path in [("set", numbered), ("random", at_random)]:
+    write(name, [f"require={path(number)}@v1.50.{turn}" for turn, number in enumerate(changed)][:many])
 write("many", mixed([f"example.com/module{number:06d}" for number in changed]))
 write("blocked", mixed([f"example.com/module{number:06d}" for number in range(0, blocks, blocks // many)]))
 write("hashed", mixed([hashed[number] for number in changed]))
@@ -170,6 +183,8 @@ read -r mine busy memory status < <(best - "$gomod" fmt "$work/big.mod")
 show "gomod fmt, $count requires" "$mine" "$busy" "$memory"
 row "one operation, $count requires" big.mod one
 row "one that changes nothing" big.mod none
+row "$many requires$goal" big.mod set
+row "$many requires, random names$goal" random.mod random
 row "$many operations$goal" big.mod many
 row "$many operations, paths in quotes$goal_strings" quoted.mod many
 row "$many operations, blocks of one entry$goal_strings" blocks.mod blocked

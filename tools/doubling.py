@@ -7,7 +7,8 @@ tools/doubling.py has a row for each kind of input that may grow. Where valgrind
 instructions, and else CPU time, of inputs that are sixteen times as large. The cost of the last doubling may be at
 most 2.4 times that of the first: n log n passes, n squared is 4 times. Three kinds of input have no row, since their
 cost is a product: the lines that `graph` prints if modules share a file, operations of `edit` on as many lines, of
-which a row has few, and one file under many names.
+which a row has few, and one file under many names. What many operations on many lines may take is a number of
+instructions, whatever the names are; without valgrind it isn't measured.
 
 It prints each row, and at last how many were wrong. The status is 1 if one was wrong, or ended with another status
 than it should. It needs python3 and bin/gomod (./build makes it), and takes 60 s of CPU time, on all processors if it
@@ -17,6 +18,7 @@ has valgrind. Without valgrind it takes several minutes, most of them to write f
 import concurrent.futures
 import math
 import os
+import random
 import re
 import resource
 import shutil
@@ -171,6 +173,19 @@ def long_lines(count):
     return {"go.mod": main_of(numbered(count, '"a.c/{:01000}" v1.0.0'))}
 
 
+def edited(name_of):
+    """The words of 100 operations on a main file of 4,000 requirements with these names, and its lines."""
+    names = [f"example.com/{name_of(it)}" for it in range(4000)]
+    words = [f"require={it}@v1.50.0" for it in names[::40]]
+    return ["edit", "go.mod", *words], {"go.mod": main_of(f"{it} v1.0.0" for it in names)}
+
+
+# how many instructions operations on many lines may take, and names of modules
+MOST_EDITED = 45_000_000
+NAMES = {
+    "numbered": "module{:06}".format,
+    "random": lambda it: f"{random.Random(it).randrange(36**8):012x}",
+}
 PROXY = "--proxy proxy"
 ROWS = [
     Row("lines", 2000, "fmt go.mod", lines),
@@ -243,6 +258,12 @@ class Meter:
         out, report = subprocess.DEVNULL, subprocess.PIPE
         return subprocess.run(words, cwd=folder, input=stdin, stdout=out, stderr=report, timeout=LIMIT, check=False)
 
+    def edited(self, kind):
+        """A line on operations on many lines with names of a kind, and whether it is as it should be."""
+        count, status, report = self.cost(*edited(NAMES[kind]))
+        line = f"{count:,} instructions of at most {MOST_EDITED:,}: gomod edit, 100 operations on 4,000 {kind} names"
+        return (f"{line}, status {status}, report {report}" if status else line), not status and count <= MOST_EDITED
+
     def measured(self, row):
         """A line on a row of the table, and whether it is as it should be."""
         sizes = self.sizes(row.first)
@@ -267,10 +288,11 @@ def main(*words):
     at_once = script.AT_ONCE if meter.valgrind else 1
     wrong = 0
     with concurrent.futures.ThreadPoolExecutor(at_once) as pool:
-        for line, is_right in pool.map(meter.measured, ROWS):
+        rows = [(meter.measured, it) for it in ROWS] + [(meter.edited, it) for it in NAMES if meter.valgrind]
+        for line, is_right in pool.map(lambda it: it[0](it[1]), rows):
             wrong += not is_right
             print(line if is_right else f"wrong: {line}", flush=True)
-    print(f"{len(ROWS)} rows, {wrong} wrong, by {meter.unit}")
+    print(f"{len(rows)} rows, {wrong} wrong, by {meter.unit}")
     return 1 if wrong else 0
 
 

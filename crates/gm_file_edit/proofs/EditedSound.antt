@@ -34,7 +34,7 @@ use Rattle.gm_file_edit.proofs.Feeds.{byte-feed, go-feed, path-feed, version-fee
 use Rattle.gm_file_edit.proofs.Made.{AreArguments, begins-path, made-stands, made-value, one-are, open-behind}
 use Rattle.gm_file_edit.proofs.Renewals.{go-says, put_by, renewal, replace-are, replace-says, wanted}
 use Rattle.gm_file_edit.proofs.Pairs.{IsSound, document-sound, held_from, sound-document}
-use Rattle.gm_file_edit.specs.Private.Keys.{target_entry}
+use Rattle.gm_file_edit.specs.Private.Keys.{target_of_edit}
 use Rattle.gm_file_edit.proofs.Targets.{about-module}
 use Rattle.gm_file_edit.proofs.Untouched.{by-edited}
 
@@ -164,7 +164,7 @@ changed-sound (Set s) {lines} good fit there sound = renewed-sound (about (Set s
 changed-sound (Add a) good fit there sound = sound
 changed-sound (Drop t) {lines} good fit there sound = dropped-sound (about (Drop t)) lines sound (λ d e. about-module (Drop t) d e ∙ no-module t)
   where
-    no-module : (t : Target) → verb_eq ForModule (target_entry (Drop t)).0 ≡ false
+    no-module : (t : Target) → verb_eq ForModule (target_of_edit (Drop t)).0 ≡ false
     no-module (AnyRequire path) = refl
     no-module t = refl
 

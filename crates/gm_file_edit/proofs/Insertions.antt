@@ -2,7 +2,7 @@
 -- stay a document without a fault.
 use Rattle.std.proofs.Common.{◌≡◌, ℕ, ◌||◌, Bool, true, false, List, [], ◌∷◌, ◌++◌, Option, Some, None, is_some, refl, sym, ap, ◌∙◌, append-nil, append_assoc, inl, inr}
 use mathlib.Core.Bool.{or_assoc}
-use Rattle.std.specs.Prelude.{⊤, codes}
+use Rattle.std.specs.Prelude.{codes}
 use Rattle.std.specs.List.{cons_option, list_any}
 use Rattle.std.proofs.lemmas.Bool.{and_right, cases_Bool, or_right, true≢false}
 use Rattle.gm_syntax.specs.Tokens.{Placed, words_of}
@@ -15,6 +15,7 @@ use Rattle.gm_file_edit.specs.Edits.{Edit, Target, Set, ModuleIs, GoIs, RequireA
 use Rattle.gm_file_edit.specs.Holding.{directive_at, passes, is_there, item_of}
 use Rattle.gm_file_edit.specs.Laws.{directives_of}
 use Rattle.gm_file_edit.specs.NewWords.{entry_at, made_word, single}
+use Rattle.gm_file_edit.specs.Private.Marks.{IsOfVerb}
 use Rattle.gm_file_edit.proofs.Pairs.{block-append, file-held, held_from, IsSound, put-line}
 use Rattle.gm_syntax.specs.Bare.{new_word}
 use Rattle.gm_syntax.specs.LineViews.{plain}
@@ -55,11 +56,6 @@ passing-level test block (Comment text) e = refl
 passing-level test block (Open opened suffix) e = absurd cc
 passing-level test block (Close suffix) e = absurd cc
 passing-level test block (Entry words suffix) e = refl
-
--- the open block, if any, has this verb
-abbrev pub IsOfVerb : List ℕ → Option Placed → Type 0
-IsOfVerb v None = ⊤
-IsOfVerb v (Some t) = verb_in Strict t.word.spelling ≡ main_verb v
 
 pub passing-verb : (v : List ℕ) (block : Option Placed) (line : Line Placed) (held : Option Directive)
     → directive_at block line ≡ held → passes (has_verb v) held ≡ true → IsOfVerb v block

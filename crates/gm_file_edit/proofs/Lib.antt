@@ -25,7 +25,6 @@ pub mod Additions
 pub mod Twice
 pub mod Undone
 pub mod EitherOrder
-pub mod Bits
-pub mod Values
-pub mod PassedOver
 pub mod KeyedChanges
+pub mod NewKeys
+pub mod WordKeys

@@ -1,11 +1,15 @@
 -- The marks of lines, and what removing marked lines leaves.
-use Rattle.std.proofs.Common.{◌≡◌, ℕ, suc, ◌+◌, ◌<◌, ◌≤◌, not, Bool, true, false, List, [], ◌∷◌, ◌++◌, length, take, set, Option, None, refl, sym, ap, ◌∙◌, arith, inl, inr}
-use Rattle.std.specs.Prelude.{take_while}
+use Rattle.std.proofs.Common.{◌≡◌, ℕ, suc, ◌+◌, ◌<◌, ◌≤◌, not, Bool, true, false, List, [], ◌∷◌, ◌++◌, length, take, drop, set, Option, Some, None, is_some, refl, sym, ap, ◌∙◌, arith, inl, inr}
+use Rattle.std.specs.Prelude.{if◌then◌else◌, take_while}
+use Rattle.std.specs.List.{list_any}
 use Rattle.std.proofs.lemmas.List.{take_all, take_more}
 use Rattle.std.proofs.lemmas.Bool.{cases_Bool}
-use Rattle.gm_syntax.specs.Tokens.{Placed}
+use Rattle.gm_syntax.specs.Tokens.{Placed, words_of}
 use Rattle.gm_syntax.specs.Document.{Line, Blank}
-use Rattle.gm_file.specs.Directives.{Directive, block_after_line, block_after_lines}
+use Rattle.gm_file.specs.Directives.{Directive, block_after_line, block_after_lines, main_verb, verb_eq}
+use Rattle.gm_file.specs.declared.verb.Verb.{Verb}
+use Rattle.gm_file.proofs.DirectiveVerbs.{same-verb}
+use Rattle.gm_name.proofs.NameTests.{and_both}
 use Rattle.gm_file_edit.specs.Fates.{without_targets, dropping_from, remaining, with_renewal, renewing_from}
 use Rattle.gm_file_edit.specs.Holding.{directive_at, passes, is_there}
 use Rattle.gm_file_edit.specs.About.{about}
@@ -14,11 +18,11 @@ use Rattle.gm_file_edit.specs.Edits.{Edit}
 use Rattle.gm_file_edit.specs.Renewing.{made_new}
 use Rattle.gm_file_edit.specs.Private.Marks.{line_at, fates_of, marks_from}
 use Rattle.gm_file_edit.specs.declared.keys.Key.{Key}
-use Rattle.gm_file.specs.declared.verb.Verb.{Verb}
-use Rattle.gm_file_edit.specs.Private.Keys.{key_of}
+use Rattle.gm_file_edit.specs.Private.Keys.{Subject, agrees, are_texts, have_texts, held_subject, hold_texts, key_at, key_with, keys_from, subject_of, takes_any_version, target_of_edit, texts_named}
+use Rattle.gm_file_edit.proofs.Made.{IsFront, held-by}
 use Rattle.gm_file_edit.proofs.Packs.{first-is, first_of}
-use Rattle.gm_file_edit.proofs.PassedOver.{IsVerbTo, StepsVerb, verb-more}
-use Rattle.gm_file_edit.proofs.Walking.{block-next}
+use Rattle.gm_file_edit.proofs.Targets.{about-is, none-there, passed-over, target-known}
+use Rattle.gm_file_edit.proofs.WordKeys.{entry-texts, subject}
 
 -- ---- the loop that marks lines
 
@@ -31,44 +35,62 @@ marks-append : (test : Directive → Bool) (block : Option Placed) (xs ys : List
 marks-append test block [] ys = refl
 marks-append test block (line ∷ xs) ys = rw (marks-append test (block_after_line block line) xs ys)
 
--- Loop invariant: the first lines are marked, the block is the one that is open after them, and its verb is known.
-pub record AreMarkedTo (edit : Edit) (whole : List (Line Placed)) (n : ℕ) (block : Option Placed) (verb : Option Verb) (marks : List Bool) : Type 0 where
-  pub block_is : block ≡ block_after_lines None (take n whole)
-  pub verb_is : IsVerbTo whole n verb
-  pub front : marks ≡ marks_from (about edit) None (take n whole)
+-- Loop invariant: the first lines are marked.
+abbrev pub AreMarkedTo : Edit → List (Line Placed) → ℕ → List Bool → Type 0
+AreMarkedTo edit whole n marks = marks ≡ marks_from (about edit) None (take n whole)
 
--- a line that the test of keys and texts passes over has no mark
-pub unmarked : (mark : Bool) {may : Bool} → (mark ≡ true → may ≡ true) → may ≡ false → false ≡ mark
-unmarked true gives fails = absurd (let holds = gives refl in cc)
-unmarked false gives fails = refl
+-- the arguments of an entry, in a block or outside
+arguments-are : (block : Option Placed) (verb : List ℕ) (front arguments : List Placed) → IsFront block verb front
+    → (if is_some block then front ++ arguments else drop 1 (front ++ arguments)) ≡ arguments
+arguments-are None verb front arguments at = rw (at.1)
+arguments-are (Some own) verb front arguments at = rw (at.0)
+
+-- a line of the operation's verb holds a directive that the operation targets if its words have the texts
+texts-tell : (edit : Edit) (block : Option Placed) (line : Line Placed) (held : Option Directive) → directive_at block line ≡ held
+    → verb_eq (target_of_edit edit).0 (held_subject held).0 ≡ true
+    → hold_texts (target_of_edit edit) (takes_any_version edit) (is_some block) line ≡ passes (about edit) held
+texts-tell edit block line None is same = absurd (let known = target-known edit in cc)
+texts-tell edit block line (Some d) is same =
+    let target = target_of_edit edit in
+    let any = takes_any_version edit in
+    let h = held-by block line is in
+    let words = words_of h.arguments in
+    let said = entry-texts (main_verb h.verb) words d h.says in
+    let own : target.0 ≡ main_verb h.verb = same-verb target.0 (subject_of d).0 same ∙ ap (λ (s : Subject). s.0) said in
+    ap (hold_texts target any (is_some block)) h.is
+    ∙ ap (λ (ws : List Placed). have_texts target any (words_of ws)) (arguments-are block h.verb h.front h.arguments h.at)
+    ∙ ap (λ (v : Verb). are_texts target.1 any (subject v (texts_named v words))) own
+    ∙ ap (are_texts target.1 any) (sym said)
+    ∙ rw same at (about-is edit d)
+
+module _ (edit : Edit) (whole : List (Line Placed)) (n : ℕ) {key wanted : Key} {own : Subject} {any : Bool}
+    (key_is : key ≡ key_at (block_after_lines None (take n whole)) (line_at whole n)) (own_is : own ≡ target_of_edit edit)
+    (wanted_is : wanted ≡ key_with own false) (any_is : any ≡ takes_any_version edit) where
+  -- a line whose key doesn't agree has no mark
+  pub passed-at : agrees wanted any key ≡ false → passes (about edit) (directive_at (block_after_lines None (take n whole)) (line_at whole n)) ≡ false
+  passed-at other =
+      let block = block_after_lines None (take n whole) in
+      passed-over edit (is_some block) (directive_at block (line_at whole n)) (rw (wanted_is, own_is, any_is, key_is) at other)
+
+  -- and one whose key agrees has one if its words have the texts
+  pub told-at : {mark inside : Bool} {line : Line Placed} → agrees wanted any key ≡ true → inside ≡ key.inside → line ≡ line_at whole n
+      → mark ≡ hold_texts own any inside line → mark ≡ passes (about edit) (directive_at (block_after_lines None (take n whole)) (line_at whole n))
+  told-at agree within is held =
+      let block = block_after_lines None (take n whole) in
+      let line = line_at whole n in
+      let same = (and_both (verb_eq (target_of_edit edit).0 (held_subject (directive_at block line)).0) _ (rw (wanted_is, own_is, any_is, key_is) at agree)).0 in
+      held ∙ rw (within, key_is, is, own_is, any_is) (texts-tell edit block line (directive_at block line) refl same)
 
 -- one more line
-pub scan-more : (edit : Edit) {whole : List (Line Placed)} {n : ℕ} {block next_block : Option Placed}
-    {verb : Option Verb} (next_verb : Option Verb) {line : Line Placed} {key : Key} {marks next : List Bool} {mark : Bool}
-    → n < length whole → line ≡ line_at whole n → key ≡ key_of (line_at whole n)
-    → mark ≡ passes (about edit) (directive_at block line) → next ≡ marks ++ mark ∷ []
-    → next_block ≡ block_after_line block line → StepsVerb verb key next_verb
-    → AreMarkedTo edit whole n block verb marks → AreMarkedTo edit whole (n + 1) next_block next_verb next
-scan-more edit {whole} {n} {verb} next_verb lt is key_is tested pushed stepped step so =
-    record {
-      block_is = rw (block-next whole n lt, stepped, is, so.block_is);
-      verb_is = verb-more whole n verb next_verb lt key_is step so.verb_is;
-      front =
-          rw (
-            pushed,
-            so.front,
-            tested,
-            is,
-            so.block_is,
-            take_more whole n Blank lt,
-            marks-append (about edit) None (take n whole) (line_at whole n ∷ []),
-          );
-    }
+pub scan-more : (edit : Edit) (whole : List (Line Placed)) (n : ℕ) {marks next : List Bool} {mark : Bool} → n < length whole
+    → mark ≡ passes (about edit) (directive_at (block_after_lines None (take n whole)) (line_at whole n)) → next ≡ marks ++ mark ∷ []
+    → AreMarkedTo edit whole n marks → AreMarkedTo edit whole (n + 1) next
+scan-more edit whole n lt tested pushed so =
+    rw (pushed, so, tested, take_more whole n Blank lt, marks-append (about edit) None (take n whole) (line_at whole n ∷ []))
 
-pub scan-end : {edit : Edit} {whole : List (Line Placed)} {n : ℕ} {block : Option Placed} {verb : Option Verb}
-    {marks : List Bool} → length whole ≤ n → AreMarkedTo edit whole n block verb marks
+pub scan-end : (edit : Edit) (whole : List (Line Placed)) (n : ℕ) {marks : List Bool} → length whole ≤ n → AreMarkedTo edit whole n marks
     → marks ≡ marks_from (about edit) None whole
-scan-end {whole} {n} over so = rw (take_all n whole over) at so.front
+scan-end edit whole n over so = rw (take_all n whole over) at so
 
 -- ---- the first mark
 
@@ -139,6 +161,13 @@ unfolding lines_after
 edited-new edit lines marks marks_are first_is le =
     let at = first_is ∙ first-is marks ∙ ap first_of marks_are in
     rw (no-mark (about edit) None lines (omega (arith, at, le)))
+
+pub edited-idle : (edit : Edit) (lines : List (Line Placed)) {subject : Subject} {target : Key} {any : Bool} {keys : List Key}
+    → target ≡ key_with subject false → subject ≡ target_of_edit edit → any ≡ takes_any_version edit → keys ≡ keys_from None lines
+    → list_any (λ key. agrees target any key) keys ≡ false → lines_after edit lines ≡ put_in edit lines
+unfolding lines_after
+edited-idle edit lines target_is subject_is any_is keys_are none =
+    rw (none-there edit None lines (rw (target_is, subject_is, any_is, keys_are) at none))
 
 -- what is left of lines of which the first with a mark is rewritten
 pub renew-is : (edit : Edit) (lines new : List (Line Placed)) {marks : List Bool} (others : List Bool) {first : ℕ} {line : Line Placed}

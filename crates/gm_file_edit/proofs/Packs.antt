@@ -9,63 +9,81 @@ use Rattle.gm_syntax.specs.LineViews.{plain}
 use Rattle.gm_syntax.specs.Tokens.{Placed}
 use Rattle.gm_syntax.specs.Document.{Line, Blank, Comment, Open, Close, Entry}
 use Rattle.gm_file_edit.specs.Fates.{Fate, empties, fate_by, kept_lines, remaining, widened_from}
-use Rattle.gm_file_edit.specs.Private.Marks.{line_at, fates_of}
+use Rattle.gm_file_edit.specs.Private.Marks.{AreAtEntries, fates_of, line_at, unmarked}
+use Rattle.gm_file_edit.proofs.Seats.{kept-lines}
 use Rattle.gm_file_edit.proofs.Untouched.{all-lines-stay, all_stay}
 use Rattle.gm_file_edit.proofs.Walking.{drop-next, line-here}
 
--- ---- a line that moves
+-- ---- an item that moves
 
-pub swap-front : (lines : List (Line Placed)) (k n : ℕ) → k < n → n < length lines → take (k + 1) (swap lines k n) ≡ take k lines ++ line_at lines n ∷ []
-swap-front lines k n lt in_range =
-    let low : k < length lines = omega (arith, lt, in_range) in
-    rw (← swap_is lines k n Blank low in_range)
-    (take-set-le (k + 1) (set lines k (line_at lines n)) n (line_at lines k) (omega (arith, lt)) ∙ take_more_set lines k (line_at lines n) low)
+pub swap-front : {X : Type 0} (items : List X) (k n : ℕ) → k < n → n < length items → take (k + 1) (swap items k n) ≡ take k items ++ take 1 (drop n items)
+swap-front [] k n lt in_range = absurd (omega (arith, in_range))
+swap-front {X} (item ∷ rest) k n lt in_range =
+    let items : List X = item ∷ rest in
+    let low : k < length items = omega (arith, lt, in_range) in
+    let there : X = get_or items n item in
+    let first : take 1 (drop n items) ≡ there ∷ [] = rw (drop-next items n there in_range (get_or_default items n item there in_range)) in
+    rw (first, ← swap_is items k n item low in_range)
+    (take-set-le (k + 1) (set items k there) n (get_or items k item) (omega (arith, lt)) ∙ take_more_set items k there low)
 
-pub swap-rest : (lines : List (Line Placed)) (k n : ℕ) → k < n → n < length lines → drop (n + 1) (swap lines k n) ≡ drop (n + 1) lines
-swap-rest lines k n lt in_range =
-    rw (← swap_is lines k n Blank (omega (arith, lt, in_range)) in_range)
-    (drop-set-lt (n + 1) (set lines k (line_at lines n)) n (line_at lines k) (omega arith)
-    ∙ drop-set-lt (n + 1) lines k (line_at lines n) (omega (arith, lt)))
+pub swap-rest : {X : Type 0} (items : List X) (k n : ℕ) → k < n → n < length items → drop (n + 1) (swap items k n) ≡ drop (n + 1) items
+swap-rest [] k n lt in_range = absurd (omega (arith, in_range))
+swap-rest {X} (item ∷ rest) k n lt in_range =
+    let items : List X = item ∷ rest in
+    let there : X = get_or items n item in
+    rw (← swap_is items k n item (omega (arith, lt, in_range)) in_range)
+    (drop-set-lt (n + 1) (set items k there) n (get_or items k item) (omega arith) ∙ drop-set-lt (n + 1) items k there (omega (arith, lt)))
 
--- ---- lines at an index
+-- ---- items at an index
+
+pub item-here : {X : Type 0} (items : List X) (n : ℕ) → n < length items → (item : X) × (drop n items ≡ item ∷ drop (n + 1) items)
+item-here [] n lt = absurd (omega (arith, lt))
+item-here (item ∷ items) n lt =
+    (get_or (item ∷ items) n item, drop-next (item ∷ items) n _ lt (get_or_default (item ∷ items) n item (get_or (item ∷ items) n item) lt))
+
+pub kept-here : {X : Type 0} (items : List X) (n : ℕ) → n < length items → take (n + 1) items ≡ take n items ++ take 1 (drop n items)
+kept-here [] n lt = absurd (omega (arith, lt))
+kept-here (item ∷ items) n lt =
+    rw (drop-next (item ∷ items) n (get_or (item ∷ items) n item) lt (get_or_default (item ∷ items) n item (get_or (item ∷ items) n item) lt))
+    (take_more (item ∷ items) n item lt)
 
 next-rest : {X : Type 0} (xs ys : List X) (n : ℕ) → drop n xs ≡ drop n ys → drop (n + 1) xs ≡ drop (n + 1) ys
 next-rest xs ys n same = rw (← drop-drop 1 n xs, same) (drop-drop 1 n ys)
 
--- ---- the loop that keeps lines
+-- ---- the loop that keeps items
 
--- Loop invariant: the lines from an index on are still those of the whole, and with those that are kept so far they
+-- Loop invariant: the items from an index on are still those of the whole, and with those that are kept so far they
 -- leave what the whole leaves.
-pub record IsKeptTo (marks : List Bool) (whole : List (Line Placed)) (n count : ℕ) (lines : List (Line Placed)) : Type 0 where
-  pub len : length lines ≡ length whole
+pub record IsKeptTo {X : Type 0} (marks : List Bool) (whole : List X) (n count : ℕ) (items : List X) : Type 0 where
+  pub len : length items ≡ length whole
   pub bound : count ≤ n
-  pub rest : drop n lines ≡ drop n whole
-  pub left : take count lines ++ kept_lines (fates_of (drop n marks) (drop n whole)) ≡ kept_lines (fates_of marks whole)
+  pub rest : drop n items ≡ drop n whole
+  pub left : take count items ++ unmarked (drop n marks) (drop n whole) ≡ unmarked marks whole
 
--- a line that stays is kept, and one that goes is passed over
-left-more : (mark : Bool) (front new : List (Line Placed)) (line : Line Placed) (fates : List Fate)
-    → (mark ≡ true → new ≡ front) → (mark ≡ false → new ≡ front ++ line ∷ [])
-    → new ++ kept_lines fates ≡ front ++ kept_lines (fate_by mark line ∷ fates)
-left-more true front new line fates gone stays = rw (gone refl)
-left-more false front new line fates gone stays = rw (stays refl) (append_assoc front (line ∷ []) (kept_lines fates))
+-- an item that stays is kept, and one that goes is passed over
+left-more : {X : Type 0} (mark : Bool) (front new : List X) (item : X) (marks : List Bool) (rest : List X)
+    → (mark ≡ true → new ≡ front) → (mark ≡ false → new ≡ front ++ item ∷ [])
+    → new ++ unmarked marks rest ≡ front ++ unmarked (mark ∷ marks) (item ∷ rest)
+left-more true front new item marks rest gone stays = rw (gone refl)
+left-more false front new item marks rest gone stays = rw (stays refl) (append_assoc front (item ∷ []) (unmarked marks rest))
 
-pub keep-more : {marks : List Bool} {whole : List (Line Placed)} (n : ℕ) {count : ℕ} (next : ℕ) {lines : List (Line Placed)}
-    (new : List (Line Placed)) {mark : Bool}
-    → n < length marks → length marks ≡ length whole → mark ≡ get_or marks n mark → length new ≡ length lines
-    → next ≤ n + 1 → drop (n + 1) new ≡ drop (n + 1) lines
-    → (mark ≡ true → take next new ≡ take count lines) → (mark ≡ false
-    → take next new ≡ take count lines ++ line_at lines n ∷ []) → IsKeptTo marks whole n count lines
+pub keep-more : {X : Type 0} {marks : List Bool} {whole : List X} (n : ℕ) {count : ℕ} (next : ℕ) {items : List X}
+    (new : List X) {mark : Bool}
+    → n < length marks → length marks ≡ length whole → mark ≡ get_or marks n mark → length new ≡ length items
+    → next ≤ n + 1 → drop (n + 1) new ≡ drop (n + 1) items
+    → (mark ≡ true → take next new ≡ take count items) → (mark ≡ false
+    → take next new ≡ take count items ++ take 1 (drop n items)) → IsKeptTo marks whole n count items
     → IsKeptTo marks whole (n + 1) next new
-keep-more {marks} {whole} n {count} next {lines} new {mark} lt even is len bound same gone stays so =
-    let c = so.len in
-    let there = rw (so.rest, next-rest lines whole n so.rest) at (line-here lines n (omega (arith, lt, even, c))) in
+keep-more {marks} {whole} n {count} next {items} new {mark} lt even is len bound same gone stays so =
+    let here = item-here whole n (omega (arith, lt, even)) in
+    let one : take 1 (drop n items) ≡ here.0 ∷ [] = rw (so.rest, here.1) in
     record {
       len = len ∙ so.len;
       bound = bound;
-      rest = same ∙ next-rest lines whole n so.rest;
+      rest = same ∙ next-rest items whole n so.rest;
       left =
-          left-more mark (take count lines) (take next new) (line_at lines n) (fates_of (drop (n + 1) marks) (drop (n + 1) whole)) gone stays
-          ∙ rw (drop-next marks n mark lt is, there) at so.left;
+          left-more mark (take count items) (take next new) here.0 (drop (n + 1) marks) (drop (n + 1) whole) gone (λ e. rw one at (stays e))
+          ∙ rw (drop-next marks n mark lt is, here.1) at so.left;
     }
 
 -- ---- the loop that widens marks
@@ -181,10 +199,6 @@ none-marked (mark ∷ marks) [] even none = absurd (omega (arith, even))
 none-marked (true ∷ marks) (line ∷ lines) even none = absurd cc
 none-marked (false ∷ marks) (line ∷ lines) even none = rw (none-marked marks lines (omega (arith, even)) none)
 
-kept-all : (lines : List (Line Placed)) → kept_lines (all_stay lines) ≡ lines
-kept-all [] = refl
-kept-all (line ∷ lines) = rw (kept-all lines)
-
 pub all-kept : (marks : List Bool) (lines : List (Line Placed)) → length marks ≡ length lines
     → list_any (λ mark. mark) marks ≡ false → lines ≡ remaining (fates_of marks lines)
 all-kept marks lines even none = rw (none-marked marks lines even none) (sym (all-lines-stay lines))
@@ -204,28 +218,18 @@ first-is (false ∷ marks) =
     let more : 1 + prefix_len (λ mark. not mark) marks ≡ suc (prefix_len (λ mark. not mark) marks) = omega arith in
     rw (more, first-is marks)
 
--- if no line after the first with a mark has one, that line alone goes
-pub one-removed : (marks : List Bool) (lines : List (Line Placed)) → length marks ≡ length lines
-    → first_of marks < length marks → list_any (λ mark. mark) (drop (suc (first_of marks)) marks) ≡ false
-    → take (first_of marks) lines ++ drop (suc (first_of marks)) lines ≡ kept_lines (fates_of marks lines)
-one-removed [] lines even lt none = absurd (omega (arith, lt))
-one-removed (mark ∷ marks) [] even lt none = absurd (omega (arith, even))
-one-removed (true ∷ marks) (line ∷ lines) even lt none = rw (none-marked marks lines (omega (arith, even)) none) (sym (kept-all lines))
-one-removed (false ∷ marks) (line ∷ lines) even lt none = rw (one-removed marks lines (omega (arith, even)) (omega (arith, lt)) none)
-
-pub removed-is : (marks : List Bool) (lines : List (Line Placed)) {n : ℕ} → length marks ≡ length lines
-    → n ≡ length (take_while (λ mark. not mark) marks) → n < length marks
-    → list_any (λ mark. mark) (take (length marks - (n + 1)) (drop (n + 1) marks)) ≡ false
-    → take n lines ++ drop (n + 1) lines ≡ kept_lines (fates_of marks lines)
-removed-is marks lines {n} even is lt none =
-    let first : n ≡ first_of marks = is ∙ first-is marks in
-    let next : n + 1 ≡ suc (first_of marks) = omega (arith, first) in
-    rw (next, first) (one-removed marks lines even (omega (arith, first, lt)) (rw (rest-of marks (n + 1), next) at none))
-
 -- ---- all of it
 
-pub pack-is : (marks : List Bool) {widened slice : List Bool} (lines : List (Line Placed)) → slice ≡ widened
+-- marks at entries are as many as the lines
+pub at-count : (marks : List Bool) (lines : List (Line Placed)) → AreAtEntries marks lines → length marks ≡ length lines
+at-count [] [] at = refl
+at-count [] (line ∷ lines) at = absurd at
+at-count (mark ∷ marks) [] at = absurd at
+at-count (true ∷ marks) (line ∷ lines) at = ap suc (at-count marks lines at.1)
+at-count (false ∷ marks) (line ∷ lines) at = ap suc (at-count marks lines at)
+
+pub pack-is : (marks : List Bool) {widened slice : List Bool} (lines : List (Line Placed)) → slice ≡ widened → length widened ≡ length lines
     → fates_of widened lines ≡ widened_from None false (fates_of marks lines)
-    → kept_lines (fates_of slice lines) ≡ remaining (fates_of marks lines)
+    → unmarked slice lines ≡ remaining (fates_of marks lines)
 unfolding remaining
-pack-is marks lines same are = rw (same, are)
+pack-is marks {widened} lines same even are = rw (same, ← kept-lines widened lines even, are)

@@ -1,5 +1,5 @@
 -- What widening takes away holds no directive, and the lines that are left are in the blocks that they were in.
-use Rattle.std.proofs.Common.{◌≡◌, ℕ, ◌&&◌, Bool, true, false, List, [], ◌∷◌, Option, Some, None, is_none, is_some, refl, sym, ap, ◌∙◌, inl, inr}
+use Rattle.std.proofs.Common.{◌≡◌, ℕ, ◌&&◌, not, Bool, true, false, List, [], ◌∷◌, length, Option, Some, None, is_none, is_some, refl, sym, ap, ◌∙◌, arith, inl, inr}
 use Rattle.std.specs.Prelude.{⊤}
 use Rattle.std.specs.List.{AllByRecursion, cons_option}
 use Rattle.std.proofs.lemmas.Bool.{cases_Bool}
@@ -8,7 +8,9 @@ use Rattle.gm_syntax.specs.Tokens.{Placed}
 use Rattle.gm_syntax.specs.Document.{Line, Blank, Comment, Open, Close, Entry}
 use Rattle.gm_file.specs.Directives.{Directive, block_after_line, block_after_lines, item_at, with_blocks_from}
 use Rattle.gm_file_edit.specs.Fates.{Fate, empties, is_emptied, kept_lines, remaining, widened_from}
+use Rattle.gm_file_edit.specs.Private.Marks.{AreAtEntries, fates_of, unmarked}
 use Rattle.gm_file_edit.proofs.Pairs.{Seat, held_at, held_in}
+use Rattle.gm_file_edit.proofs.Walking.{level-line}
 
 -- of the other lines, each in its block, some are left out, which hold no directive
 pub data AreFewer : List Seat → List Seat → Type 0 where
@@ -99,3 +101,67 @@ pub remaining-left : (fates : List Fate) → AreFewer (with_blocks_from None (re
     → block_after_lines None (remaining fates) ≡ None)
 unfolding remaining
 remaining-left fates = left-lines None false false fates tt
+
+-- ---- the lines that are left, in their blocks
+
+-- the items without a mark, by the fates of lines
+abbrev kept_by : {X : Type 0} → List Fate → List X → List X
+kept_by [] items = []
+kept_by (fate ∷ fates) [] = []
+kept_by (None ∷ fates) (item ∷ items) = kept_by fates items
+kept_by (Some line ∷ fates) (item ∷ items) = item ∷ kept_by fates items
+
+kept-unmarked : {X : Type 0} (marks : List Bool) (lines : List (Line Placed)) (items : List X) → length marks ≡ length lines
+    → kept_by (fates_of marks lines) items ≡ unmarked marks items
+kept-unmarked [] lines items even = refl
+kept-unmarked (mark ∷ marks) [] items even = absurd (omega (arith, even))
+kept-unmarked (true ∷ marks) (line ∷ lines) [] even = refl
+kept-unmarked (false ∷ marks) (line ∷ lines) [] even = refl
+kept-unmarked (true ∷ marks) (line ∷ lines) (item ∷ items) even = kept-unmarked marks lines items (omega (arith, even))
+kept-unmarked (false ∷ marks) (line ∷ lines) (item ∷ items) even = rw (kept-unmarked marks lines items (omega (arith, even)))
+
+pub kept-lines : (marks : List Bool) (lines : List (Line Placed)) → length marks ≡ length lines → kept_lines (fates_of marks lines) ≡ unmarked marks lines
+kept-lines [] [] even = refl
+kept-lines [] (line ∷ lines) even = absurd (omega (arith, even))
+kept-lines (mark ∷ marks) [] even = absurd (omega (arith, even))
+kept-lines (true ∷ marks) (line ∷ lines) even = kept-lines marks lines (omega (arith, even))
+kept-lines (false ∷ marks) (line ∷ lines) even = rw (kept-lines marks lines (omega (arith, even)))
+
+left-seats : (block : Option Placed) (gone behind : Bool) (marks : List Bool) (lines : List (Line Placed)) → AreAtEntries marks lines
+    → Going (is_some block && gone) (fates_of marks lines)
+    → with_blocks_from (left_block (is_some block && gone) block) (kept_lines (widened_from (known_block block gone) behind (fates_of marks lines)))
+    ≡ kept_by (widened_from (known_block block gone) behind (fates_of marks lines)) (with_blocks_from block lines)
+left-seats block gone behind [] [] at is = refl
+left-seats block gone behind [] (line ∷ lines) at is = absurd at
+left-seats block gone behind (mark ∷ marks) [] at is = absurd at
+left-seats block gone behind (true ∷ marks) (line ∷ lines) at is =
+    rw (level-line block line (ap not at.0)) (left-seats block gone behind marks lines at.1 (going-gone (is_some block && gone) (fates_of marks lines) is))
+left-seats None gone false (false ∷ marks) (Blank ∷ lines) at is = rw (left-seats None false false marks lines at tt)
+left-seats None gone true (false ∷ marks) (Blank ∷ lines) at is = left-seats None false false marks lines at tt
+left-seats (Some verb) false false (false ∷ marks) (Blank ∷ lines) at is = rw (left-seats (Some verb) false false marks lines at tt)
+left-seats (Some verb) false true (false ∷ marks) (Blank ∷ lines) at is = left-seats (Some verb) false false marks lines at tt
+left-seats (Some verb) true behind (false ∷ marks) (Blank ∷ lines) at is = left-seats (Some verb) true false marks lines at is
+left-seats None gone behind (false ∷ marks) (Comment text ∷ lines) at is = rw (left-seats None false false marks lines at tt)
+left-seats (Some verb) false behind (false ∷ marks) (Comment text ∷ lines) at is = rw (left-seats (Some verb) false false marks lines at tt)
+left-seats (Some verb) true behind (false ∷ marks) (Comment text ∷ lines) at is = absurd cc
+left-seats None gone behind (false ∷ marks) (Open verb suffix ∷ lines) at is = elim (cases_Bool (is_emptied None suffix (fates_of marks lines))) [
+  | inl empty ↦ rw empty (left-seats (Some verb) true false marks lines at (going-opened suffix (fates_of marks lines) empty))
+  | inr still ↦ rw (still, left-seats (Some verb) false false marks lines at tt)
+]
+left-seats (Some outer) false behind (false ∷ marks) (Open verb suffix ∷ lines) at is = rw (left-seats (Some verb) false false marks lines at tt)
+left-seats (Some outer) true behind (false ∷ marks) (Open verb suffix ∷ lines) at is = absurd cc
+left-seats None gone behind (false ∷ marks) (Close suffix ∷ lines) at is = rw (left-seats None false false marks lines at tt)
+left-seats (Some verb) false behind (false ∷ marks) (Close suffix ∷ lines) at is = rw (left-seats None false false marks lines at tt)
+left-seats (Some verb) true behind (false ∷ marks) (Close suffix ∷ lines) at is = left-seats None false true marks lines at tt
+left-seats None gone behind (false ∷ marks) (Entry words suffix ∷ lines) at is = rw (left-seats None false false marks lines at tt)
+left-seats (Some verb) false behind (false ∷ marks) (Entry words suffix ∷ lines) at is = rw (left-seats (Some verb) false false marks lines at tt)
+left-seats (Some verb) true behind (false ∷ marks) (Entry words suffix ∷ lines) at is = absurd cc
+
+-- the lines without a widened mark stay in their blocks
+pub in-blocks : (marks widened : List Bool) (lines : List (Line Placed)) → AreAtEntries marks lines → length widened ≡ length lines
+    → fates_of widened lines ≡ widened_from None false (fates_of marks lines)
+    → with_blocks_from None (unmarked widened lines) ≡ unmarked widened (with_blocks_from None lines)
+in-blocks marks widened lines at even are =
+    let seats = with_blocks_from None lines in
+    ap (with_blocks_from None) (sym (kept-lines widened lines even) ∙ ap kept_lines are) ∙ left-seats None false false marks lines at tt
+    ∙ ap (λ (fates : List Fate). kept_by fates seats) (sym are) ∙ kept-unmarked widened lines seats even

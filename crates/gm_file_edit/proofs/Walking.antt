@@ -39,8 +39,3 @@ pub block-next : (lines : List (Line Placed)) (n : ℕ) → n < length lines
     → block_after_lines None (take (n + 1) lines) ≡ block_after_line (block_after_lines None (take n lines))
     (line_at lines n)
 block-next lines n lt = rw (take_more lines n Blank lt) (block-append None (take n lines) (line_at lines n ∷ []))
-
-pub block-level : (lines : List (Line Placed)) (n : ℕ) → n < length lines
-    → not (is_loose (line_at lines n)) ≡ false → block_after_lines None (take (n + 1) lines)
-    ≡ block_after_lines None (take n lines)
-block-level lines n lt level = block-next lines n lt ∙ level-line (block_after_lines None (take n lines)) (line_at lines n) level

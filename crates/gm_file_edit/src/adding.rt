@@ -3,20 +3,21 @@
 //! A new entry goes next to its own kind, so that the file keeps its grouping.
 
 ghost use Rattle.std.specs.Prelude.{◌≡◌, ◌∷◌, ◌++◌, ◌≤◌, [], false, length, take, drop, List, IfNone, IfOk, IfSome, OnErr, OnOk, None, codes};
-ghost use Rattle.gm_syntax.specs.Document.{Blank, IsDocument, Line as LineOf};
+ghost use Rattle.gm_syntax.specs.Document.{Blank, Line as LineOf};
 ghost use Rattle.gm_syntax.specs.Tokens.{Placed};
-ghost use Rattle.gm_syntax.specs.LineViews.{line_of, plain_lines};
-ghost use Rattle.gm_file.specs.Directives.{Strict, is_of_verb, main_verb, verb_eq};
+ghost use Rattle.gm_syntax.specs.LineViews.{line_of};
+ghost use Rattle.gm_file.specs.Directives.{block_after_lines, is_of_verb, main_verb, verb_eq};
 ghost use Rattle.gm_file.specs.declared.verb.Verb.TheVariants.{Unknown};
-ghost use Rattle.gm_file.specs.Faults.{fault_of, is_module};
+ghost use Rattle.gm_file.specs.Faults.{is_module};
 ghost use Rattle.gm_file_edit.specs.Edited.{with_addition, after_closing, after_first_of};
 ghost use Rattle.gm_syntax.specs.Lines.{HasNoLineFeed};
 ghost use Rattle.gm_file_edit.specs.NewWords.{entry_at, made_word, single};
+ghost use Rattle.gm_file_edit.specs.Private.Keys.{IsKeyedEntry};
 ghost use Rattle.gm_file_edit.specs.Private.Marks.{IsAdditionSpot};
 ghost use Rattle.gm_file_edit.specs.Holding.{is_there};
 
 use crate::keyed_lines::KeyedLines;
-use crate::keys::{changes_block, is_entry_in, verb_after};
+use crate::keys::Key;
 use crate::new_words::one_word;
 use gm_file::{Verb, main_verb};
 use gm_syntax::{Line, Token};
@@ -31,62 +32,25 @@ pub(crate) struct Spot {
     inside: bool,
 }
 
-/// The position directly after the last entry with this verb, if any.
-fn last_spot(own: Verb, lines: &KeyedLines) -> Option<Spot>
+/// The position directly after the last entry with this verb, if any. It is looked for from the end, so that an entry
+/// which follows another of its kind needs no look at the lines before.
+fn added_spot(own: Verb, lines: &KeyedLines) -> Option<Spot>
     requires known { verb_eq own Unknown ≡ false }
-    requires document { IsDocument (plain_lines lines.now) }
-    requires sound { fault_of Strict (plain_lines lines.now) ≡ None }
     ensures place { IfSome result (λ spot. IsAdditionSpot own lines.now spot) }
     ensures none { IfNone result (is_there (is_of_verb own) None lines.now ≡ false) }
 {
-    let mut spot = None;
-    let mut block = None;
-    for n in 0..lines.len() {
-        let key = lines.key(n);
-        if is_entry_in(own, block, key) {
-            spot = Some(Spot {
-                before: n + 1,
-                inside: block.is_some(),
-            });
-        }
-        block = verb_after(block, key);
-    }
-    spot
-}
-
-/// The position directly after the last entry with this verb, if no line after it opens or closes a block. It is looked
-/// for from the end, so that an entry which follows another of its kind needs no look at the lines before.
-fn tail_spot(own: Verb, lines: &KeyedLines) -> Option<Spot>
-    requires known { verb_eq own Unknown ≡ false }
-    requires document { IsDocument (plain_lines lines.now) }
-    requires sound { fault_of Strict (plain_lines lines.now) ≡ None }
-    ensures { IfSome result (λ spot. IsAdditionSpot own lines.now spot) }
-{
     let mut n = lines.len();
-    while n > 0 && !changes_block(lines.key(n - 1)) {
-        if is_entry_in(own, None, lines.key(n - 1)) {
+    while n > 0 {
+        let key = lines.key(n - 1);
+        if key.is_of(own) {
             return Some(Spot {
                 before: n,
-                inside: false,
+                inside: key.inside,
             });
         }
         n -= 1;
     }
     None
-}
-
-/// The position at which an entry with this verb is added next to others, if there are any: directly after the last.
-fn added_spot(own: Verb, lines: &KeyedLines) -> Option<Spot>
-    requires known { verb_eq own Unknown ≡ false }
-    requires document { IsDocument (plain_lines lines.now) }
-    requires sound { fault_of Strict (plain_lines lines.now) ≡ None }
-    ensures place { IfSome result (λ spot. IsAdditionSpot own lines.now spot) }
-    ensures none { IfNone result (is_there (is_of_verb own) None lines.now ≡ false) }
-{
-    match tail_spot(own, lines) {
-        Some(spot) => Some(spot),
-        None => last_spot(own, lines),
-    }
 }
 
 /// An entry outside blocks: its verb and its arguments.
@@ -118,6 +82,7 @@ fn entry_at<'a>(
 /// Inserts a blank line and an entry outside blocks at an index. If memory runs out, the lines stay as they are.
 fn insert_single<'a>(
     alloc: Global,
+    key: Key,
     verb: &str,
     arguments: Vec<Token<'a>>,
     at: usize,
@@ -125,37 +90,41 @@ fn insert_single<'a>(
 ) -> Result<(), AllocError>
     requires verb { HasNoLineFeed verb.now }
     requires in_range { at ≤ length lines.old }
+    requires outside { block_after_lines None (take at lines.old) ≡ None }
+    requires about { IsKeyedEntry key verb.now arguments.items }
     ensures ok { OnOk result (lines.new
         ≡ take at lines.old ++ (Blank ∷ single verb.now arguments.entry.items ∷ drop at lines.old)) }
     ensures err { OnErr result (lines.new ≡ lines.old) }
 {
     let entry = single(alloc, verb, arguments)?;
-    lines.insert_after_blank(alloc, at, entry)
+    lines.insert_after_blank(at, entry, key.placed(false))
 }
 
-/// Adds an entry. It goes directly after the last entry with its verb, in the same block if that one is in a block. If
-/// no entry has the verb, it goes to the end, after a blank line. If memory runs out, the lines stay as they are.
+/// Adds an entry with a key. It goes directly after the last entry with its verb, in the same block if that one is
+/// in a block. If no entry has the verb, it goes to the end, after a blank line. If memory runs out, the lines stay as
+/// they are.
 pub(crate) fn add<'a>(
     alloc: Global,
+    key: Key,
     verb: &str,
     arguments: Vec<Token<'a>>,
     lines: &mut KeyedLines<'a>,
 ) -> Result<(), AllocError>
     requires verb { HasNoLineFeed verb.now }
     requires known { verb_eq (main_verb verb.now) Unknown ≡ false }
-    requires document { IsDocument (plain_lines lines.old) }
-    requires sound { fault_of Strict (plain_lines lines.old) ≡ None }
+    requires about { IsKeyedEntry key verb.now arguments.items }
+    requires outside { block_after_lines None lines.old ≡ None }
     ensures ok { OnOk result (lines.new ≡ with_addition verb.now arguments.entry.items lines.old) }
     ensures err { OnErr result (lines.new ≡ lines.old) }
 {
     match added_spot(main_verb(verb), lines) {
         Some(spot) => {
             let entry = entry_at(alloc, spot.inside, verb, arguments)?;
-            lines.insert(alloc, spot.before, entry)
+            lines.insert(spot.before, entry, key.placed(spot.inside))
         }
         None => {
             let end = lines.len();
-            insert_single(alloc, verb, arguments, end, lines)
+            insert_single(alloc, key, verb, arguments, end, lines)
         }
     }
 }
@@ -166,6 +135,7 @@ fn close_index(lines: &KeyedLines, from: usize) -> usize
     ensures index { (new : List (LineOf Placed)) → take result lines.now ++ (new ++ drop result lines.now)
         ≡ take from lines.now ++ after_closing new (drop from lines.now) }
     ensures in_range { result ≤ length lines.now }
+    ensures outside { block_after_lines None lines.now ≡ None → block_after_lines None (take result lines.now) ≡ None }
 {
     for n in from..lines.len() {
         if let Line::Close(_) = lines.line(n) {
@@ -179,22 +149,20 @@ fn close_index(lines: &KeyedLines, from: usize) -> usize
 /// end of the file if there is no module directive. It can't go into a block of `module`, since every entry there has
 /// that verb.
 fn go_index(lines: &KeyedLines) -> usize
-    requires document { IsDocument (plain_lines lines.now) }
-    requires sound { fault_of Strict (plain_lines lines.now) ≡ None }
+    requires closed { block_after_lines None lines.now ≡ None }
     ensures index { (new : List (LineOf Placed))
         → take result lines.now ++ (new ++ drop result lines.now) ≡ after_first_of is_module new None lines.now }
     ensures in_range { result ≤ length lines.now }
+    ensures outside { block_after_lines None (take result lines.now) ≡ None }
 {
-    let mut block = None;
     for n in 0..lines.len() {
         let key = lines.key(n);
-        if is_entry_in(Verb::Module, block, key) {
-            if block.is_some() {
+        if key.is_of(Verb::Module) {
+            if key.is_inside() {
                 return close_index(lines, n + 1);
             }
             return n + 1;
         }
-        block = verb_after(block, key);
     }
     lines.len()
 }
@@ -203,16 +171,18 @@ fn go_index(lines: &KeyedLines) -> usize
 /// one. If there is no module directive, both go to the end. If memory runs out, the lines stay as they are.
 pub(crate) fn add_go<'a>(
     alloc: Global,
+    key: Key,
     version: &str,
     lines: &mut KeyedLines<'a>,
 ) -> Result<(), AllocError>
     requires version { HasNoLineFeed version.now }
-    requires document { IsDocument (plain_lines lines.old) }
-    requires sound { fault_of Strict (plain_lines lines.old) ≡ None }
+    requires about { IsKeyedEntry key (codes "go") (made_word version.now ∷ []) }
+    requires outside { block_after_lines None lines.old ≡ None }
     ensures ok { OnOk result (lines.new ≡ after_first_of is_module
         (Blank ∷ single (codes "go") (made_word version.now ∷ []) ∷ []) None lines.old) }
     ensures err { OnErr result (lines.new ≡ lines.old) }
 {
     let at = go_index(lines);
-    insert_single(alloc, "go", one_word(alloc, version)?, at, lines)
+    let words = one_word(alloc, version)?;
+    insert_single(alloc, key, "go", words, at, lines)
 }

@@ -1,14 +1,17 @@
 //! The lines of a file with their keys.
 
-ghost use Rattle.std.specs.Prelude.{◌≡◌, ◌+◌, ◌^◌, ◌∷◌, ◌++◌, ◌<◌, ◌≤◌, length, map, take, drop, insert, slice_set, IfOk, OnErr, OnOk};
-ghost use Rattle.std.specs.List.{swap};
+ghost use Rattle.std.specs.Prelude.{◌≡◌, ◌+◌, ◌^◌, ◌∷◌, ◌++◌, ◌<◌, ◌≤◌, length, take, drop, insert, slice_set, true, IfOk, None, OnErr, OnOk};
 ghost use Rattle.std.specs.Vec.{vec_capacity, vec_len};
-ghost use Rattle.gm_syntax.specs.Document.{Blank};
-ghost use Rattle.gm_syntax.specs.LineViews.{line_of, line_views};
-ghost use Rattle.gm_file_edit.specs.Private.Keys.{key_of};
-ghost use Rattle.gm_file_edit.specs.Private.Marks.{line_at};
+ghost use Rattle.gm_syntax.specs.Document.{Blank, IsDocument};
+ghost use Rattle.gm_syntax.specs.LineViews.{line_of, line_views, plain_lines};
+ghost use Rattle.gm_file.specs.Directives.{Strict, block_after_lines, with_blocks_from};
+ghost use Rattle.gm_file.specs.Faults.{fault_of};
+ghost use Rattle.gm_file_edit.specs.GoPlace.{is_loose};
+ghost use Rattle.gm_file_edit.specs.Private.Keys.{key_at, keys_from};
+ghost use Rattle.gm_file_edit.specs.Private.Marks.{line_at, unmarked};
 
-use crate::keys::{Key, key_of};
+use crate::keys::{Key, key_of, silent_key};
+use gm_file::block_after_line;
 use gm_syntax::Line;
 use std::alloc::{AllocError, Global};
 use std::marker::Model;
@@ -24,27 +27,33 @@ pub(crate) struct KeyedLines<'a> {
 }
 
 impl<'a> Model for KeyedLines<'a> {
-    ghost use Rattle.std.specs.Prelude.{List, ◌≡◌, map};
+    ghost use Rattle.std.specs.Prelude.{List, ◌≡◌, None, length};
     ghost use Rattle.gm_syntax.specs.Tokens.{Placed};
     ghost use Rattle.gm_syntax.specs.Document.{Line as LineOf};
     ghost use Rattle.gm_syntax.specs.LineViews.{line_views};
-    ghost use Rattle.gm_file_edit.specs.Private.Keys.{key_of};
+    ghost use Rattle.gm_file_edit.specs.Private.Keys.{keys_from};
 
     ghost Value = { List (LineOf Placed) };
 
     ghost view = { λ l. line_views l.lines.items };
 
-    ghost invariant = { λ l. l.keys.items ≡ map key_of (line_views l.lines.items) };
+    ghost invariant = { λ l. (l.keys.items ≡ keys_from None (line_views l.lines.items))
+        × (length l.keys.items ≡ length l.lines.items) };
 }
 
-/// The keys of lines.
+/// The keys of the lines of a valid file.
 fn keys_of(alloc: Global, lines: &[Line]) -> Result<Vec<Key>, AllocError>
-    ensures { IfOk result (λ v. v.items ≡ map key_of (line_views lines.now)) }
+    requires document { IsDocument (plain_lines (line_views lines.now)) }
+    requires sound { fault_of Strict (plain_lines (line_views lines.now)) ≡ None }
+    ensures keys { IfOk result (λ v. v.items ≡ keys_from None (line_views lines.now)) }
+    ensures len { IfOk result (λ v. length v.items ≡ length lines.now) }
 {
     let mut keys = Vec::with_capacity(alloc, lines.len())?;
+    let mut block = None;
     for line in lines {
-        let key = key_of(alloc, line)?;
+        let key = key_of(alloc, block, line)?;
         keys.push(key)?;
+        block = block_after_line(block, line);
     }
     Ok(keys)
 }
@@ -110,9 +119,39 @@ fn insert_keyed<'a>(
     insert_in_room(lines, at, line);
 }
 
+/// Keeps an item, directly after those that are kept so far.
+fn keep<T: Drop>(list: &mut Vec<T>, kept: usize, n: usize)
+    requires ordered { kept ≤ n }
+    requires in_range { n < length list.old.items }
+    ensures front { take (kept + 1) list.new.items ≡ take kept list.old.items ++ take 1 (drop n list.old.items) }
+    ensures rest { drop (n + 1) list.new.items ≡ drop (n + 1) list.old.items }
+    ensures len { length list.new.items ≡ length list.old.items }
+{
+    if kept < n {
+        list.swap(kept, n);
+    }
+}
+
+/// Keeps the items that have no mark.
+fn keep_unmarked<T: Drop>(list: &mut Vec<T>, marks: &[bool])
+    requires { length marks.now ≡ length list.old.items }
+    ensures { list.new.items ≡ unmarked marks.now list.old.items }
+{
+    let mut count = 0;
+    for (n, goes) in marks.iter().enumerate() {
+        if !*goes {
+            keep(list, count, n);
+            count += 1;
+        }
+    }
+    list.truncate(count);
+}
+
 impl<'a> KeyedLines<'a> {
-    /// Lines with their keys. Fails only if memory runs out.
+    /// The lines of a valid file, with their keys. Fails only if memory runs out.
     pub(crate) fn new(alloc: Global, lines: Vec<Line<'a>>) -> Result<KeyedLines<'a>, AllocError>
+        requires document { IsDocument (plain_lines (line_views lines.items)) }
+        requires sound { fault_of Strict (plain_lines (line_views lines.items)) ≡ None }
         ensures { IfOk result (λ keyed. keyed ≡ line_views lines.entry.items) }
     {
         let keys = keys_of(alloc, lines.as_slice())?;
@@ -127,12 +166,12 @@ impl<'a> KeyedLines<'a> {
         lines
     }
 
-    /// The lines.
-    pub(crate) fn lines(&self) -> &[Line<'a>]
-        ensures lines { line_views result.now ≡ self.now }
+    /// The keys of the lines.
+    pub(crate) fn keys(&self) -> &[Key]
+        ensures keys { result.now ≡ keys_from None self.now }
         ensures len { length result.now ≡ length self.now }
     {
-        self.lines.as_slice()
+        self.keys.as_slice()
     }
 
     /// The line at an index.
@@ -147,7 +186,7 @@ impl<'a> KeyedLines<'a> {
     /// The key of the line at an index.
     pub(crate) fn key(&self, at: usize) -> Key
         requires { at < length self.now }
-        ensures { result ≡ key_of (line_at self.now at) }
+        ensures { result ≡ key_at (block_after_lines None (take at self.now)) (line_at self.now at) }
     {
         self.keys[at]
     }
@@ -159,78 +198,64 @@ impl<'a> KeyedLines<'a> {
         self.lines.len()
     }
 
-    /// Inserts a line at an index. If memory runs out, the lines stay as they are.
-    pub(crate) fn insert(
-        &mut self,
-        alloc: Global,
-        at: usize,
-        line: Line<'a>,
-    ) -> Result<(), AllocError>
-        requires { at ≤ length self.old }
+    /// Inserts a line with its key at an index. It neither opens nor closes a block. If memory runs out, the lines stay
+    /// as they are.
+    pub(crate) fn insert(&mut self, at: usize, line: Line<'a>, key: Key) -> Result<(), AllocError>
+        requires in_range { at ≤ length self.old }
+        requires loose { is_loose (line_of line) ≡ true }
+        requires key { key ≡ key_at (block_after_lines None (take at self.old)) (line_of line) }
         ensures ok { OnOk result (self.new ≡ insert self.old at (line_of line.entry)) }
         ensures err { OnErr result (self.new ≡ self.old) }
     {
-        let key = key_of(alloc, &line)?;
         // with room for both, neither is inserted alone
         make_room(&mut self.lines, &mut self.keys, 1)?;
         insert_keyed(&mut self.lines, &mut self.keys, at, line, key);
         Ok(())
     }
 
-    /// Inserts a blank line and then `line` at an index. If memory runs out, the lines stay as they are.
+    /// Inserts a blank line and then a line with its key at an index outside blocks. The line neither opens nor closes
+    /// a block. If memory runs out, the lines stay as they are.
     pub(crate) fn insert_after_blank(
         &mut self,
-        alloc: Global,
         at: usize,
         line: Line<'a>,
+        key: Key,
     ) -> Result<(), AllocError>
-        requires { at ≤ length self.old }
+        requires in_range { at ≤ length self.old }
+        requires loose { is_loose (line_of line) ≡ true }
+        requires outside { block_after_lines None (take at self.old) ≡ None }
+        requires key { key ≡ key_at None (line_of line) }
         ensures ok { OnOk result (self.new
             ≡ take at self.old ++ (Blank ∷ line_of line.entry ∷ drop at self.old)) }
         ensures err { OnErr result (self.new ≡ self.old) }
     {
-        let key = key_of(alloc, &line)?;
         make_room(&mut self.lines, &mut self.keys, 2)?;
         insert_keyed(&mut self.lines, &mut self.keys, at, line, key);
-        insert_keyed(&mut self.lines, &mut self.keys, at, Line::Blank, Key::Blank);
+        insert_keyed(&mut self.lines, &mut self.keys, at, Line::Blank, silent_key(false));
         Ok(())
     }
 
-    /// Puts a line with its key in the place of the one at an index.
+    /// Puts a line with its key in the place of the one at an index. Neither opens or closes a block.
     pub(crate) fn put(&mut self, at: usize, line: Line<'a>, key: Key)
         requires in_range { at < length self.old }
-        requires key { key ≡ key_of (line_of line) }
+        requires old_loose { is_loose (line_at self.old at) ≡ true }
+        requires loose { is_loose (line_of line) ≡ true }
+        requires key { key ≡ key_at (block_after_lines None (take at self.old)) (line_of line) }
         ensures { self.new ≡ slice_set self.old at (line_of line.entry) }
     {
         self.keys[at] = key;
         put_item(&mut self.lines, at, line);
     }
 
-    /// Removes the line at an index.
-    pub(crate) fn remove(&mut self, at: usize)
-        requires { at < length self.old }
-        ensures { self.new ≡ take at self.old ++ drop (at + 1) self.old }
+    /// Removes the lines that have a mark. The others stay in their blocks. If there is one alone, the lines after it
+    /// move at once.
+    pub(crate) fn remove_marked(&mut self, marks: &[bool])
+        requires len { length marks.now ≡ length self.old }
+        requires in_blocks { with_blocks_from None (unmarked marks.now self.old)
+            ≡ unmarked marks.now (with_blocks_from None self.old) }
+        ensures { self.new ≡ unmarked marks.now self.old }
     {
-        drop(self.lines.remove(at));
-        let _key = self.keys.remove(at);
-    }
-
-    /// Exchanges two lines.
-    pub(crate) fn swap(&mut self, one: usize, other: usize)
-        requires one { one < length self.old }
-        requires other { other < length self.old }
-        ensures lines { self.new ≡ swap self.old one other }
-        ensures len { length self.new ≡ length self.old }
-    {
-        self.lines.swap(one, other);
-        self.keys.swap(one, other);
-    }
-
-    /// Removes the lines from an index on.
-    pub(crate) fn truncate(&mut self, len: usize)
-        ensures { self.new ≡ take len self.old }
-    {
-        self.lines.truncate(len);
-        self.keys.truncate(len);
+        keep_unmarked(&mut self.lines, marks);
+        keep_unmarked(&mut self.keys, marks);
     }
 }

@@ -1,182 +1,228 @@
 //! Keys of lines.
 //!
-//! An operation targets few lines. The key of a line has the verb of its entry and bits of the values of its words, so
-//! most lines are passed over without a look at their words, which are elsewhere in memory. A key depends on the line
-//! alone.
+//! An operation targets few lines. The key of a line says of which verb its directive is, and has numbers of the texts
+//! that the directive is about. Equal texts have equal numbers, so a line whose key differs from the operation's is
+//! passed over without a look at its words, which are elsewhere in memory.
 
-ghost use Rattle.std.specs.Prelude.{◌≡◌, [], false, true, IfOk, Option, Some, bit_or, not};
+ghost use Rattle.std.specs.Prelude.{◌≡◌, [], IfOk, None, option_and_then};
 ghost use Rattle.std.specs.Option.{option_map};
-ghost use Rattle.gm_syntax.specs.Document.{Line as LineOf};
+ghost use Rattle.gm_syntax.specs.Document.{Entry as EntryOf};
 ghost use Rattle.gm_syntax.specs.LineViews.{line_of};
-ghost use Rattle.gm_syntax.specs.Tokens.{Placed, words_of};
-ghost use Rattle.gm_file.specs.Directives.{Strict, block_after_line, is_of_verb, verb_eq};
-ghost use Rattle.gm_file.specs.declared.verb.Verb.TheVariants.{Unknown};
-ghost use Rattle.gm_file.specs.Faults.{item_kinds};
+ghost use Rattle.gm_syntax.specs.Tokens.{words_of};
 ghost use Rattle.gm_file.specs.Values.{argument};
-ghost use Rattle.gm_file_edit.specs.declared.keys.EntryKey.{EntryKey};
-ghost use Rattle.gm_file_edit.specs.declared.keys.Key.TheVariants.{Entry as EntryOf};
-ghost use Rattle.gm_file_edit.specs.GoPlace.{is_loose};
-ghost use Rattle.gm_file_edit.specs.Holding.{directive_at, item_of, passes};
-ghost use Rattle.gm_file_edit.specs.Private.Keys.{bits_with, block_verb, key_of, optional_bits, verb_outside};
+ghost use Rattle.gm_file.specs.Directives.{Strict, directive_of, verb_eq};
+ghost use Rattle.gm_file.specs.Faults.{entry_kinds, item_kinds};
+ghost use Rattle.gm_file_edit.specs.Holding.{item_of};
+ghost use Rattle.gm_file_edit.specs.Private.Keys.{agrees, words_held, held_subject, key_at, key_with, text_number, placed, subject_view, texts_named, words_view};
 
-use gm_file::{Verb, block_after_line, is_empty_block, main_verb};
+use crate::subject::Subject;
+use gm_file::{Verb, is_empty_block, main_verb};
 use gm_name::{fingerprint, tag_of};
 use gm_syntax::{Kind, Line, Token};
 use std::alloc::{AllocError, Global};
 
 /// What is known of a line without a look at it.
 #[derive(Clone, Copy)]
-pub(crate) enum Key {
-    /// A blank line.
-    Blank,
-    /// A comment.
-    Comment,
-    /// The opening of a block of this verb.
-    Open(Verb),
-    /// The closing of a block.
-    Close,
-    /// An entry.
-    Entry(EntryKey),
+pub(crate) struct Key {
+    /// The verb of its directive, or `Unknown` if it has none.
+    pub(crate) verb: Verb,
+    /// Whether it is in a block.
+    pub(crate) inside: bool,
+    /// The number of the first text that the directive is about.
+    pub(crate) first: u32,
+    /// The number of the second.
+    pub(crate) second: u32,
 }
 
-/// What is known of an entry.
-#[derive(Clone, Copy)]
-pub(crate) struct EntryKey {
-    /// The verb of the entry if it is outside blocks.
-    verb: Verb,
-    /// Bits of the values of its words.
-    bits: u32,
-}
+impl Key {
+    /// Whether the line holds a directive of a verb.
+    pub(crate) fn is_of(&self, verb: Verb) -> bool
+        ensures { result ≡ verb_eq verb self.now.verb }
+    {
+        verb == self.verb
+    }
 
-/// Bits of a text, a quarter of all on average, so that few other texts have them all.
-fn text_bits(text: &str) -> u32
-    ensures { result ≡ optional_bits (Some text.now) }
-{
-    let number = fingerprint(0, text);
-    tag_of(number) & (number % 4_294_967_296) as u32
-}
+    /// Whether the line is in a block.
+    pub(crate) fn is_inside(&self) -> bool
+        ensures { result ≡ self.now.inside }
+    {
+        self.inside
+    }
 
-/// Bits of a text, if there is one.
-pub(crate) fn optional_bits(text: Option<&str>) -> u32
-    ensures { result ≡ optional_bits (option_map (λ t. t.now) text.entry) }
-{
-    match text {
-        None => 0,
-        Some(text) => text_bits(text),
+    /// The key of such a line in a block, or outside blocks.
+    pub(crate) fn placed(&self, inside: bool) -> Key
+        ensures { result ≡ placed self.now inside }
+    {
+        Key {
+            verb: self.verb,
+            inside,
+            first: self.first,
+            second: self.second,
+        }
     }
 }
 
-/// Bits of the value of a word, if it is an argument.
-fn word_bits(alloc: Global, word: &Token) -> Result<u32, AllocError>
-    ensures { IfOk result (λ bits. bits ≡ optional_bits (argument word.now.word)) }
+/// The number of a text, if there is one.
+fn text_number(text: Option<&str>) -> u32
+    ensures { result ≡ text_number (option_map (λ t. t.now) text.entry) }
+{
+    match text {
+        None => 0,
+        Some(text) => tag_of(fingerprint(0, text)),
+    }
+}
+
+/// The key of a line whose directive has this subject.
+pub(crate) fn key_with(subject: Subject, inside: bool) -> Key
+    ensures { result ≡ key_with (subject_view subject.entry) inside }
+{
+    Key {
+        verb: subject.verb,
+        inside,
+        first: text_number(subject.first),
+        second: text_number(subject.second),
+    }
+}
+
+/// The key of a line without a directive.
+pub(crate) fn silent_key(inside: bool) -> Key
+    ensures { result ≡ key_with (held_subject None) inside }
+{
+    Key {
+        verb: Verb::Unknown,
+        inside,
+        first: 0,
+        second: 0,
+    }
+}
+
+/// The words with the texts that a valid entry with this verb and these arguments is about. Of a `replace` without a
+/// version the second is the arrow, which is no text.
+pub(crate) fn words_about<'w, 'a>(
+    verb: Verb,
+    words: &'w [Token<'a>],
+) -> (Option<&'w Token<'a>>, Option<&'w Token<'a>>)
+    ensures { words_view result ≡ texts_named verb (words_of words.now) }
+{
+    match verb {
+        Verb::Require => match words {
+            [path, ..] => (Some(path), None),
+            _ => (None, None),
+        },
+        Verb::Exclude | Verb::Replace => match words {
+            [path, version, ..] => (Some(path), Some(version)),
+            _ => (None, None),
+        },
+        Verb::Retract => match words {
+            [version] => (Some(version), Some(version)),
+            [_, low, _, high, ..] => (Some(low), Some(high)),
+            _ => (None, None),
+        },
+        Verb::Module | Verb::Go | Verb::Nothing | Verb::Unknown => (None, None),
+    }
+}
+
+/// The number of the value of a word, if it is an argument.
+fn word_number(alloc: Global, word: &Token) -> Result<u32, AllocError>
+    ensures { IfOk result (λ number. number ≡ text_number (argument word.now.word)) }
 {
     match word.kind() {
-        Kind::Bare => Ok(text_bits(word.spelling())),
-        Kind::Text => Ok(text_bits(word.value(alloc)?.as_str())),
+        Kind::Bare => Ok(text_number(Some(word.spelling()))),
+        Kind::Text => Ok(text_number(Some(word.value(alloc)?.as_str()))),
         Kind::Mark => Ok(0),
     }
 }
 
-/// Bits of the values of words.
-fn words_bits(alloc: Global, words: &[Token]) -> Result<u32, AllocError>
-    ensures { IfOk result (λ bits. bits ≡ bits_with 0 (words_of words.now)) }
+/// The number of the value of a word, if it is there and an argument.
+fn number_in(alloc: Global, word: Option<&Token>) -> Result<u32, AllocError>
+    ensures { IfOk result (λ number. number ≡ text_number (option_and_then (λ t. argument t.now.word) word.entry)) }
 {
-    let mut bits = 0;
-    for word in words {
-        let own = word_bits(alloc, word)?;
-        bits |= own;
-    }
-    Ok(bits)
+    let Some(word) = word else {
+        return Ok(0);
+    };
+    word_number(alloc, word)
 }
 
-/// The verb of the entry that words are outside blocks. A verb with `(` and `)` is a block without entries.
-fn verb_outside(words: &[Token]) -> Verb
-    ensures { result ≡ verb_outside (words_of words.now) }
+/// The key of a valid entry with this verb and these arguments.
+fn entry_key(
+    alloc: Global,
+    verb: Verb,
+    words: &[Token],
+    inside: bool,
+) -> Result<Key, AllocError>
+    requires { entry_kinds Strict [] verb (directive_of verb (words_of words.now)) ≡ [] }
+    ensures { IfOk result (λ key. key ≡ key_with (held_subject (directive_of verb (words_of words.now))) inside) }
+{
+    let (one, other) = words_about(verb, words);
+    let first = number_in(alloc, one)?;
+    let second = number_in(alloc, other)?;
+    Ok(Key {
+        verb,
+        inside,
+        first,
+        second,
+    })
+}
+
+/// The key of a valid entry of these words outside blocks.
+fn single_key(alloc: Global, words: &[Token]) -> Result<Key, AllocError>
+    requires { item_kinds Strict [] (item_of None (EntryOf words.now None)) ≡ [] }
+    ensures { IfOk result (λ key. key ≡ key_at None (EntryOf words.now None)) }
 {
     match words {
-        [] => Verb::Unknown,
-        [first, arguments @ ..] => {
+        [] => Ok(silent_key(false)),
+        [verb, arguments @ ..] => {
             if is_empty_block(arguments) {
-                return Verb::Unknown;
+                Ok(silent_key(false))
+            } else {
+                entry_key(alloc, main_verb(verb.spelling()), arguments, false)
             }
-            main_verb(first.spelling())
         }
     }
 }
 
-/// The key of a line. Fails only if memory runs out, which strings with escapes take.
-pub(crate) fn key_of(alloc: Global, line: &Line) -> Result<Key, AllocError>
-    ensures { IfOk result (λ key. key ≡ key_of (line_of line.now)) }
+/// The key of a valid entry of these words.
+fn words_key(alloc: Global, block: Option<&Token>, words: &[Token]) -> Result<Key, AllocError>
+    requires { item_kinds Strict [] (item_of (option_map (λ t. t.now) block) (EntryOf words.now None)) ≡ [] }
+    ensures { IfOk result (λ key. key ≡ key_at (option_map (λ t. t.now) block.entry) (EntryOf words.now None)) }
+{
+    match block {
+        None => single_key(alloc, words),
+        Some(verb) => entry_key(alloc, main_verb(verb.spelling()), words, true),
+    }
+}
+
+/// The words of an entry.
+pub(crate) fn entry_words<'w, 'a>(line: &'w Line<'a>) -> Option<&'w [Token<'a>]>
+    ensures { option_map (λ words. words.now) result ≡ words_held (line_of line.now) }
 {
     match line {
-        Line::Blank => Ok(Key::Blank),
-        Line::Comment(_) => Ok(Key::Comment),
-        Line::Open(verb, _) => Ok(Key::Open(main_verb(verb.spelling()))),
-        Line::Close(_) => Ok(Key::Close),
-        Line::Entry(words, _) => {
-            let words = words.as_slice();
-            let verb = verb_outside(words);
-            let bits = words_bits(alloc, words)?;
-            Ok(Key::Entry(EntryKey { verb, bits }))
-        }
+        Line::Entry(words, _) => Some(words.as_slice()),
+        Line::Blank | Line::Comment(_) | Line::Open(_, _) | Line::Close(_) => None,
     }
 }
 
-/// Whether the line with a key opens or closes a block.
-pub(crate) fn changes_block(key: Key) -> bool
-    ensures { (line : LineOf Placed) → key ≡ key_of line → result ≡ not (is_loose line) }
+/// The key of a line of a valid file. Fails only if memory runs out, which strings with escapes take.
+pub(crate) fn key_of(
+    alloc: Global,
+    block: Option<&Token>,
+    line: &Line,
+) -> Result<Key, AllocError>
+    requires { item_kinds Strict [] (item_of (option_map (λ t. t.now) block) (line_of line.now)) ≡ [] }
+    ensures { IfOk result (λ key. key ≡ key_at (option_map (λ t. t.now) block.entry) (line_of line.now)) }
 {
-    matches!(key, Key::Open(_) | Key::Close)
-}
-
-/// The verb of the block that is open after the line with a key, if one is. The line itself isn't looked at.
-pub(crate) fn verb_after(verb: Option<Verb>, key: Key) -> Option<Verb>
-    ensures { (block : Option Placed) (line : LineOf Placed) → verb ≡ block_verb block → key ≡ key_of line
-        → result ≡ block_verb (block_after_line block line) }
-{
-    match key {
-        Key::Open(verb) => Some(verb),
-        Key::Close => None,
-        Key::Blank | Key::Comment | Key::Entry(_) => verb,
+    match entry_words(line) {
+        None => Ok(silent_key(block.is_some())),
+        Some(words) => words_key(alloc, block, words),
     }
 }
 
-/// The block that is open after a line with this key, if one is. Only openings and closings are looked at.
-pub(crate) fn block_after<'w, 'a>(
-    block: Option<&'w Token<'a>>,
-    key: Key,
-    line: &'w Line<'a>,
-) -> Option<&'w Token<'a>>
-    requires { key ≡ key_of (line_of line.now) }
-    ensures { option_map (λ t. t.now) result ≡ block_after_line (option_map (λ t. t.now) block.entry) (line_of line.now) }
+/// Whether a line with a key may hold a directive with the subject of another key. The second numbers don't count if
+/// `any_second` says so.
+pub(crate) fn agrees(wanted: &Key, any_second: bool, key: &Key) -> bool
+    ensures { result ≡ agrees wanted.now any_second key.now }
 {
-    match key {
-        Key::Open(_) | Key::Close => block_after_line(block, line),
-        Key::Blank | Key::Comment | Key::Entry(_) => block,
-    }
-}
-
-/// Whether the line with a key holds a directive of this verb, given the verb of the open block, if any.
-pub(crate) fn is_entry_in(own: Verb, block: Option<Verb>, key: Key) -> bool
-    ensures { (outer : Option Placed) (line : LineOf Placed) → verb_eq own Unknown ≡ false → block ≡ block_verb outer
-        → key ≡ key_of line → item_kinds Strict [] (item_of outer line) ≡ []
-        → result ≡ passes (is_of_verb own) (directive_at outer line) }
-{
-    match key {
-        Key::Entry(entry) => match block {
-            None => own == entry.verb,
-            Some(verb) => own == verb,
-        },
-        Key::Blank | Key::Comment | Key::Open(_) | Key::Close => false,
-    }
-}
-
-/// Whether the line with a key may be an entry whose words have these bits.
-pub(crate) fn may_have_bits(key: Key, bits: u32) -> bool
-    ensures { (entry : EntryKey) → key ≡ EntryOf entry → bit_or entry.bits bits ≡ entry.bits → result ≡ true }
-{
-    match key {
-        Key::Entry(entry) => entry.bits | bits == entry.bits,
-        Key::Blank | Key::Comment | Key::Open(_) | Key::Close => false,
-    }
+    key.is_of(wanted.verb)
+        && wanted.first == key.first
+        && (any_second || wanted.second == key.second)
 }

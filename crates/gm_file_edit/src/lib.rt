@@ -24,7 +24,7 @@ mod op;
 mod packing;
 mod part;
 mod renewing;
-mod targeting;
+mod subject;
 
 pub use crate::apply::Apply;
 pub use crate::editor::Editor;

@@ -1,145 +1,135 @@
 //! Marking the lines that an operation targets.
 //!
-//! Reading a line takes memory and time. So its key is looked at first, and then the texts of its words: both may only
-//! rule out that the line holds a directive which the operation targets.
+//! The words of a line are elsewhere in memory. So they are looked at only if its key agrees with the operation's.
 
-ghost use Rattle.std.specs.Prelude.{◌≡◌, [], not, true, length, take_while, IfOk, Option, Some, None};
+ghost use Rattle.std.specs.Prelude.{◌≡◌, if◌then◌else◌, drop, not, length, take_while, IfOk, None, option_and_then};
+ghost use Rattle.std.specs.List.{list_any};
 ghost use Rattle.std.specs.Option.{option_map};
-ghost use Rattle.gm_syntax.specs.Document.{IsDocument};
-ghost use Rattle.gm_syntax.specs.LineViews.{line_of, plain_lines};
-ghost use Rattle.gm_syntax.specs.Tokens.{Placed, words_of};
-ghost use Rattle.gm_file.specs.Directives.{Strict};
-ghost use Rattle.gm_file.specs.Faults.{fault_of, item_kinds};
+ghost use Rattle.gm_syntax.specs.LineViews.{line_of};
+ghost use Rattle.gm_syntax.specs.Tokens.{words_of};
+ghost use Rattle.gm_file.specs.Faults.{is_same_version};
 ghost use Rattle.gm_file.specs.Values.{argument};
 ghost use Rattle.gm_file_edit.specs.About.{about};
-ghost use Rattle.gm_file_edit.specs.Edits.{Edit};
-ghost use Rattle.gm_file_edit.specs.Holding.{directive_at, item_of, passes};
-ghost use Rattle.gm_file_edit.specs.Private.Keys.{block_verb, HasTexts, IsValueIn, key_of, target_entry, texts_bits, texts_view};
+ghost use Rattle.gm_file_edit.specs.Private.Keys.{agrees, have_texts, hold_texts, subject_view};
 ghost use Rattle.gm_file_edit.specs.Private.Marks.{marks_from};
 ghost use Rattle.gm_file_edit.specs.Sound.{edit_of};
 
 use crate::keyed_lines::KeyedLines;
-use crate::keys::{Key, block_after, is_entry_in, may_have_bits, optional_bits, verb_after};
+use crate::keys::{Key, agrees, entry_words, key_with, words_about};
 use crate::op::Change;
-use crate::targeting::{TargetEntry, is_targeted, target_entry};
-use gm_file::{LineFault, Mode, Verb, read_line};
+use crate::subject::{Subject, takes_any_version, target_of};
 use gm_syntax::{Kind, Line, Token};
 use std::alloc::{AllocError, Global};
 
-/// Whether a line of a valid file holds a directive that an operation targets. `block` is the verb of the block that is
-/// open before the line, if any.
-fn holds_target(
-    alloc: Global,
-    change: &Change,
-    block: Option<&Token>,
-    line: &Line,
-) -> Result<bool, AllocError>
-    requires { item_kinds Strict [] (item_of (option_map (λ t. t.now) block) (line_of line.now)) ≡ [] }
-    ensures { IfOk result (λ b. b
-        ≡ passes (about (edit_of change.now)) (directive_at (option_map (λ t. t.now) block.entry) (line_of line.now))) }
+/// Whether both texts are equal, or both are missing.
+fn is_same_text(one: Option<&str>, other: Option<&str>) -> bool
+    ensures { result ≡ is_same_version (option_map (λ t. t.now) one.entry) (option_map (λ t. t.now) other.entry) }
 {
-    match read_line(alloc, Mode::Strict, block, line) {
-        Ok(Some(directive)) => Ok(is_targeted(change, &directive)),
-        Ok(None) => Ok(false),
-        Err(LineFault::NoMemory) => Err(AllocError),
-        Err(LineFault::Kind(_)) => unreachable!(),
+    match one {
+        None => other.is_none(),
+        Some(one) => match other {
+            None => false,
+            Some(other) => *one == *other,
+        },
     }
 }
 
-/// The bits of the texts of what an operation targets.
-fn texts_bits(target: TargetEntry) -> u32
-    ensures { result ≡ texts_bits (texts_view target.entry) }
-{
-    optional_bits(target.first) | optional_bits(target.second)
-}
-
-/// Whether a text may be the value of a word. If memory runs out while a string with escapes is read, it may.
-fn may_be_value(alloc: Global, word: &Token, text: &str) -> bool
-    ensures { argument word.now.word ≡ Some text.now → result ≡ true }
+/// Whether a word is an argument with this value, or none if there is no value.
+fn is_argument(alloc: Global, word: &Token, value: Option<&str>) -> Result<bool, AllocError>
+    ensures { IfOk result (λ is. is ≡ is_same_version (argument word.now.word) (option_map (λ t. t.now) value.entry)) }
 {
     match word.kind() {
-        Kind::Bare => word.spelling() == text,
-        Kind::Text => match word.value(alloc) {
-            Ok(value) => value.as_str() == text,
-            Err(AllocError) => true,
-        },
-        Kind::Mark => false,
+        Kind::Bare => Ok(is_same_text(Some(word.spelling()), value)),
+        Kind::Text => Ok(is_same_text(Some(word.value(alloc)?.as_str()), value)),
+        Kind::Mark => Ok(value.is_none()),
     }
 }
 
-/// Whether a text, if there is one, may be the value of one of the words.
-fn may_have_value(alloc: Global, words: &[Token], text: Option<&str>) -> bool
-    ensures { IsValueIn (option_map (λ t. t.now) text.entry) (words_of words.now) → result ≡ true }
+/// Whether a word is there and an argument with this value, or neither if there is no value.
+fn is_value(alloc: Global, word: Option<&Token>, value: Option<&str>) -> Result<bool, AllocError>
+    ensures { IfOk result (λ is. is ≡ is_same_version (option_and_then (λ t. argument t.now.word) word.entry)
+        (option_map (λ t. t.now) value.entry)) }
 {
-    let Some(text) = text else {
-        return true;
-    };
-    for word in words {
-        if may_be_value(alloc, word, text) {
-            return true;
-        }
+    match word {
+        None => Ok(value.is_none()),
+        Some(word) => is_argument(alloc, word, value),
     }
-    false
 }
 
-/// Whether the words of a line may have the texts of what an operation targets among their values.
-fn may_have_texts(alloc: Global, target: TargetEntry, line: &Line) -> bool
-    ensures { HasTexts (texts_view target.entry) (line_of line.now) → result ≡ true }
-{
-    let Line::Entry(words, _) = line else {
-        return false;
-    };
-    may_have_value(alloc, words.as_slice(), target.first)
-        && may_have_value(alloc, words.as_slice(), target.second)
-}
-
-/// Whether a line may hold a directive that an operation targets, given the bits of the operation's texts, the verb of
-/// the open block, if any, and the line's key. The key rules out most lines, and the texts nearly all others.
-fn may_hold_target(
+/// Whether an entry of the target's verb with these arguments is about the texts of a target. The second one doesn't
+/// count if `any_second` says so.
+fn have_texts(
     alloc: Global,
-    target: TargetEntry,
-    bits: u32,
-    verb: Option<Verb>,
-    key: Key,
-    line: &Line,
-) -> bool
-    ensures { (edit : Edit) (block : Option Placed) → target.entry.verb ≡ (target_entry edit).0
-        → texts_view target.entry ≡ (target_entry edit).1 → bits ≡ texts_bits (target_entry edit).1
-        → verb ≡ block_verb block → key ≡ key_of (line_of line.now)
-        → item_kinds Strict [] (item_of block (line_of line.now)) ≡ []
-        → passes (about edit) (directive_at block (line_of line.now)) ≡ true → result ≡ true }
+    target: Subject,
+    any_second: bool,
+    arguments: &[Token],
+) -> Result<bool, AllocError>
+    ensures { IfOk result (λ have. have ≡ have_texts (subject_view target.entry) any_second (words_of arguments.now)) }
 {
-    is_entry_in(target.verb, verb, key)
-        && may_have_bits(key, bits)
-        && may_have_texts(alloc, target, line)
+    let (first, second) = words_about(target.verb, arguments);
+    if !is_value(alloc, first, target.first)? {
+        return Ok(false);
+    }
+    if any_second {
+        return Ok(true);
+    }
+    is_value(alloc, second, target.second)
 }
 
-/// A mark for each line of a valid file: whether it holds a directive that an operation targets.
+/// The arguments of an entry: its words without the verb, which a block has at its opening.
+fn arguments_of<'w, 'a>(inside: bool, words: &'w [Token<'a>]) -> &'w [Token<'a>]
+    ensures { result.now ≡ (if inside then words.now else drop 1 words.now) }
+{
+    if inside || words.is_empty() {
+        words
+    } else {
+        &words[1..]
+    }
+}
+
+/// Whether a line, in a block or outside, is an entry about the texts of a target.
+fn holds_texts(
+    alloc: Global,
+    target: Subject,
+    any_second: bool,
+    inside: bool,
+    line: &Line,
+) -> Result<bool, AllocError>
+    ensures { IfOk result (λ holds. holds ≡ hold_texts (subject_view target.entry) any_second inside (line_of line.now)) }
+{
+    match entry_words(line) {
+        None => Ok(false),
+        Some(words) => have_texts(alloc, target, any_second, arguments_of(inside, words)),
+    }
+}
+
+/// Whether a key agrees with an operation's.
+pub(crate) fn any_agrees(target: &Key, any_second: bool, keys: &[Key]) -> bool
+    ensures { result ≡ list_any (λ key. agrees target.now any_second key) keys.now }
+{
+    keys.iter().any(|key| agrees(target, any_second, key))
+}
+
+/// A mark for each line: whether it holds a directive that an operation targets.
 pub(crate) fn marks(
     alloc: Global,
     change: &Change,
     lines: &KeyedLines,
 ) -> Result<Vec<bool>, AllocError>
-    requires document { IsDocument (plain_lines lines.now) }
-    requires sound { fault_of Strict (plain_lines lines.now) ≡ None }
     ensures { IfOk result (λ v. v.items ≡ marks_from (about (edit_of change.now)) None lines.now) }
 {
-    let target = target_entry(change);
-    let bits = texts_bits(target);
+    let target = target_of(change);
+    let wanted = key_with(target, false);
+    let any_second = takes_any_version(change);
     let mut marks = Vec::with_capacity(alloc, lines.len())?;
-    let mut block = None;
-    let mut verb = None;
     for n in 0..lines.len() {
         let key = lines.key(n);
-        let line = lines.line(n);
-        let mark = if may_hold_target(alloc, target, bits, verb, key, line) {
-            holds_target(alloc, change, block, line)?
+        let mark = if agrees(&wanted, any_second, &key) {
+            holds_texts(alloc, target, any_second, key.is_inside(), lines.line(n))?
         } else {
             false
         };
         marks.push(mark)?;
-        block = block_after(block, key, line);
-        verb = verb_after(verb, key);
     }
     Ok(marks)
 }

@@ -9,11 +9,9 @@ ghost use Rattle.std.specs.List.{list_any};
 ghost use Rattle.gm_syntax.specs.Layout.{is_blank_line};
 ghost use Rattle.gm_syntax.specs.LineViews.{line_of, plain};
 ghost use Rattle.gm_file_edit.specs.Fates.{empties, fate_by, kept_lines, remaining, widened_from};
-ghost use Rattle.gm_file_edit.specs.Private.Marks.{block_at, closes_bare, fates_of, is_behind_gone, line_at, opens_bare};
+ghost use Rattle.gm_file_edit.specs.Private.Marks.{AreAtEntries, block_at, closes_bare, fates_of, is_behind_gone, line_at, opens_bare};
 
 use crate::keyed_lines::KeyedLines;
-use crate::keys::Key;
-use crate::marking::first_mark;
 use gm_syntax::Line;
 
 /// Where a line is.
@@ -34,7 +32,7 @@ fn is_blank_at(lines: &KeyedLines, n: usize) -> bool
     requires { n < length lines.now }
     ensures { result ≡ is_blank_line (plain (line_at lines.now n)) }
 {
-    matches!(lines.key(n), Key::Blank)
+    matches!(lines.line(n), Line::Blank)
 }
 
 /// Whether a line is a closing without a comment.
@@ -77,13 +75,13 @@ fn after_line(place: Place, lines: &KeyedLines, marks: &[bool], n: usize) -> (bo
         ≡ fate_by result.0 (line_at lines.now n) ∷ widened_from (block_at result.1) (is_behind_gone result.1)
         (fates_of (drop (n + 1) marks.now) (drop (n + 1) lines.now)) }
 {
-    match lines.key(n) {
-        Key::Blank => match place {
+    match lines.line(n) {
+        Line::Blank => match place {
             Place::BehindGone => (true, Place::Outside),
             Place::InGone => (true, Place::InGone),
             Place::Outside | Place::InKept => (false, place),
         },
-        Key::Open(_) => match place {
+        Line::Open(_, _) => match place {
             Place::Outside | Place::BehindGone => {
                 if opens_bare(lines.line(n)) && empties(lines, marks, n + 1) {
                     (true, Place::InGone)
@@ -93,11 +91,11 @@ fn after_line(place: Place, lines: &KeyedLines, marks: &[bool], n: usize) -> (bo
             }
             Place::InKept | Place::InGone => (false, Place::InKept),
         },
-        Key::Close => match place {
+        Line::Close(_) => match place {
             Place::InGone => (true, Place::BehindGone),
             Place::Outside | Place::BehindGone | Place::InKept => (false, Place::Outside),
         },
-        Key::Comment | Key::Entry(_) => match place {
+        Line::Comment(_) | Line::Entry(_, _) => match place {
             Place::BehindGone => (false, Place::Outside),
             Place::Outside | Place::InKept | Place::InGone => (false, place),
         },
@@ -120,35 +118,6 @@ fn widen(lines: &KeyedLines, marks: &mut Vec<bool>)
     }
 }
 
-/// Keeps a line, directly after those that are kept so far.
-fn keep(lines: &mut KeyedLines, kept: usize, n: usize)
-    requires ordered { kept ≤ n }
-    requires in_range { n < length lines.old }
-    ensures front { take (kept + 1) lines.new
-        ≡ take kept lines.old ++ line_at lines.old n ∷ [] }
-    ensures rest { drop (n + 1) lines.new ≡ drop (n + 1) lines.old }
-    ensures len { length lines.new ≡ length lines.old }
-{
-    if kept < n {
-        lines.swap(kept, n);
-    }
-}
-
-/// Keeps the lines that have no mark.
-fn keep_unmarked(lines: &mut KeyedLines, marks: &[bool])
-    requires { length marks.now ≡ length lines.old }
-    ensures { lines.new ≡ kept_lines (fates_of marks.now lines.old) }
-{
-    let mut count = 0;
-    for (n, goes) in marks.iter().enumerate() {
-        if !*goes {
-            keep(lines, count, n);
-            count += 1;
-        }
-    }
-    lines.truncate(count);
-}
-
 /// Whether some line has a mark.
 fn has_mark(marks: &[bool]) -> bool
     ensures { result ≡ list_any (λ mark. mark) marks.now }
@@ -156,22 +125,9 @@ fn has_mark(marks: &[bool]) -> bool
     marks.iter().any(|mark| *mark)
 }
 
-/// Removes the lines that have a mark. If there is one alone, the lines after it move at once.
-fn remove_marked(lines: &mut KeyedLines, marks: &[bool])
-    requires { length marks.now ≡ length lines.old }
-    ensures { lines.new ≡ kept_lines (fates_of marks.now lines.old) }
-{
-    let first = first_mark(marks);
-    if first < marks.len() && !has_mark(&marks[first + 1..]) {
-        lines.remove(first);
-    } else {
-        keep_unmarked(lines, marks);
-    }
-}
-
 /// Removes the lines that have a mark, and the blocks that this empties. Takes no memory.
 pub(crate) fn pack(lines: &mut KeyedLines, marks: Vec<bool>)
-    requires { length marks.items ≡ length lines.old }
+    requires { AreAtEntries marks.items lines.old }
     ensures { lines.new ≡ remaining (fates_of marks.items lines.old) }
 {
     if !has_mark(marks.as_slice()) {
@@ -179,5 +135,5 @@ pub(crate) fn pack(lines: &mut KeyedLines, marks: Vec<bool>)
     }
     let mut widened = marks;
     widen(lines, &mut widened);
-    remove_marked(lines, widened.as_slice());
+    lines.remove_marked(widened.as_slice());
 }

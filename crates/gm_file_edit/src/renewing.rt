@@ -2,8 +2,7 @@
 //!
 //! An entry is rewritten in place, so that its comment and its position in a block are kept.
 
-ghost use Rattle.std.specs.Prelude.{◌≡◌, ◌<◌, ◌≤◌, if◌then◌else◌, Option, false, is_some, length, take, slice_set, IfOk, OnOk, None};
-ghost use Rattle.std.specs.Option.{option_map};
+ghost use Rattle.std.specs.Prelude.{◌≡◌, ◌<◌, Option, false, true, is_some, length, take, slice_set, IfOk, OnOk, None};
 ghost use Rattle.gm_syntax.specs.LineViews.{line_of};
 ghost use Rattle.gm_syntax.specs.Lines.{HasNoLineFeed};
 ghost use Rattle.gm_syntax.specs.Tokens.{Placed};
@@ -11,19 +10,20 @@ ghost use Rattle.gm_file.specs.Directives.{block_after_lines};
 ghost use Rattle.gm_file.specs.Views.{replace_view};
 ghost use Rattle.gm_file_edit.specs.Edits.{Set};
 ghost use Rattle.gm_file_edit.specs.Fates.{remaining};
-ghost use Rattle.gm_file_edit.specs.Private.Keys.{key_of};
+ghost use Rattle.gm_file_edit.specs.GoPlace.{is_loose};
+ghost use Rattle.gm_file_edit.specs.Private.Keys.{key_at};
 ghost use Rattle.gm_file_edit.specs.Renewing.{made_new, with_arguments, with_last};
 ghost use Rattle.gm_file_edit.specs.NewWords.{replace_words};
-ghost use Rattle.gm_file_edit.specs.Private.Marks.{line_at, fates_of};
+ghost use Rattle.gm_file_edit.specs.Private.Marks.{AreAtEntries, line_at, fates_of};
 ghost use Rattle.gm_file_edit.specs.Sound.{IsSoundEdit, IsSoundRight, setting_of};
 
 use crate::keyed_lines::KeyedLines;
-use crate::keys::{Key, block_after};
+use crate::keys::Key;
 use crate::new_words::{push_replace, push_word};
 use crate::op::Setting;
 use crate::packing::pack;
 use gm_file::Replace;
-use gm_syntax::{Line, Token};
+use gm_syntax::Line;
 use std::alloc::{AllocError, Global};
 
 /// Replaces the last word of an entry. Any other line stays as it is. If memory runs out, the word may be gone.
@@ -38,33 +38,22 @@ fn set_last<'a>(alloc: Global, line: &mut Line<'a>, value: &str) -> Result<(), A
     push_word(alloc, words, value)
 }
 
-/// The number of words before the arguments: none in a block, where the verb is at the opening.
-fn before_arguments(block: Option<&Token>) -> usize
-    ensures { result ≡ (if is_some (option_map (λ t. t.now) block.entry) then 0 else 1) }
-{
-    match block {
-        None => 1,
-        Some(_) => 0,
-    }
-}
-
 /// Replaces the arguments of an entry by the words of a `replace`. Any other line stays as it is. If memory runs out,
 /// some of the arguments may be missing.
 fn set_arguments<'a>(
     alloc: Global,
-    block: Option<&Token>,
+    inside: bool,
     line: &mut Line<'a>,
     replace: &Replace,
 ) -> Result<(), AllocError>
     requires { IsSoundRight (replace_view replace.now).1 }
-    ensures { OnOk result (line_of line.new
-        ≡ with_arguments (replace_words (replace_view replace.now)) (option_map (λ t. t.now) block.entry)
-        (line_of line.old)) }
+    ensures { (block : Option Placed) → inside ≡ is_some block → OnOk result (line_of line.new
+        ≡ with_arguments (replace_words (replace_view replace.now)) block (line_of line.old)) }
 {
     let Line::Entry(words, _) = line else {
         return Ok(());
     };
-    words.truncate(before_arguments(block));
+    words.truncate(if inside { 0 } else { 1 });
     push_replace(alloc, words, replace)
 }
 
@@ -72,31 +61,19 @@ fn set_arguments<'a>(
 fn rewrite<'a>(
     alloc: Global,
     setting: &Setting,
-    block: Option<&Token>,
+    inside: bool,
     line: &mut Line<'a>,
 ) -> Result<(), AllocError>
     requires { IsSoundEdit (Set (setting_of setting.now)) }
-    ensures { OnOk result (line_of line.new
-        ≡ made_new (Set (setting_of setting.now)) (option_map (λ t. t.now) block.entry) (line_of line.old)) }
+    ensures { (block : Option Placed) → inside ≡ is_some block → OnOk result (line_of line.new
+        ≡ made_new (Set (setting_of setting.now)) block (line_of line.old)) }
 {
     match setting {
         Setting::Module(path) => set_last(alloc, line, path.as_str()),
         Setting::Go(text) => set_last(alloc, line, text.as_str()),
         Setting::Require((_, version)) => set_last(alloc, line, version.as_str()),
-        Setting::Replace(replace) => set_arguments(alloc, block, line, replace),
+        Setting::Replace(replace) => set_arguments(alloc, inside, line, replace),
     }
-}
-
-/// The verb of the block that is open before the line at an index, if one is. Only openings and closings are read.
-fn open_before<'w, 'a>(lines: &'w KeyedLines<'a>, at: usize) -> Option<&'w Token<'a>>
-    requires { at ≤ length lines.now }
-    ensures { option_map (λ t. t.now) result ≡ block_after_lines None (take at lines.now) }
-{
-    let mut block = None;
-    for n in 0..at {
-        block = block_after(block, lines.key(n), lines.line(n));
-    }
-    block
 }
 
 /// The line at an index as a setting rewrites it.
@@ -112,12 +89,12 @@ pub(crate) fn new_line<'a>(
         ≡ made_new (Set (setting_of setting.now)) (block_after_lines None (take at lines.now)) (line_at lines.now at)) }
 {
     let mut line = lines.line(at).copy(alloc)?;
-    rewrite(alloc, setting, open_before(lines, at), &mut line)?;
+    rewrite(alloc, setting, lines.key(at).inside, &mut line)?;
     Ok(line)
 }
 
-/// Puts a line with its key in the place of the first that has a mark, which is at an index, and removes the others that have one
-/// and the blocks that this empties.
+/// Puts a line with its key in the place of the first that has a mark, which is at an index, and removes the others that
+/// have one and the blocks that this empties.
 pub(crate) fn renew<'a>(
     lines: &mut KeyedLines<'a>,
     marks: Vec<bool>,
@@ -127,7 +104,10 @@ pub(crate) fn renew<'a>(
 )
     requires marks { length marks.items ≡ length lines.old }
     requires in_range { first < length lines.old }
-    requires key { key ≡ key_of (line_of line) }
+    requires old_loose { is_loose (line_at lines.old first) ≡ true }
+    requires loose { is_loose (line_of line) ≡ true }
+    requires key { key ≡ key_at (block_after_lines None (take first lines.old)) (line_of line) }
+    requires others { AreAtEntries marks.items lines.old }
     ensures { lines.new ≡ remaining
         (fates_of (slice_set marks.items first false) (slice_set lines.old first (line_of line.entry))) }
 {

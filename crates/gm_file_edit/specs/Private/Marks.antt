@@ -1,15 +1,16 @@
 -- How contracts view the marks of lines. No public contract cites it.
-use Rattle.std.specs.Prelude.{◌≡◌, ◌≤◌, ℕ, Bool, true, false, List, length, insert, map, Option, Some, None, is_none, slice_index_or}
+use Rattle.std.specs.Prelude.{◌≡◌, ◌≤◌, ℕ, ⊤, Bool, true, false, List, [], ◌∷◌, length, insert, map, take, Option, Some, None, is_none, is_some, slice_index_or}
 use Rattle.std.specs.List.{zip}
 use Rattle.gm_syntax.specs.Tokens.{Placed}
 use Rattle.gm_syntax.specs.Document.{Line, Blank, Open, Close}
 use Rattle.gm_file.specs.declared.verb.Verb.{Verb}
-use Rattle.gm_file.specs.Directives.{Directive, main_verb, with_blocks_from}
+use Rattle.gm_file.specs.Directives.{Strict, Directive, block_after_lines, main_verb, verb_in, with_blocks_from}
 use Rattle.gm_file_edit.specs.declared.adding.Spot.{Spot}
 use Rattle.gm_file_edit.specs.declared.packing.Place.{Place}
 use Rattle.gm_file_edit.specs.declared.packing.Place.TheVariants as place
 use Rattle.gm_file_edit.specs.Edited.{with_addition}
 use Rattle.gm_file_edit.specs.Fates.{Fate, fate_by}
+use Rattle.gm_file_edit.specs.GoPlace.{is_loose}
 use Rattle.gm_file_edit.specs.Holding.{directive_at, passes}
 use Rattle.gm_file_edit.specs.NewWords.{entry_at}
 
@@ -35,9 +36,31 @@ marks_from test block lines = map (λ seat. passes test (directive_at seat.0 sea
 abbrev pub fates_of : List Bool → List (Line Placed) → List Fate
 fates_of marks lines = map (λ pair. fate_by pair.0 pair.1) (zip marks lines)
 
+-- the items without a mark
+abbrev pub unmarked : {X : Type 0} → List Bool → List X → List X
+unmarked [] items = []
+unmarked (mark ∷ marks) [] = []
+unmarked (true ∷ marks) (item ∷ items) = unmarked marks items
+unmarked (false ∷ marks) (item ∷ items) = item ∷ unmarked marks items
+
+-- each line has a mark or not, and none that opens or closes a block has one
+abbrev pub AreAtEntries : List Bool → List (Line Placed) → Type 0
+AreAtEntries [] [] = ⊤
+AreAtEntries [] (line ∷ lines) = ⊥
+AreAtEntries (mark ∷ marks) [] = ⊥
+AreAtEntries (true ∷ marks) (line ∷ lines) = (is_loose line ≡ true) × AreAtEntries marks lines
+AreAtEntries (false ∷ marks) (line ∷ lines) = AreAtEntries marks lines
+
+-- the open block, if any, has this verb
+abbrev pub IsOfVerb : List ℕ → Option Placed → Type 0
+IsOfVerb verb None = ⊤
+IsOfVerb verb (Some t) = verb_in Strict t.word.spelling ≡ main_verb verb
+
 -- a position is where an entry with this verb is added next to others
 pub record IsAdditionSpot (own : Verb) (lines : List (Line Placed)) (spot : Spot) : Type 0 where
   pub in_range : spot.before ≤ length lines
+  pub inside : is_some (block_after_lines None (take spot.before lines)) ≡ spot.inside
+  pub of_verb : (verb : List ℕ) → main_verb verb ≡ own → IsOfVerb verb (block_after_lines None (take spot.before lines))
   pub adds : (verb : List ℕ) (arguments : List Placed) → main_verb verb ≡ own
       → insert lines spot.before (entry_at spot.inside verb arguments) ≡ with_addition verb arguments lines
 

@@ -1,12 +1,21 @@
-use Rattle.std.proofs.Common.{◌∷◌, [], sym}
+use Rattle.std.proofs.Common.{◌∷◌, ◌∙◌, [], sym}
 use Rattle.gm_syntax.specs.Document.{Blank}
 use Rattle.gm_file_edit.specs.NewWords.{single}
-use Rattle.gm_file_edit.proofs.AddingCode.{at-end}
+use Rattle.gm_file_edit.proofs.AddingCode.{at-end, entry-loose}
 use Rattle.gm_file_edit.proofs.Insertions.{added-at-end}
 use Rattle.gm_file_edit.proofs.adding.add.Goals as goal
 
-pub insert-requires : goal.insert-requires
-insert-requires c = let spot = rw c.in-Some.is at c.added_spot.ensures.place in spot.in_range
+pub insert-requires-clause-in_range : goal.insert-requires-clause-in_range
+insert-requires-clause-in_range c = let spot = rw c.in-Some.is at c.added_spot.ensures.place in spot.in_range
+
+pub insert-requires-clause-loose : goal.insert-requires-clause-loose
+insert-requires-clause-loose c = rw c.in_ok-entry-in-Some.ensures (entry-loose c.in-Some.spot.inside c.args.verb.now c.args.arguments.items)
+
+pub insert-requires-clause-key : goal.insert-requires-clause-key
+insert-requires-clause-key c =
+    let spot = rw c.in-Some.is at c.added_spot.ensures.place in
+    rw c.in_ok-entry-in-Some.ensures
+    (c.placed.ensures ∙ sym (c.requires.about _ c.in-Some.spot.inside spot.inside (spot.of_verb c.args.verb.now (sym c.main_verb.ensures))))
 
 pub returns-in_ok-entry-in-Some-clause-ok : goal.returns-in_ok-entry-in-Some-clause-ok
 returns-in_ok-entry-in-Some-clause-ok c =

@@ -1,7 +1,7 @@
-use Rattle.std.proofs.Common.{◌≡◌, map, take}
+use Rattle.std.specs.Option.{option_map}
 use Rattle.gm_syntax.specs.LineViews.{line_views}
-use Rattle.gm_file_edit.specs.Private.Keys.{key_of}
+use Rattle.gm_file_edit.proofs.KeyedChanges.{AreKeyedTo}
 use Rattle.gm_file_edit.proofs.keyed_lines.keys_of.Given as goal
 
 abbrev pub invariant-loop-line : goal.invariant-loop-line
-invariant-loop-line l = l.keys.items ≡ map key_of (line_views (take l.line-index l.lines))
+invariant-loop-line l = AreKeyedTo (line_views l.lines) l.line-index (option_map (λ t. t.now) l.block) l.keys.items

@@ -1,7 +1,6 @@
-use Rattle.std.specs.Option.{option_map}
 use Rattle.gm_file_edit.specs.Sound.{edit_of}
 use Rattle.gm_file_edit.proofs.Marks.{AreMarkedTo}
 use Rattle.gm_file_edit.proofs.marking.marks.Given as goal
 
 abbrev pub invariant-loop-n : goal.invariant-loop-n
-invariant-loop-n l = AreMarkedTo (edit_of l.change) l.lines l.n (option_map (λ t. t.now) l.block) l.verb l.marks.items
+invariant-loop-n l = AreMarkedTo (edit_of l.change) l.lines l.n l.marks.items

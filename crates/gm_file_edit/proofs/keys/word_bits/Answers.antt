@@ -1,9 +1,0 @@
-use Rattle.std.proofs.Common.{◌∙◌, Some, ap, sym}
-use Rattle.gm_file_edit.specs.Private.Keys.{optional_bits}
-use Rattle.gm_file_edit.proofs.Values.{text-argument}
-use Rattle.gm_file_edit.proofs.keys.word_bits.Goals as goal
-
-pub returns-in_ok-value-in-Text : goal.returns-in_ok-value-in-Text
-returns-in_ok-value-in-Text c =
-    let value = text-argument c.args.word.now.word _ (sym c.kind.ensures ∙ c.in-Text.is) c.in_ok-value-in-Text.ensures in
-    c.text_bits-in-Text.ensures ∙ ap optional_bits (ap Some c.as_str.ensures.value ∙ sym value)
