@@ -4,6 +4,7 @@ use Rattle.std.specs.Prelude.{nat_eq}
 use Rattle.std.specs.List.{list_any}
 use Rattle.std.specs.Str.{bytes_eq}
 use Rattle.std.proofs.lemmas.Bool.{cases_Bool, eq-eqb, or_parts}
+use Rattle.gm_name.proofs.Logic.{and-true}
 use Rattle.gm_name.proofs.NameTests.{and_both}
 use Rattle.gm_syntax.specs.Tokens.{Placed}
 use Rattle.gm_syntax.specs.Document.{Line}
@@ -22,10 +23,6 @@ use Rattle.gm_file_edit.specs.Private.Keys.{Subject, agrees, are_texts, held_sub
 
 abbrev pub is_targeted : Edit → Subject → Bool
 is_targeted edit subject = is_about (target_of_edit edit) (takes_any_version edit) subject
-
-and-true : (a : Bool) → (a && true) ≡ a
-and-true true = refl
-and-true false = refl
 
 covered : (left : Left) (version : Option (List ℕ)) (other : Left) → left.version ≡ version
     → (bytes_eq other.path left.path && (is_none version || is_same_version other.version version)) ≡ is_covered_by left version other

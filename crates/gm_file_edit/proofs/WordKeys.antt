@@ -52,8 +52,7 @@ pair-texts : (words : List Word) {p : ModuleVersion} → pair_of words ≡ Some 
 pair-texts [] is = absurd cc
 pair-texts (a ∷ []) is = absurd cc
 pair-texts (a ∷ b ∷ []) is =
-    let parts = both-are pair (argument a) (argument b) is in
-    (
+    let parts = both-are pair (argument a) (argument b) is in (
       ap (λ (p : ModuleVersion). texts (Some p.0) None) (sym parts.4) ∙ one-text (argument a) None parts.2 refl,
       ap (λ (p : ModuleVersion). texts (Some p.0) (Some p.1)) (sym parts.4) ∙ both-texts (argument a) (argument b) parts.2 parts.3,
     )
@@ -85,8 +84,7 @@ cut-more word words text =
     let n = position_or_len is_arrow words in
     let more : 1 + n ≡ suc n = omega arith in
     let next : position_or_len is_arrow (word ∷ words) ≡ suc n = rw text more in
-    let after : suc n + 1 ≡ suc (n + 1) = omega arith in
-    (
+    let after : suc n + 1 ≡ suc (n + 1) = omega arith in (
       ap (λ (k : ℕ). take k (word ∷ words)) next,
       ap (λ (k : ℕ). drop (k + 1) (word ∷ words)) next ∙ ap (λ (k : ℕ). drop k (word ∷ words)) after,
     )

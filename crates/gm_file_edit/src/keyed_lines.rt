@@ -231,7 +231,13 @@ impl<'a> KeyedLines<'a> {
     {
         make_room(&mut self.lines, &mut self.keys, 2)?;
         insert_keyed(&mut self.lines, &mut self.keys, at, line, key);
-        insert_keyed(&mut self.lines, &mut self.keys, at, Line::Blank, silent_key(false));
+        insert_keyed(
+            &mut self.lines,
+            &mut self.keys,
+            at,
+            Line::Blank,
+            silent_key(false),
+        );
         Ok(())
     }
 

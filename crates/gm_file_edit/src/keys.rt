@@ -144,12 +144,7 @@ fn number_in(alloc: Global, word: Option<&Token>) -> Result<u32, AllocError>
 }
 
 /// The key of a valid entry with this verb and these arguments.
-fn entry_key(
-    alloc: Global,
-    verb: Verb,
-    words: &[Token],
-    inside: bool,
-) -> Result<Key, AllocError>
+fn entry_key(alloc: Global, verb: Verb, words: &[Token], inside: bool) -> Result<Key, AllocError>
     requires { entry_kinds Strict [] verb (directive_of verb (words_of words.now)) ≡ [] }
     ensures { IfOk result (λ key. key ≡ key_with (held_subject (directive_of verb (words_of words.now))) inside) }
 {
@@ -203,11 +198,7 @@ pub(crate) fn entry_words<'w, 'a>(line: &'w Line<'a>) -> Option<&'w [Token<'a>]>
 }
 
 /// The key of a line of a valid file. Fails only if memory runs out, which strings with escapes take.
-pub(crate) fn key_of(
-    alloc: Global,
-    block: Option<&Token>,
-    line: &Line,
-) -> Result<Key, AllocError>
+pub(crate) fn key_of(alloc: Global, block: Option<&Token>, line: &Line) -> Result<Key, AllocError>
     requires { item_kinds Strict [] (item_of (option_map (λ t. t.now) block) (line_of line.now)) ≡ [] }
     ensures { IfOk result (λ key. key ≡ key_at (option_map (λ t. t.now) block.entry) (line_of line.now)) }
 {

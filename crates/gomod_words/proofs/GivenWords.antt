@@ -9,7 +9,8 @@ use Rattle.std.specs.String.{string_bytes}
 use Rattle.std.proofs.lemmas.Grind.{take_at_read}
 use Rattle.gomod_words.specs.Given.{AreGiven, IsUnreadableWords, first_unreadable}
 use Rattle.gomod_words.specs.Private.Given.{IsWordAt, IsUnreadable, IsUnreadableWord}
-use Rattle.gomod_words.specs.Usage.{IsLineOf, unreadable_text}
+use Rattle.gomod_words.specs.Usage.{unreadable_text}
+use Rattle.gomod_words.specs.Private.Usage.{IsLineOf}
 use Rattle.gomod_words.specs.declared.usage.UsageFault.{UsageFault}
 use Rattle.gomod_words.specs.declared.usage.UsageFault.TheVariants.{NoMemory, Help, Version, Line, BadPath, BadProxy}
 

@@ -2,7 +2,8 @@
 use Rattle.std.proofs.Common.{◌≡◌, ◌∷◌, ◌<◌, ℕ, Bool, Bor, Err, IfOk, IfSome, List, [], Ok, Option, None, Result, Some, arith, false, get_or, inl, inr, length, map, refl, subst, suc, true, zero}
 use Rattle.std.specs.List.{Contains}
 use Rattle.clap.specs.Walk.{Text}
-use Rattle.gomod_words.specs.Hints.{HasSaid, HasSaidIn, IsAlike, IsForm, IsHintBy, IsHintFor, IsHintOf, key_of, name_before, other_hints, rows_in}
+use Rattle.gomod_words.specs.Hints.{HasSaid, HasSaidIn, IsAlike, IsForm, IsHintBy, IsHintFor, IsHintOf, key_of, name_before, other_hints}
+use Rattle.gomod_words.specs.Private.Hints.{rows_in}
 
 -- an element at a place of a list, taken by a function, is one of those of the list
 pub map_at : {X Y : Type 0} (f : X → Y) (xs : List X) (i : ℕ) (d : X) → i < length xs → Contains (map f xs) (f (get_or xs i d))

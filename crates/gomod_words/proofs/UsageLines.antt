@@ -6,8 +6,8 @@ use Rattle.std.specs.Prelude.{String}
 use Rattle.std.specs.Global.{Global}
 use Rattle.clap.specs.Walk.{Row, Text}
 use Rattle.gomod_words.specs.Hints.{texts_of}
-use Rattle.gomod_words.specs.Usage.{HasHintOf, HasNoTip, IsLineOf, IsLineOn, IsWithin, ShowsLine, ShowsUsage, is_line_or_memory, usage_of, usage_text}
-use Rattle.gomod_words.specs.Private.Usage.{IsEntriesFault}
+use Rattle.gomod_words.specs.Usage.{HasHintOf, HasNoTip, IsInAWord, IsLineOn, ShowsLine, ShowsUsage, is_line_or_memory, usage_of, usage_text}
+use Rattle.gomod_words.specs.Private.Usage.{IsEntriesFault, IsLineOf}
 use Rattle.gomod_words.specs.declared.usage.UsageFault.{UsageFault}
 use Rattle.gomod_words.specs.declared.usage.UsageFault.TheVariants.{NoMemory, Help, Version, Line, BadPath, BadProxy}
 use Rattle.gomod_words.proofs.HintWords.{map_at}
@@ -49,7 +49,7 @@ shows_usage (program ∷ first ∷ words) fault shows = shows
 
 -- a text that a word has in it is in one of the words
 pub within_at : (text : List ℕ) (words : List (Bor Text)) (i : ℕ) (d : Bor Text) → i < length words
-    → HasSubslice (get_or words i d).now text → IsWithin text (texts_of words)
+    → HasSubslice (get_or words i d).now text → IsInAWord text (texts_of words)
 within_at text words i d less has = ((get_or words i d).now, map_at (λ (w : Bor Text). w.now) words i d less, has)
 
 -- what stands before the first such mark doesn't have it

@@ -15,10 +15,6 @@ use Rattle.gomod_words.specs.declared.hints.TheConstants.{HINTS, OTHER_HINTS}
 abbrev pub Rows : Type 0
 Rows = List (List Text × Text)
 
--- the rows of a table, as texts
-abbrev pub rows_in : List (Bor (List (Bor Text)) × Bor Text) → Rows
-rows_in rows = map (λ row. (map (λ name. name.now) row.0.now, row.1.now)) rows
-
 -- the table of hints, for the commands and options of gomod
 unfoldable pub hints : Rows
 hints = map (λ row. (map (λ name. name.now) row.0.now, row.1.now)) HINTS

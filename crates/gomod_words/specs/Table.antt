@@ -87,8 +87,8 @@ rule_for a.Limit = option_rule (codes "limit")
 rule_for a.Retracted = flag_rule (codes "retracted")
 
 -- the name of an argument
-abbrev pub name_of : Argument → Text
-name_of argument = (rule_for argument).id
+abbrev pub argument_name : Argument → Text
+argument_name argument = (rule_for argument).id
 
 -- a command with these arguments more
 abbrev pub with_rules_for : App → List Argument → App

@@ -21,7 +21,7 @@ use Rattle.gm_store.specs.declared.fallback.proxy_list.ProxyList.{ProxyList}
 use Rattle.gomod_words.specs.Dashed.{dashed_in}
 use Rattle.gomod_words.specs.Hints.{IsHintOf}
 use Rattle.gomod_words.specs.Limits.{limit_of}
-use Rattle.gomod_words.specs.Table.{command_named, gomod_app, name_in, name_of, usage_for}
+use Rattle.gomod_words.specs.Table.{command_named, gomod_app, name_in, argument_name, usage_for}
 use Rattle.gomod_words.specs.declared.table.CommandName.TheVariants as n
 use Rattle.gomod_words.specs.declared.table.Argument.{Argument}
 use Rattle.gomod_words.specs.declared.table.Argument.TheVariants.{Proxy, Mod, Sum, After, Limit, Retracted}
@@ -33,7 +33,7 @@ use Rattle.gomod_words.specs.declared.usage.UsageFault.TheVariants.{NoMemory, He
 
 -- the first value of an argument, or `None` if it is not given
 abbrev pub given : Argument → List Row → Option Text
-given argument rows = first_of (name_of argument) rows
+given argument rows = first_of (argument_name argument) rows
 
 -- whether a flag is given
 abbrev pub is_given : Argument → List Row → Bool
@@ -195,12 +195,6 @@ abbrev pub usage_text : List ℕ → List ℕ → List ℕ
 usage_text message usage =
     message ++ codes "\n\nUsage: " ++ usage ++ codes "\n\nFor more information, try '--help'.\n"
 
--- the fault is this usage error, or memory ran out
-abbrev pub IsLineOf : List ℕ → UsageFault → Type 0
-IsLineOf text NoMemory = Unit {0}
-IsLineOf text (Line line) = string_bytes line ≡ text
-IsLineOf text _ = ⊥
-
 -- what stands between a message and its tips
 abbrev pub tip_mark : List ℕ
 tip_mark = codes "\n\n  tip: "
@@ -231,12 +225,12 @@ abbrev pub dashed_message : List ℕ → List ℕ
 dashed_message operation = codes "error: operations have no dash: " ++ operation
 
 -- one of these words has the text in it
-abbrev pub IsWithin : List ℕ → List Text → Type 0
-IsWithin text words = (word : Text) × Contains words word × HasSubslice word text
+abbrev pub IsInAWord : List ℕ → List Text → Type 0
+IsInAWord text words = (word : Text) × Contains words word × HasSubslice word text
 
 -- the message has no tip in it, unless a word has what a tip begins with
 abbrev pub HasNoTip : List Text → List ℕ → Type 0
-HasNoTip words message = HasSubslice message tip_mark → IsWithin tip_mark words
+HasNoTip words message = HasSubslice message tip_mark → IsInAWord tip_mark words
 
 -- a usage error of these words shows what is wrong, at most one hint, and their usage line
 abbrev pub ShowsLine : List Text → UsageFault → Type 0

@@ -4,7 +4,8 @@
 ghost use Rattle.std.specs.Prelude.{◌≡◌, IfOk, IfSome, true};
 ghost use Rattle.std.specs.List.{Contains};
 ghost use Rattle.std.specs.String.{string_bytes};
-ghost use Rattle.gomod_words.specs.Hints.{HasSaid, HasSaidIn, IsAlike, IsForm, IsHintBy, IsHintFor, IsHintOf, IsNear, hints, key_of, name_before, other_hints, rows_in, texts_of, without_second_dash};
+ghost use Rattle.gomod_words.specs.Private.Hints.{rows_in};
+ghost use Rattle.gomod_words.specs.Hints.{HasSaid, HasSaidIn, IsAlike, IsForm, IsHintBy, IsHintFor, IsHintOf, IsNear, hints, key_of, name_before, other_hints, texts_of, without_second_dash};
 
 use crate::dashed::{begins_with_dash, without_dash};
 use crate::refusal::has_text;

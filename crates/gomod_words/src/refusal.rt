@@ -4,7 +4,7 @@
 ghost use Rattle.std.specs.Prelude.{◌≡◌, true};
 ghost use Rattle.std.specs.Str.Iter.{HasSubslice};
 ghost use Rattle.gomod_words.specs.Hints.{texts_of};
-ghost use Rattle.gomod_words.specs.Usage.{IsWithin};
+ghost use Rattle.gomod_words.specs.Usage.{IsInAWord};
 
 use crate::help::TRY_HELP;
 use crate::table::{command_in, command_row, usage_of};
@@ -93,7 +93,7 @@ fn before_tip<'t>(front: &'t str, short: &'t str, mark: &str, words: &[&str]) ->
 
 /// Whether one of these words has this text in it.
 pub(crate) fn is_within(text: &str, words: &[&str]) -> bool
-    ensures { result ≡ true → IsWithin text.now (texts_of words.now) }
+    ensures { result ≡ true → IsInAWord text.now (texts_of words.now) }
 {
     for word in words {
         if has_text(word, text) {

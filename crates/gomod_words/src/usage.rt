@@ -5,10 +5,10 @@ ghost use Rattle.std.specs.Option.{option_copied, option_map};
 ghost use Rattle.clap.specs.Words.{all_of, found_of};
 ghost use Rattle.std.specs.Char.Escape.{escape_ascii};
 ghost use Rattle.std.specs.String.{string_bytes};
-ghost use Rattle.gomod_words.specs.Usage.{HasHintOf, HasNoTip, IsLineOf, IsLineOn, IsProxy, IsVersionLine, ShowsLine, dashed_message, given, is_given, is_line_or_memory, shown_bytes, texts_in, unreadable_text, usage_text};
+ghost use Rattle.gomod_words.specs.Usage.{HasHintOf, HasNoTip, IsLineOn, IsProxy, IsVersionLine, ShowsLine, dashed_message, given, is_given, is_line_or_memory, shown_bytes, texts_in, unreadable_text, usage_text};
 ghost use Rattle.gomod_words.specs.Hints.{texts_of};
-ghost use Rattle.gomod_words.specs.Private.Usage.{IsFaultIn, IsPathFault, IsProxyFault, IsReadOf, entries};
-ghost use Rattle.gomod_words.specs.Table.{name_of};
+ghost use Rattle.gomod_words.specs.Private.Usage.{IsFaultIn, IsLineOf, IsPathFault, IsProxyFault, IsReadOf, entries};
+ghost use Rattle.gomod_words.specs.Table.{argument_name};
 ghost use Rattle.gm_name.specs.Path.{IsPath};
 ghost use Rattle.gomod_words.specs.declared.usage.UsageFault.TheVariants.{NoMemory};
 
@@ -141,7 +141,7 @@ pub(crate) fn value_of<'a>(found: &ArgMatches<'a>, argument: Argument) -> Option
 /// All values of an argument, or `None` if the argument is not given.
 fn values_of<'a, 'f>(found: &'f ArgMatches<'a>, argument: Argument) -> Option<&'f [&'a str]>
     ensures { option_map (λ words. map (λ word. word.now) words.now) result
-        ≡ all_of (name_of argument) (entries found.now) }
+        ≡ all_of (argument_name argument) (entries found.now) }
 {
     found.get_strs(argument_row(argument).name)
 }

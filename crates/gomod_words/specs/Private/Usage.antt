@@ -1,5 +1,5 @@
 -- Which fault each part of a command line has while it is read.
-use Rattle.std.specs.Prelude.{◌≡◌, ◌≢◌, ◌⊎◌, List, Option, Some, None, true, false}
+use Rattle.std.specs.Prelude.{◌≡◌, ◌≢◌, ◌⊎◌, ℕ, List, Option, Some, None, true, false}
 use Rattle.std.specs.String.{string_bytes}
 use Rattle.clap.specs.Walk.{Row, Text}
 use Rattle.clap.specs.Words.{found_of, rows_of}
@@ -82,3 +82,9 @@ abbrev pub IsLimitFault : Option Text → UsageFault → Type 0
 IsLimitFault value NoMemory = Unit {0}
 IsLimitFault value (Line text) = has_limit value ≡ false
 IsLimitFault value _ = ⊥
+
+-- the fault is this usage error, or memory ran out
+abbrev pub IsLineOf : List ℕ → UsageFault → Type 0
+IsLineOf text NoMemory = Unit {0}
+IsLineOf text (Line line) = string_bytes line ≡ text
+IsLineOf text _ = ⊥
