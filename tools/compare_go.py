@@ -4,6 +4,8 @@
     tools/compare-go.sh --cache DIR --mod FILE [EDITS [SEED]]
                                             a cache/download folder, and a go.mod with random edits (100)
     tools/compare-go.sh --rows [ROW]        the worlds of tools/go_rows.py, for each row of docs/use/GO.md or this one
+    tools/compare-go.sh --texts [COUNT [SEED]]
+                                            texts with one odd character, word or line, of tools/go_texts.py (2000)
     tools/compare-go.sh --go COMMAND ..     with this go, as /usr/lib/go-1.19/bin/go
     tools/compare-go.sh --check             the check of this script that .ci/run runs, which needs no go
     tools/compare-go.sh --record COMMAND    writes what go answers in that check anew
@@ -20,8 +22,13 @@ docs/use/GO.md; a result can differ in several. The status is 1 if there is a di
 --rows asks both in worlds made by hand. The status is 1 unless each row of the table has a world, each world has a
 difference of its row and of no other, and both programs say what tools/go_rows.py has of them.
 
+--texts asks both of the texts from SEED on, and of one more for each predicate that holds of none of these. The status
+is 1 if they differ and no predicate holds, if one holds and they don't differ, or answer what it doesn't say, or if
+there is no text for one. The predicates are of go 1.19.8.
+
 --check compares a tidy module with the cache that `go mod download` filled, example/go.mod, example/tidy.mod, and the
-worlds of --rows, with the answers of go 1.19.8 in tools/go_answers.json (tools/recorded_go.py). Mistakes have to be
+worlds of --rows, with the answers of go 1.19.8 in tools/go_answers.json (tools/recorded_go.py). If there is a go 1.19.8,
+it compares 2000 texts too, from a number that the commit gives. Mistakes have to be
 found, too: a command without a line, a proxy without the .info of a pruned-out module, and a row, a world or a
 difference without the others.
 
@@ -41,6 +48,7 @@ import sys
 import tempfile
 
 import go_rows
+import go_texts
 import script
 from go_worlds import (
     UNFETCHABLE, World, escaped, fits, lay_tidy_world, lay_version, operations, order_of, unescaped
@@ -64,12 +72,12 @@ FAULTS = [
 GO_ALONE = [
     (r"invalid go version", go_rows.TO_GOMOD),
     (r"unknown (directive|block type): (toolchain|godebug|tool|ignore)\b", go_rows.NEWER),
-    (r"unexpected input character '\\u", go_rows.MARKS),
+    (r"unexpected input character '\\u", go_rows.HIDDEN),
     (r'version "\S+" invalid', go_rows.UNFIT),
     (r"appears to be Windows path", "Windows"),
 ]
 GOMOD_ALONE = [
-    (r" NotUtf8$", go_rows.COMMENTS),
+    (r" NotUtf8$", go_rows.NOT_UTF8),
     (r" (BadGo|WrongArguments)$", go_rows.BLOCK),
     (r" Misfit$", go_rows.INCOMPATIBLE),
     (r" (BadByte|BadEscape|NestedOpen|BadPath|TooLong|TooMany)$", go_rows.PROFILE),
@@ -252,7 +260,7 @@ class Comparison:
         name = None
         is_mismatch = "checksum mismatch" in wanted.err
         if kinds == {"SumDiffers"} and not is_mismatch and self.has_second_hashes(main, came):
-            name = "A second hash of a file in go.sum"
+            name = go_rows.SECOND
         elif "NoSum" in kinds and "missing go.sum entry" not in wanted.err:
             name = "Checksums"
         if name:
@@ -393,21 +401,21 @@ class Comparison:
         if came.status:
             number = re.fullmatch(r"edit (\d+): (Misfit|Spelling)\n", came.err)
             if number and number[2] == "Misfit":
-                return ["`require=P@V` where V does not fit P"]
+                return [go_rows.MISFIT]
             if number and re.search(r"@(v\d+(\.\d+)?|latest|master)$", operations[int(number[1]) - 1]):
                 return [go_rows.NOT_CANONICAL]
             faults = {"ConflictingReplace": go_rows.TWO_REPLACES, "BadVersion": go_rows.NOT_CANONICAL}
             return [faults[it] for it in faults if re.fullmatch(rf"go\.mod:\d+: {it}\n", came.err)]
         if wanted.status:
             if "invalid -go" in wanted.err and any(re.fullmatch(r"go=.*(\..*\.|rc).*", it) for it in operations):
-                return ["A go version in `go mod edit -go`"]
+                return [go_rows.GO_EDIT]
             return [read_by_one(came, wanted)]
         return self.kinds_of_texts(read(f"{main}/go.mod"), came.out, wanted.out, operations) or [SAME]
 
     def kinds_of_texts(self, before, came, wanted, operations):
         """The kinds of the differences of two texts; None is one that has no name."""
         cut = any(it.endswith("=./a@b") for it in operations)
-        kinds = {"Words in grave accents; `replace=P=./x@y`"} if cut and "=> ./a b" in wanted else set()
+        kinds = {go_rows.GRAVE} if cut and "=> ./a b" in wanted else set()
         wanted = wanted.replace("=> ./a b", "=> ./a@b") if kinds else wanted
         whole = re.sub(r"( v\d+\.\d+)(?=\s)", r"\1.0", came)
         kinds |= {go_rows.NOT_CANONICAL} if whole != came else set()
@@ -624,9 +632,44 @@ def compare_row_world(go, row, room, found):
         print(it, flush=True)
 
 
+def compare_text(go, it, room, found):
+    """One text: whether the rows whose predicates hold of it are those of what the two answer."""
+    proxy, main = f"{room}/proxy", f"{room}/main"
+    go_texts.lay(it, proxy, main)
+    asked, words, flags, folders = go_texts.questions(it, proxy)
+    commands = Commands(go, room, proxy)
+    commands.environment["GOPROXY"] = re.sub(r"(?<![^,|])/", "file:///", "".join(folders))
+    theirs = go_texts.answer(commands.ask_go(main, *asked, flags=flags))
+    ours = go_texts.answer(commands.ask(main, *words))
+    is_same = theirs == ours or all(text.startswith("refused") for text in (theirs, ours))
+    named = [rule for rule in go_texts.RULES if rule[1](it)]
+    note = "; ".join(rule[0] for rule in named)
+    said = all(re.search(rule[2], theirs, re.M) and re.search(rule[3], ours, re.M) for rule in named)
+    if is_same == bool(named) or not said:
+        found.report(it, words[0], ours, theirs, note and f"what the row doesn't say: {note}")
+    for kind in {rule[0] for rule in named} if named else [SAME if theirs == ours else BOTH]:
+        found.count(it.place, kind)
+
+
+def compare_texts(go, count, seed, found):
+    """So many texts from a number on, and one for each predicate that holds of none of them."""
+    texts, left = [go_texts.make(it) for it in range(seed, seed + count)], []
+    for row, holds, *_ in go_texts.RULES:
+        if not any(holds(it) for it in texts):
+            more = (go_texts.make(it) for it in range(seed + count, seed + count + 100000))
+            left.append(next((it for it in more if holds(it)), None))
+            if left[-1] is None:
+                found.unexplained += 1
+                print(f"tools/go_texts.py: there is no text of a predicate of the row '{row}'")
+    for it in [*texts, *filter(None, left)]:
+        if "\0" not in it.text:
+            in_scratch(compare_text, go, it, found)
+
+
 def compare_rows(go, name, found):
-    """The worlds of tools/go_rows.py, or those of one row: each row of docs/use/GO.md has one, and each is of a row."""
-    named = {it.name for it in go_rows.ROWS}
+    """The worlds of tools/go_rows.py, or those of one row: each row of docs/use/GO.md has one, or a predicate in
+    tools/go_texts.py, and each is of a row."""
+    named = {it.name for it in go_rows.ROWS} | {it[0] for it in go_texts.RULES}
     for it in sorted(found.names - named):
         print(f"docs/use/GO.md: tools/go_rows.py has no world that shows the row '{it}'")
     for it in sorted(named - found.names):
@@ -657,13 +700,16 @@ def main(*words):
         import recorded_go
         return recorded_go.main(*words)
     parser = argparse.ArgumentParser(add_help=False, prog="compare-go")
-    parser.add_argument("worlds", nargs="?", type=int, default=100)
+    parser.add_argument("worlds", nargs="?", type=int)
     parser.add_argument("seed", nargs="?", type=int, default=1)
     parser.add_argument("--go", default="go")
     parser.add_argument("--rows", nargs="?", const="")
+    parser.add_argument("--texts", action="store_true")
     parser.add_argument("--cache")
     parser.add_argument("--mod", default="go.mod")
     asked = parser.parse_args(words)
+    if asked.worlds is None:
+        asked.worlds = 2000 if asked.texts else 100
     if asked.worlds < 0 or asked.cache and not os.path.isdir(asked.cache):
         script.misused("it takes a number, and --cache a folder")
     if asked.rows and asked.rows not in {it.name for it in go_rows.ROWS}:
@@ -672,6 +718,8 @@ def main(*words):
     print(version)
     if asked.rows is not None:
         compare_rows(go, asked.rows, found)
+    elif asked.texts:
+        compare_texts(go, asked.worlds, asked.seed, found)
     elif asked.cache:
         in_scratch(compare_cache, go, asked.cache, asked.mod, asked.worlds, asked.seed, found)
     else:

@@ -27,9 +27,33 @@ REPLACE_IN_ONE_CALL = "An operation on `P@V` after `replace=P=..` in one call"
 TO_GOMOD = "`go 1.17.1`, `go 1.21rc1` or `go \"1.17\"` in a main file; `go v1.17` or `go \"1.17\"` in a dependency"
 BLOCK = "`go (` in a dependency; a number of more than nine digits in a go version"
 INCOMPATIBLE = "`v1.0.0+incompatible`; `v2.0.0+incompatible` of a path with `/v2`"
-COMMENTS = "A comment that is not UTF-8"
-MARKS = "A byte order mark, or white space past ASCII, outside strings and comments"
+NOT_UTF8 = "Bytes that are not UTF-8, in a comment, a line that go ignores or an operation"
+HIDDEN = ("A byte order mark, white space past ASCII, or another character that does not print, outside strings and "
+          "comments of a go.mod")
 UNFIT = "A version that does not fit its path, in a `retract` or on the right of a `replace`"
+SECOND = "A second hash of a file in go.sum"
+MISFIT = "`require=P@V` where V does not fit P"
+GRAVE = "Words in grave accents; `replace=P=./x@y`"
+GO_EDIT = "A go version in `go mod edit -go`"
+# rows that tools/go_texts.py alone shows
+PATHS = "Paths that are none: `example.com/m/v1`, `example.com/m/v2.1`, `gopkg.in/foo`, `a+b`, `.a/b`"
+CLOSES = "A line of a dependency that begins with `)`"
+RETRACTED = "`retract v1.1.0 x`, `retract v1.1.0,` or `retract v1.1` in the latest version's file"
+PSEUDO = "`v1.0.0-0.T-R` in a list, with T and R of a pseudo-version"
+BLANKS = "Form feeds, vertical tabs and white space past ASCII in a list or a go.sum"
+SUM_LINES = "A bad line of a go.sum after all that are needed"
+TRIMMED = "Blanks around the parts of an operation"
+EMPTY = "`edit go=`, `edit module=`"
+NO_PATH = "An operation on a path that is none: `droprequire=a+b`"
+BARE = "Words that an operation writes: `replace=P=../it's`"
+QUOTES = "Quotes that a word does not need; characters in quotes that do not print"
+APOSTROPHE = "An apostrophe in a bare folder of `replace`"
+DOTS = "The folders `.` and `..`"
+DASH = "A path that begins with a dash"
+REPEATED = "A requirement that stands twice in a file, in `graph`"
+REPLACED = "A path that the main file replaces, in `versions`"
+MODFILE = "Folders of `replace` in a main file of another folder: `-modfile=sub/x.mod`, `--mod sub/x.mod`"
+TWO_PROXIES = "A list in one proxy folder, the latest version's file in another"
 PROFILE = "Texts, paths, numbers and sizes that SPEC.md leaves out by its own choice"
 
 
@@ -60,7 +84,7 @@ ROWS = [
     Row(NOT_CANONICAL, "list", "example.com/b v1.0.0\n",
         "example.com/a@v1.0.0: Malformed 2 BadVersion\n",
         proxy={"example.com/a v1.0.0": FILE_A + "require example.com/b v1.0\n", **B, "example.com/b list": "v1.0.0\n"}),
-    Row("`require=P@V` where V does not fit P", "edit require=example.com/b@v2.0.0", "example.com/b v2.0.0\n",
+    Row(MISFIT, "edit require=example.com/b@v2.0.0", "example.com/b v2.0.0\n",
         "edit 1: Misfit\n"),
     Row("The layout", "fmt", "require (\n\texample.com/a v1.0.0\n\texample.com/b v1.0.0\n)\n",
         "require (\n\texample.com/b v1.0.0\n\texample.com/a v1.0.0\n)\n",
@@ -95,7 +119,7 @@ ROWS = [
         words="mod edit -print -go=1.18 go.mod"),
     Row("A comment on a line before an entry that an edit drops", "edit droprequire=example.com/a",
         "go 1.19\n", "go 1.19\n\n// why\n", main=MAIN.replace("require", "// why\nrequire")),
-    Row("A go version in `go mod edit -go`", "edit go=1.21.0", "invalid -go option", "go 1.21.0\n"),
+    Row(GO_EDIT, "edit go=1.21.0", "invalid -go option", "go 1.21.0\n"),
     Row(RETRACT_IN_ONE_CALL, "edit retract=v1.0.0",
         "retract (\n\tv1.0.0\n\tv1.0.0\n)\n", "\nretract v1.0.0\n", main=MAIN + "\nretract v1.0.0\n"),
     Row(RETRACT_IN_ONE_CALL,
@@ -108,10 +132,10 @@ ROWS = [
         "edit replace=example.com/b=./b dropreplace=example.com/b@v1.0.0",
         "require example.com/a v1.0.0\n", "\nreplace example.com/b => ./b\n",
         main=MAIN + "\nreplace example.com/b v1.0.0 => ./a\n"),
-    Row("Words in grave accents; `replace=P=./x@y`", "edit replace=example.com/b=./a@b", "example.com/b => ./a b\n",
+    Row(GRAVE, "edit replace=example.com/b=./a@b", "example.com/b => ./a b\n",
         "example.com/b => ./a@b\n"),
     Row("Checksums", "graph", "example.com/a@v1.0.0\n", "example.com/a@v1.0.0: NoSum\n", files={"go.sum": ""}),
-    Row("A second hash of a file in go.sum", "list", "example.com/a v1.0.0\n", "example.com/a@v1.0.0: SumDiffers\n",
+    Row(SECOND, "list", "example.com/a v1.0.0\n", "example.com/a@v1.0.0: SumDiffers\n",
         files={"go.sum": SUM + "example.com/a v1.0.0/go.mod h1:AAAA\n"}),
     Row("A run in a folder below the main file's", "list --proxy {proxy}", "example.com/a v1.0.0\n",
         "gomod: cannot read go.mod\n", files={"below/file": ""}, words=LIST, folder="below"),
@@ -154,14 +178,14 @@ ROWS += [
     Row(INCOMPATIBLE, "list", "example.com/b/v2 v2.0.0+incompatible\n", "go.mod:7: Misfit\n",
         main=MAIN + "\nrequire example.com/b/v2 v2.0.0+incompatible\n",
         proxy={**A, "example.com/b/v2 v2.0.0+incompatible": "module example.com/b/v2\n"}),
-    dependency(COMMENTS, f"// caf{LATIN}", LISTED, "Malformed 0 NotUtf8\n"),
-    Row(COMMENTS, "list", LISTED, "go.mod:0: NotUtf8\n", main=f"{MAIN}// caf{LATIN}\n"),
-    Row(MARKS, "list", "unexpected input character '\\ufeff'", "example.com/a@v1.0.0: WrongPath\n",
+    dependency(NOT_UTF8, f"// caf{LATIN}", LISTED, "Malformed 0 NotUtf8\n"),
+    Row(NOT_UTF8, "list", LISTED, "go.mod:0: NotUtf8\n", main=f"{MAIN}// caf{LATIN}\n"),
+    Row(HIDDEN, "list", "unexpected input character '\\ufeff'", "example.com/a@v1.0.0: WrongPath\n",
         proxy={"example.com/a v1.0.0": MARK + FILE_A}),
-    main_file(MARKS, "replace example.com/a => ./a", "unexpected input character '\\ufeff'",
+    main_file(HIDDEN, "replace example.com/a => ./a", "unexpected input character '\\ufeff'",
               "example.com/m\nexample.com/a v1.0.0 => ./a\n",
               files={"a/go.mod": MARK + "require example.com/b v1.0.0\n"}),
-    main_file(MARKS, "replace example.com/b => ./b\u00a0c", "unexpected input character '\\u00a0'", LISTED),
+    main_file(HIDDEN, "replace example.com/b => ./b\u00a0c", "unexpected input character '\\u00a0'", LISTED),
     main_file(UNFIT, "retract v3.0.0", 'version "v3.0.0" invalid', LISTED),
     main_file(UNFIT, "replace example.com/b => example.com/c v2.0.0", 'version "v2.0.0" invalid', LISTED),
     Row(UNFIT, "edit retract=v3.0.0", 'version "v3.0.0" invalid', "\nretract v3.0.0\n"),

@@ -18,21 +18,22 @@ import subprocess
 import sys
 import tempfile
 
+import go_rows
 import script
 from script import read, write
 
 TOP = os.path.dirname(os.path.dirname(os.path.abspath(__file__)))
 ANSWERS = os.path.join(TOP, "tools", "go_answers.json")
 # What a comparison reads of the repository.
-TOOLS = ("compare-go.sh", "compare_go.py", "go_rows.py", "go_worlds.py", "script.py")
+TOOLS = ("compare-go.sh", "compare_go.py", "go_rows.py", "go_texts.py", "go_worlds.py", "script.py")
 FILES = [f"tools/{it}" for it in TOOLS] + ["docs/use/GO.md"]
 SECONDS = 900
 # Mistakes: without the .info of modules that are pruned out; a row with no world; none, where a difference has one.
 NOT_LAID = ("tools/compare_go.py", "named |= named_versions(read(f\"{folder}/{name}\"))", "pass")
-ROW, PAGE = "A comment that is not UTF-8", "docs/use/GO.md"
+ROW, PAGE = go_rows.NOT_UTF8, "docs/use/GO.md"
 ONE_MORE = (PAGE, f"| {ROW} |", f"| Another | | |\n| {ROW} |")
 ONE_LESS = (PAGE, f"| {ROW} |", "")
-NO_NAME = ("tools/compare_go.py", r'(r" NotUtf8$", go_rows.COMMENTS),', "")
+NO_NAME = ("tools/compare_go.py", r'(r" NotUtf8$", go_rows.NOT_UTF8),', "")
 
 
 # The stand-in for go.
