@@ -638,7 +638,8 @@ def compare_text(go, it, room, found):
     go_texts.lay(it, proxy, main)
     asked, words, flags, folders = go_texts.questions(it, proxy)
     commands = Commands(go, room, proxy)
-    commands.environment["GOPROXY"] = re.sub(r"(?<![^,|])/", "file:///", "".join(folders))
+    # with a GONOPROXY go lists no versions of a proxy for a path that the main file replaces
+    commands.environment |= {"GOPROXY": re.sub(r"(?<![^,|])/", "file:///", "".join(folders)), "GONOPROXY": ""}
     theirs = go_texts.answer(commands.ask_go(main, *asked, flags=flags))
     ours = go_texts.answer(commands.ask(main, *words))
     is_same = theirs == ours or all(text.startswith("refused") for text in (theirs, ours))
@@ -683,7 +684,8 @@ def compare_rows(go, name, found):
 
 def in_scratch(compare, *words):
     """Calls a comparison with a folder before its last argument, which it removes at the end."""
-    room = tempfile.mkdtemp(prefix="gomod-world-")
+    in_memory = "/dev/shm" if os.access("/dev/shm", os.W_OK) else None
+    room = tempfile.mkdtemp(prefix="gomod-world-", dir=in_memory)
     try:
         compare(*words[:-1], room, words[-1])
     finally:

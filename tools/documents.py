@@ -51,8 +51,8 @@ MADE = "crates/hello"
 BUDGETS = """
  7500 docs/use/*.md
  2280 docs/use/GO.md
-12135 docs/proof/*.md
- 5070 docs/proof/SPEC.md
+12170 docs/proof/*.md
+ 5090 docs/proof/SPEC.md
  3000 docs/lib/*.md
  1500 docs/lib/LIBRARY.md
  1500 docs/lib/CRATES.md

@@ -20,7 +20,7 @@ BIG = 2**64
 WORDS = {
     "path": [f"example.com/m{it}" for it in ("", "/v1", "/v0", "/v2", "/v02", "/v2.1", "/v", "/v10", "~1", ".", "..b", "/", "+b")]
     + [f"gopkg.in/foo{it}" for it in ("", ".v1", ".v0", ".v01", ".v2-unstable", ".v2-x")]
-    + "v2 foo/v1 a -a/b ~a/b .a/b /a a//b con a.b/aux.x a.b/com0 a.b/c.d~1 a.b/-c x_y/z A.b/c a.b/C 1.2/a a+b std go".split(),
+    + "v2 foo/v1 a -a/b ~a/b .a/b /a con a.b/aux.x a.b/com0 a.b/c.d~1 a.b/-c x_y/z A.b/c a.b/C 1.2/a a+b std go".split(),
     "version": "v1.0.0 v1.1.0 v2.0.0 v0.0.0 v1 v1.2 1.0.0 latest v01.0.0 v1.0.0- v1.0.0-01 v1.0.0-0a v1.0.0-- v1.0.0.0 v "
     f"v1.0.0+incompatible v2.0.0+incompatible v1.0.0+meta v1.{BIG}.0 v1.{BIG // 2}.0 v1.0.0-0.20200101000000-0123456789ab "
     "v0.0.0-20200101000000-ab v1.0.1-0.20200101000000-a v1.2.3-20200101000000-ab v1.2.3-rc.0.20209999999999-ab".split(),

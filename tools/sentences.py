@@ -2,8 +2,9 @@
 
 Beside a sentence that names a law, in PROVED.md's "What you can rely on", and beside each of README.md's "What is
 verified", stands a comment: the laws' names, a checksum of the sentence and one of what the laws state. A law states
-the clauses of its function, and the definitions that these cite in the specs/ of its crate, with what those cite there:
-in gomod_laws in any file, elsewhere in the same one and in those of laws. Comments of sources and blanks don't count.
+the clauses of its function, and all definitions in specs/ of any crate that these reach, as tools/headline.py follows
+them, each with its file. Comments of sources and blanks don't count. If a definition isn't as it was when the comment
+was written, which git tells, the check names it.
 """
 import collections
 import dataclasses
@@ -12,9 +13,10 @@ import pathlib
 import re
 import sys
 
+import headline
 import script
-from script import checksum
-from sources import CRATES, definitions, files, items_of, scope_of
+from script import checksum, git
+from sources import CRATES, definitions_in, files, items_of
 
 SECTIONS = {"README.md": "What is verified", "docs/proof/PROVED.md": "What you can rely on"}
 BOUND = re.compile(r"^\s*<!-- bound to ([\w:, ]+): (\w*) (\w*) -->$")
@@ -44,8 +46,7 @@ class Sentence:
 
 @functools.cache
 def public_functions():
-    """The functions of the sources by their names: for each its crate, whether it is a law's, its contract, and what
-    its file imports."""
+    """The functions of the sources by their names: for each its crate, whether it is a law's, its file, its contract."""
     found = collections.defaultdict(list)
     for path in files("src/**/*.rt"):
         crate = path.parts[1]
@@ -53,49 +54,50 @@ def public_functions():
         for one in items_of(path.read_text()):
             if one.kind == "fn" and one.visibility == "pub":
                 stated = re.sub(r"(?m)^[ \t]*//.*\n", "", one.contract).removesuffix("{}").removesuffix("{")
-                found[one.name].append((crate, is_law, stated, imports(crate, path)))
+                found[one.name].append((crate, is_law, path, stated))
     return found
 
 
 def law(name):
-    """The crate, the contract and the imports of a law or call, by its name or path, or None."""
+    """The crate, the file and the contract of a law or call, by its name or path, or None."""
     *path, last = name.split("::")
     known = [it for it in public_functions().get(last, []) if (it[0] in path if path else it[1])]
     best = [it for crate in FIRST for it in known if it[0] == crate] or known
-    return best[0] if len(known) == 1 or best != known else None
+    return (best[0][0], *best[0][2:]) if len(known) == 1 or best != known else None
 
 
-def imports(crate, path):
-    """The names that a file imports from the specs/ of its crate, each with the file that has it."""
-    own = f"Rattle.{crate}.specs."
-    used = scope_of(path.read_text()).values() if path.exists() else ()
-    return {name: path.removeprefix(own).replace(".", "/") for path, name in used if name and path.startswith(own)}
+def stated(text):
+    """A definition without its comments."""
+    return re.sub(r"(?m)^[ \t]*--.*\n", "", text)
 
 
 @functools.cache
-def definitions_of(crate, module):
-    """The definitions of a file of specs/ by their names, without comments, and what it imports."""
-    path = CRATES / crate / "specs" / f"{module}.antt"
-    known = definitions(path).values() if path.exists() else ()
-    return {it.name: re.sub(r"(?m)^[ \t]*--.*\n", "", it.text) for it in known}, imports(crate, path)
+def reached(name):
+    """The definitions that the contract of a law reaches."""
+    if name == CHECKS:
+        return []
+    _, file, contract = law(name)
+    found, _ = headline.reached_from(one for _, one in headline.used_in_clauses(file, [contract]))
+    return sorted(found, key=lambda it: (str(it.file), it.line))
 
 
 def statement(name):
-    """What a law states: its contract, and the definitions that it cites."""
+    """What a law states: its contract, and the definitions that it reaches."""
     if name == CHECKS:
         return "checks: each function of each crate is safe, and returns"
-    crate, _, contract, used = law(name)
-    seen, left = {}, [(used.get(it), it) for it in re.findall(r"\w+", contract)]
-    while left:
-        module, word = left.pop(0)
-        known, more = definitions_of(crate, module) if module else ({}, {})
-        if word in known and (module, word) not in seen:
-            seen[module, word] = known[word]
-            for it in re.findall(r"\w+", known[word]):
-                other = more.get(it, "")
-                is_followed = crate == WHOLE or other.endswith("Laws")
-                left.append((module if it in known else other if is_followed else None, it))
-    return "\n".join([f"{name}:", contract.rstrip(), *(seen[it] for it in sorted(seen))])
+    parts = sorted(f"{it.file}: {stated(it.text)}" for it in reached(name))
+    return "\n".join([f"{name}:", law(name)[2].rstrip(), *parts])
+
+
+def changed(one):
+    """The definitions that the laws of a sentence reach and that aren't as they were when its comment was written."""
+    commit = git("log", "-1", "--format=%H", f"-S{' '.join(one.sums)}", "--", one.file) or "HEAD"
+    before = functools.cache(lambda file: definitions_in(file, git("show", f"{commit}:{file}") + "\n"))
+    for it in dict.fromkeys(it for name in one.laws for it in reached(name)):
+        old = before(it.file).get(it.name)
+        if not old or stated(old.text).split() != stated(it.text).split():
+            yield f"  {it.file}:{it.line}: {it.name} {'changed' if old else 'is new'}:"
+            yield from (f"    {line}" for line in stated(it.text).split("\n"))
 
 
 # ---- sentences
@@ -141,9 +143,8 @@ def judged(one):
         return False, f"{place}: a sentence is {what}; tools/documents.sh --accept: {one.text[:80]}"
     now = one.now()
     what = " and ".join(it for it, old, new in zip(("the sentence", "its law"), one.sums, now) if old != new)
-    stated = [f"    {line}" for name in one.laws for line in statement(name).split("\n")]
     return now == one.sums, "\n".join([f"{place}: {what} changed; if they say the same, tools/documents.sh --accept "
-                                       f"{one.laws[0]}:", f"  {one.text}", *stated])
+                                       f"{one.laws[0]}:", f"  {one.text}", *(changed(one) if now[1] != one.sums[1] else ())])
 
 
 def accept(names):

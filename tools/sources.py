@@ -115,8 +115,12 @@ class Definition:
 @functools.cache
 def definitions(path):
     """What a file declares, by its name, in order."""
+    return definitions_in(path, path.read_text(encoding="utf-8"))
+
+
+def definitions_in(path, text):
+    """The same of a text of the file."""
     found, begin = [], r"(?!use |pub use |pub mod |mod |--)[^\s}].*(?:\n.+|\n+(?= ).*)*"
-    text = path.read_text(encoding="utf-8")
     for it in re.finditer(rf"(?m)^((?:--.*\n)*)({begin})", text):
         found.append(Definition(path, text.count("\n", 0, it.start()) + 1, it[1].rstrip(), it[2]))
     return {it.name: it for it in found}
