@@ -472,7 +472,7 @@ def is_retraction(it):
         is_word = it.side == "alone" and it.form == "bare" and (it.kind == "letter" or it.kind == "mark")
         return it.verb == "retract" and is_after and is_word and it.piece not in "(){}\"`"
     odd = ("// x", "/* x */", '"x', "`x", "x\u200b", "\udcff", "{", "}", '"\\x61"', "(")
-    return it.verb == "retract" and (it.way == "more" and is_after and it.piece not in odd or it.word in ("v1", "v1.2"))
+    return it.verb == "retract" and (it.way == "more" and is_after and it.piece not in odd or it.word in ("v1", "v1.0.0+meta"))
 
 
 def is_newer_go(it):

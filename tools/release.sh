@@ -19,7 +19,8 @@
 # proved. Unless --check is given, it also refuses a program that isn't the one that the last proof left at
 # crates/gomod/out/gomod, a gate that failed or ran with another program, changes that aren't committed, and a program
 # for which tools/refuse-memory.sh, tools/program.sh (where strace is) and `tools/cases.sh --checked` didn't leave
-# bin/refused.txt, bin/opened.txt and bin/checked.txt, whose first lines it prints.
+# bin/refused.txt, bin/opened.txt and bin/checked.txt, nor `tools/compare-go.sh --check` with go 1.19.8 bin/texts.txt,
+# whose first lines it prints.
 #
 # It needs bin/gomod, git, GNU tar, gzip and python3. It prints what the check found, the names of the files, the gate's
 # last line and the sha256. The status is 1 if it refuses, and 2 for wrong arguments. .ci/run runs --check at its end.
@@ -84,7 +85,7 @@ check_archive() {
   echo "glibc: $least is the least"
 }
 
-to=$from gate='' refusals='' opened='' checked='' check='' unproved=''
+to=$from gate='' refusals='' opened='' checked='' texts='' check='' unproved=''
 case $#:${1-}:${2-} in
   1:--check:) check=yes ;;
   2:--check:--unproved) check=yes unproved=yes ;;
@@ -111,11 +112,13 @@ if [ -z "$check" ]; then
   refusals=$(record_of refused tools/refuse-memory.sh "allocations were refused of another program")
   opened=$(record_of opened "tools/program.sh, where strace is" "what another program opens was looked at")
   checked=$(record_of checked "tools/cases.sh --checked" "the cases ran with checks of other sources")
+  texts=$(record_of texts "tools/compare-go.sh --check, where go 1.19.8 is" "texts of another program were compared")
 fi
 records="gate: ${gate:-none}
 each allocation refused: ${refusals:-none}
 what each command opens: ${opened:-none}
-cases with checks: ${checked:-none}"
+cases with checks: ${checked:-none}
+texts beside go: ${texts:-none}"
 
 version=$(bin/gomod --version)
 [[ -n $unproved || $version =~ $PROVED_MARK$ ]] || refuse "bin/gomod isn't proved: its version is '$version'"

@@ -23,6 +23,7 @@ BOUND = re.compile(r"^\s*<!-- bound to ([\w:, ]+): (\w*) (\w*) -->$")
 BULLET = re.compile(r"\s*- ")
 WHOLE = "gomod_laws"  # the crate whose definitions are followed from file to file
 FIRST = [WHOLE, "gomod_run"]  # if crates have laws of one name, a name alone is that of the first of these
+SHOWN = set()  # the changed definitions whose text was printed
 CHECKS = "checks"  # stands for a law: what the check of a crate says of each of its functions
 
 
@@ -96,8 +97,10 @@ def changed(one):
     for it in dict.fromkeys(it for name in one.laws for it in reached(name)):
         old = before(it.file).get(it.name)
         if not old or stated(old.text).split() != stated(it.text).split():
-            yield f"  {it.file}:{it.line}: {it.name} {'changed' if old else 'is new'}:"
-            yield from (f"    {line}" for line in stated(it.text).split("\n"))
+            yield f"  {it.file}:{it.line}: {it.name} {'changed' if old else 'is new'}"
+            if it not in SHOWN:
+                SHOWN.add(it)
+                yield from (f"    {line}" for line in stated(it.text).split("\n"))
 
 
 # ---- sentences
