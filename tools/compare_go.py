@@ -27,8 +27,8 @@ is 1 if they differ and no predicate holds, if one holds and they don't differ, 
 there is no text for one. The predicates are of go 1.19.8.
 
 --check compares a tidy module with the cache that `go mod download` filled, example/go.mod, example/tidy.mod, and the
-worlds of --rows, with the answers of go 1.19.8 in tools/go_answers.json (tools/recorded_go.py). If there is a go 1.19.8,
-it compares 2000 texts too, from a number that the commit gives. Mistakes have to be
+worlds of --rows, with the answers of go 1.19.8 in tools/go_answers.json (tools/recorded_go.py). If there is a go
+1.19.8, it compares 2000 texts too, from a number that the commit gives. Mistakes have to be
 found, too: a command without a line, a proxy without the .info of a pruned-out module, and a row, a world or a
 difference without the others.
 

@@ -6,7 +6,7 @@ import string
 import typing
 
 import go_rows as rows
-from go_worlds import escaped, fits, hash_of, lay_version
+from go_worlds import fits, hash_of, lay_version
 from script import write
 
 SPACES = " \t\n\v\f\r\x85\xa0\u1680\u2028\u2029\u202f\u205f\u3000" + "".join(map(chr, range(0x2000, 0x200B)))
@@ -18,17 +18,18 @@ CHARACTERS = {
 }
 BIG = 2**64
 WORDS = {
-    "path": [f"example.com/m{it}" for it in ("", "/v1", "/v0", "/v2", "/v02", "/v2.1", "/v", "/v10", "~1", ".", "..b", "/", "+b")]
+    "path": [f"example.com/m{it}" for it in " /v1 /v0 /v2 /v02 /v2.1 /v /v10 ~1 . ..b / +b".split(" ")]
     + [f"gopkg.in/foo{it}" for it in ("", ".v1", ".v0", ".v01", ".v2-unstable", ".v2-x")]
-    + "v2 foo/v1 a -a/b ~a/b .a/b /a con a.b/aux.x a.b/com0 a.b/c.d~1 a.b/-c x_y/z A.b/c a.b/C 1.2/a a+b std go".split(),
-    "version": "v1.0.0 v1.1.0 v2.0.0 v0.0.0 v1 v1.2 1.0.0 latest v01.0.0 v1.0.0- v1.0.0-01 v1.0.0-0a v1.0.0-- v1.0.0.0 v "
-    f"v1.0.0+incompatible v2.0.0+incompatible v1.0.0+meta v1.{BIG}.0 v1.{BIG // 2}.0 v1.0.0-0.20200101000000-0123456789ab "
+    + "v2 foo/v1 a -a/b ~a/b .a/b /a con a.b/aux.x a.b/com0 a.b/c.d~1 a.b/-c x_y/z A.b/c a.b/C 1.2/a a+b go".split(),
+    "version": "v1.0.0 v1.1.0 v2.0.0 v0.0.0 v1 v1.2 1.0.0 latest v01.0.0 v1.0.0- v1.0.0-01 v1.0.0-0a v1.0.0-- v1.0.0.0 "
+    f"v v1.0.0+incompatible v2.0.0+incompatible v1.0.0+meta v1.{BIG}.0 v1.{BIG // 2}.0 v1.0.0-0.20200101000000-ab "
     "v0.0.0-20200101000000-ab v1.0.1-0.20200101000000-a v1.2.3-20200101000000-ab v1.2.3-rc.0.20209999999999-ab".split(),
     "folder": ["./", "../", "./x/", "./x//y", "./x y", "./it's", "it", "./x,y", "./x(y", "./x=>y", "=>y", "./x=y",
                "./x@v1.0.0", ".\\x", "./x/../y", ".", ".."],
     "go": "1.16 1.17 1.21 1 1. 1.016 v1.16 1.17.1 1.21rc1 1.17. 2.0 0.9 1.9999999999 1.17\xe9 go1.17".split() + [""],
 }
-MORE = ["x", '"x"', "`x`", "'x'", "v1.0.0", *"()[],{}#", "=>", "// x", "/* x */", '"x', "`x", '"\\x61"', "\udcff", "x\u200b"]
+MORE = ["x", '"x"', "`x`", "'x'", "v1.0.0", *"()[],{}#", "=>", "// x", "/* x */",
+        '"x', "`x", '"\\x61"', "\udcff", "x\u200b"]
 SHORT_LINE, UNFIT_LINES = "require example.com/b v1.0", ("retract v2.0.0", "replace a.b/c => example.com/c v2.0.0")
 UNREAD, CLOSES = ("(", "foo (\n\t(\n)", "foo x (\n)", "{", "}", '"\\x61"'), (")", ") x")
 GO_BLOCKS, NEWER = ("go (\n\t1.17\n)", "go ()"), ("toolchain go1.21.1", "godebug a=b", "tool x", "ignore ./x")
@@ -42,7 +43,8 @@ OPERATIONS = ["module=example.com/x", "go=1.17", "require=example.com/b@v1.0.0",
               "replace=example.com/a@v1.0.0=example.com/z@v1.0.0", "dropreplace=example.com/r", "retract=v1.5.0",
               "retract=[v1.5.0,v1.6.0]", "dropretract=v1.1.0"]
 RUNS = {"fmt": ['"./r"', "`./r`", '"./r x"', '"a.b/c" v1.0.0'], "graph": ["v1.0.0", "v1.1.0"],
-        "-modfile": ["./r", "../main/r"], "replaced": ["", " v1.0.0", " v1.5.0", "/v2"], "proxies": ["ab,", "ab|", "aa,", "aa|"]}
+        "-modfile": ["./r", "../main/r"], "replaced": ["", " v1.0.0", " v1.5.0", "/v2"],
+        "proxies": ["ab,", "ab|", "aa,", "aa|"]}
 EMPTY = "h1:G7mAYYxgmS0lVkHyy2hEOLQCFB0DlQFTMLWggykrydY="  # the hash of an empty go.mod
 SECOND = [EMPTY, "h1:" + "B" * 43 + "=", "h2:x"]
 MAIN = ["module example.com/m", "go 1.16", "require (\n\texample.com/a v1.0.0\n\texample.com/r v1.0.0\n)",
@@ -110,8 +112,8 @@ def odd_line(some, line):
 def odd_module(some, place):
     """A go.mod with something odd: a line more is the first or the last."""
     lines = [*MAIN] if place == "main" else [
-        f"module example.com/{OTHERS[place]}", "go 1.16", "require example.com/b v1.0.0", "exclude example.com/c v1.0.0",
-        "replace example.com/b => ./b", "retract v1.0.0", "foo x"]
+        f"module example.com/{OTHERS[place]}", "go 1.16", "require example.com/b v1.0.0",
+        "exclude example.com/c v1.0.0", "replace example.com/b => ./b", "retract v1.0.0", "foo x"]
     if some.random() < 0.25:
         told = {"way": "line", "piece": some.choice(LINES)}
         lines.insert(some.choice([0, len(lines)]), told["piece"])
@@ -124,19 +126,22 @@ def odd_module(some, place):
 
 
 def odd_list(some):
+    """A version list with something odd."""
     lines, at, told = ["v1.0.0", "v1.1.0", "v1.2.0-rc.1"], some.randrange(3), {"way": some.choice(["word", "line", ""])}
     if not told["way"]:
         lines[at], told = odd_character(some, lines[at])
     elif told["way"] == "word":
         lines[at] = some.choice(WORDS["version"])
     else:
-        lines.insert(at, some.choice(["v1.3.0 2020-01-01T00:00:00Z", "# v1.3.0", "", "v1.1.0", "\udcff", "v1.3.0 \udcff"]))
+        lines.insert(at, some.choice(["v1.3.0 2020-01-01", "# v1.3.0", "", "v1.1.0", "\udcff", "v1.3.0 \udcff"]))
     return "\n".join(lines) + "\n", told
 
 
 def odd_sum(some):
+    """A go.sum with something odd: a character, a word less or more, or a line, the first or the last."""
     lines = [f"example.com/{it} v1.0.0/go.mod {hash_of(FILES[it])}" for it in "ab"]
-    at, field, told = some.randrange(2), some.randrange(3), {"way": some.choice(["less", "more", "line", "line", "", ""])}
+    at, field, way = some.randrange(2), some.randrange(3), some.choice(["less", "more", "line", "line", "", ""])
+    told = {"way": way}
     fields = lines[at].split(" ")
     if not told["way"]:
         fields[field], told = odd_character(some, fields[field])
@@ -153,9 +158,11 @@ def odd_sum(some):
 
 
 def odd_operation(some):
+    """An operation with something odd."""
     parts = re.findall(r"[\[\],@=]|[^\[\],@=]+", some.choice(OPERATIONS))
-    at, way = some.choice([it for it, part in enumerate(parts) if len(part) > 1]), some.choice(["word", "less", "more", ""])
-    part = "folder" if parts[at][0] == "." else "version" if parts[at][0] == "v" else "go" if parts[0] == "go" else "path"
+    at = some.choice([it for it, part in enumerate(parts) if len(part) > 1])
+    way, word = some.choice(["word", "less", "more", ""]), parts[at]
+    part = "folder" if word[0] == "." else "version" if word[0] == "v" else "go" if parts[0] == "go" else "path"
     if not way:
         parts[at], _ = odd_character(some, parts[at])
     elif way == "word":
@@ -210,12 +217,10 @@ def lay(it, proxy, main):
         lay_version(proxy, "example.com/p", version, texts["p"])
     if it.place == "sum":
         write(f"{main}/go.sum", it.text)
-    for path, version in re.findall(r'(?:require )?([^\s"]+)"? "?(v\d[^\s"]*)', it.text if it.place in texts_of else ""):
+    module = it.text if it.place in ("main", *OTHERS) else ""
+    for path, version in re.findall(r'(?:require )?([^\s"]+)"? "?(v\d[^\s"]*)', module):
         if not re.search(rf"/\.\.?/|//|\0|{BYTES}", f"{path}/{version}"):
             lay_version(proxy, path, version, f"module {path}\n")
-
-
-texts_of = ("main", *OTHERS)
 
 
 def questions(it, proxy):
@@ -288,7 +293,8 @@ def is_valid(version):
 
 def is_whole(version):
     """Whether go takes a version as it stands, and not for a short one."""
-    return is_valid(version) and SEMVER.fullmatch(version)[3] and SEMVER.fullmatch(version)[5] in (None, "+incompatible")
+    found = SEMVER.fullmatch(version)
+    return is_valid(version) and found[3] and found[5] in (None, "+incompatible")
 
 
 def is_canonical(version):
@@ -442,7 +448,8 @@ def is_unread(it):
     """Whether gomod refuses the words of a line that go ignores."""
     if it.way in ("more", "line"):
         return is_lax(it) and it.piece in UNREAD[3 * (it.way == "more"):] and not spoils(it, True)
-    is_inside = it.way == "character" and (it.piece in "{}" or it.piece in "\"`" and it.side != "alone" and it.word.find(it.piece) > 0)
+    is_quote = it.piece in "\"`" and it.side != "alone" and it.word.find(it.piece) > 0
+    is_inside = it.way == "character" and (it.piece in "{}" or is_quote)
     is_own = it.verb in READ and it.part != "verb" and (it.piece in "{}" or it.part != "go")
     return is_lax(it) and it.kind == "mark" and it.form == "bare" and is_inside and not is_own and not spoils(it, True)
 
@@ -472,7 +479,8 @@ def is_retraction(it):
         is_word = it.side == "alone" and it.form == "bare" and (it.kind == "letter" or it.kind == "mark")
         return it.verb == "retract" and is_after and is_word and it.piece not in "(){}\"`"
     odd = ("// x", "/* x */", '"x', "`x", "x\u200b", "\udcff", "{", "}", '"\\x61"', "(")
-    return it.verb == "retract" and (it.way == "more" and is_after and it.piece not in odd or it.word in ("v1", "v1.0.0+meta"))
+    is_more = it.way == "more" and is_after and it.piece not in odd
+    return it.verb == "retract" and (is_more or it.word in ("v1", "v1.0.0+meta"))
 
 
 def is_newer_go(it):
@@ -505,7 +513,7 @@ def sum_row(it):
     if takes_sum(it.text, True) == takes_sum(it.text, False):
         return None
     is_blank = re.search(f"[{SPACES[3:5]}{SPACES[6:]}]", it.text)
-    return rows.BLANKS if is_blank else rows.SECOND if it.piece[-2:] == SECOND[0][-2:] or "BB" in it.piece else rows.SUM_LINES
+    return rows.BLANKS if is_blank else rows.SECOND if it.piece.endswith(tuple(SECOND)) else rows.SUM_LINES
 
 
 def operation_row(it):
@@ -534,7 +542,8 @@ def operation_row(it):
         version = right
     if "retract" not in name and not is_path(re.split("[=@]", given)[0]):
         return rows.NO_PATH
-    return "Windows" if re.search(r"=(\.{0,2}\\|\w:)", given) else rows.PROFILE if str(BIG) in it.text else rows.NOT_CANONICAL
+    is_windows = re.search(r"=(\.{0,2}\\|\w:)", given)
+    return "Windows" if is_windows else rows.PROFILE if str(BIG) in it.text else rows.NOT_CANONICAL
 
 
 def of(row, place, row_of):
@@ -590,11 +599,13 @@ RULES = [
     (rows.NEWER, main_line(*NEWER), "unknown directive", YES),
     (rows.UNFIT, main_line(*UNFIT_LINES), "invalid", YES),
     (rows.TO_GOMOD, is_newer_go, "invalid go version", YES),
-    *((row, of(row, "list", list_row), ".", YES) for row in (rows.BLANKS, rows.PSEUDO, rows.PROFILE, rows.MISFITS, rows.TWICE)),
+    *((row, of(row, "list", list_row), ".", YES) for row in (
+        rows.BLANKS, rows.PSEUDO, rows.PROFILE, rows.MISFITS, rows.TWICE)),
     *((row, of(row, "sum", sum_row), ".", ".") for row in (rows.BLANKS, rows.SECOND, rows.SUM_LINES)),
     *((row, of(row, "operation", operation_row), YES, YES) for row in (rows.BARE, rows.QUOTES, rows.GRAVE)),
     *((row, of(row, "operation", operation_row), YES, ".") for row in (
-        rows.TRIMMED, rows.EMPTY, rows.INCOMPATIBLE, rows.MISFIT, rows.NO_PATH, "Windows", rows.PROFILE, rows.NOT_CANONICAL)),
+        rows.TRIMMED, rows.EMPTY, rows.INCOMPATIBLE, rows.MISFIT, rows.NO_PATH, "Windows", rows.PROFILE,
+        rows.NOT_CANONICAL)),
     *((row, of(row, "operation", operation_row), NO, YES) for row in (rows.GO_EDIT, rows.DOTS, rows.DASH)),
     (rows.QUOTES, run("fmt", '"./r"', '"a.b/c" v1.0.0'), YES, YES),
     (rows.GRAVE, run("fmt", "`./r`"), NO, YES),

@@ -16,7 +16,7 @@ import sys
 import headline
 import script
 from script import checksum, git
-from sources import CRATES, definitions_in, files, items_of
+from sources import definitions_in, files, items_of
 
 SECTIONS = {"README.md": "What is verified", "docs/proof/PROVED.md": "What you can rely on"}
 BOUND = re.compile(r"^\s*<!-- bound to ([\w:, ]+): (\w*) (\w*) -->$")
@@ -47,7 +47,7 @@ class Sentence:
 
 @functools.cache
 def public_functions():
-    """The functions of the sources by their names: for each its crate, whether it is a law's, its file, its contract."""
+    """The functions of the sources by their names: for each its crate, whether it is a law's, its file and contract."""
     found = collections.defaultdict(list)
     for path in files("src/**/*.rt"):
         crate = path.parts[1]
@@ -146,8 +146,9 @@ def judged(one):
         return False, f"{place}: a sentence is {what}; tools/documents.sh --accept: {one.text[:80]}"
     now = one.now()
     what = " and ".join(it for it, old, new in zip(("the sentence", "its law"), one.sums, now) if old != new)
+    more = changed(one) if now[1] != one.sums[1] else ()
     return now == one.sums, "\n".join([f"{place}: {what} changed; if they say the same, tools/documents.sh --accept "
-                                       f"{one.laws[0]}:", f"  {one.text}", *(changed(one) if now[1] != one.sums[1] else ())])
+                                       f"{one.laws[0]}:", f"  {one.text}", *more])
 
 
 def accept(names):
