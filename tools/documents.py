@@ -56,7 +56,7 @@ BUDGETS = """
  3000 docs/lib/*.md
  1500 docs/lib/LIBRARY.md
  1500 docs/lib/CRATES.md
-13000 docs/dev/*.md
+13030 docs/dev/*.md
  1800 docs/dev/CASES.md
  3200 docs/DECISIONS.md
  1800 docs/dev/PROOFS.md
