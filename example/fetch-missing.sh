@@ -51,6 +51,9 @@ transfers() {
   for file; do printf 'url = "%s"\noutput = "%s"\n' "$url/$file" "$file.part"; done
 }
 
+# Goes to the folder, where no file becomes larger than gomod reads.
+enter() { CDPATH='' cd -- "$folder" && trap '' XFSZ && { ulimit -f 16384 || :; }; }
+
 # Gets files, and sets `got` to how many.
 get() {
   local code file why
@@ -64,7 +67,7 @@ get() {
     else
       echo "$url/$file: $why" >&2
     fi
-  done < <(transfers "$@" | (cd "$folder" && exec curl --parallel --create-dirs --fail --location --globoff \
+  done < <(transfers "$@" | (enter && exec curl --parallel --create-dirs --fail --location --globoff --speed-time 30 \
     --no-progress-meter --write-out '%{exitcode}\t%{url}\t%{errormsg}\n' --config -) 2> /dev/null)
 }
 
@@ -79,7 +82,7 @@ for ((round = 1; ; round++)); do
     find_missing
     get "${missing[@]}"
   fi
-  if [ "$got" -eq 0 ]; then echo "$report" >&2 && exit 1; fi
+  if [ "$got" -eq 0 ]; then printf '%s\n' "$report" >&2 && exit 1; fi
   echo "round $round: $got files" >&2
 done
-echo "$report"
+printf '%s\n' "$report"

@@ -43,6 +43,7 @@ gomod list --proxy |gomod list --proxy HOME/go/pkg/mod/cache/download
 gomod list --proxy ../fi|gomod list --proxy ../first
 gomod list --proxy ../first,../sec|gomod list --proxy ../first,../second
 gomod list --proxy '../first,../sec|gomod list --proxy '../first,../second
+gomod list --proxy ../first,../'quo|gomod list --proxy ../first,../'quo
 gomod graph --proxy ../first,|gomod graph --proxy ../first,HOME/go/pkg/mod/cache/download
 gomod versions --proxy HOME/go/pkg/mo|gomod versions --proxy HOME/go/pkg/mod
 gomod graph --mod mai|gomod graph --mod main.mod
@@ -65,8 +66,9 @@ BESIDE = (("chain ", "chain a.b/c"), ("list --proxy ", "list --proxy TEXT"), ("l
 
 def lay_room(room):
     """Lays the files of the scratch folder."""
-    for it in ("module", "first", "second", "home/go/pkg/mod/cache/download"):
+    for it in ("module", "first", "second", "'quo\nted", "home/go/pkg/mod/cache/download"):
         os.makedirs(f"{room}/{it}")
+    os.mkfifo(f"{room}/first/go.mod")
     for name in ("go.mod", "main.mod"):
         write(f"{room}/module/{name}", GO_MOD)
     for number, text in enumerate(HOSTILE):
@@ -124,7 +126,7 @@ class Terminal:
 
 def in_bash(room):
     """A bash with our completion, whose ^X^S leaves the line."""
-    write(f"{room}/rc", f". {TOP}/share/completions/gomod.bash\nbind 'set bell-style none'\n"
+    write(f"{room}/rc", f". {TOP}/share/completions/gomod.bash\nbind 'set bell-style none'\nIFS=,; set -uf\n"
           "bind -x '\"\\C-x\\C-s\": gomod \"$READLINE_LINE\"'\nstty -ixon; gomod ready\n")
     return Terminal(["bash", "--noprofile", "--rcfile", f"{room}/rc", "-i"], room)
 
@@ -161,6 +163,9 @@ def differences(shell, room):
             if came.rstrip(" /'") != wanted:
                 yield typed, came, wanted
         shutil.rmtree(f"{room}/home/go")
+        shell.completed(f"cd {room}/first; gomod", "\r")
+        if shell.completed("gomod chain ", "\r") != ["chain"]:
+            yield "gomod chain (beside a pipe)", "", "gomod chain"
         for number, text in enumerate(HOSTILE):
             shell.completed(f"cd {room}/{number}; gomod", "\r")
             # fish leaves out two folders

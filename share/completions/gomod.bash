@@ -10,6 +10,8 @@ _gomod_folders() {
     local list=${1%"$last"}
     [[ -n $list ]] || last=${last#"$quote"}
     list=${list#"$quote"}
+    # behind another quote, what is quoted here would be in quotes or not
+    [[ -z $list || $list$last != *[\'\"]* ]] || return
     if [[ -z $list && -n $last ]]; then
         compopt -o dirnames 2> /dev/null
         return
@@ -17,7 +19,7 @@ _gomod_folders() {
     # the shell takes away backslashes, and expands $HOME
     # shellcheck disable=SC2016,SC2162
     [[ -n $quote ]] || IFS= read -d '' last < <(printf '%s\0' "${last/#'$HOME'/$HOME}")
-    mapfile -td '' folders < <(shopt -s nullglob && shopt -u failglob && printf '%s\0' "$last"*/)
+    mapfile -td '' folders < <(shopt -s nullglob && shopt -u failglob && set +f && printf '%s\0' "$last"*/)
     cache=${GOMODCACHE:-${cache%%:*}/pkg/mod}/cache/download
     [[ -z $last ]] && folders+=("$cache")
     for folder in "${folders[@]}"; do
@@ -37,7 +39,7 @@ _gomod_folders() {
 # The modules that the go.mod of this folder requires, of those that need no quotes.
 _gomod_paths() {
     local path paths
-    [[ -f go.mod ]] && mapfile -t paths < <(head -c 16777216 go.mod | awk '
+    [[ -f go.mod ]] && mapfile -t paths < <(head -c 1048576 go.mod | awk '
         { sub(/\/\/.*/, "") }
         block && $1 == ")" { block = 0 }
         { path = block ? $1 : $1 == "require" ? $2 : "" }
@@ -54,7 +56,7 @@ _gomod() {
     local commands='list graph chain versions fmt edit help'
     local operations='module= go= require= droprequire= exclude= dropexclude= replace= dropreplace='
     operations+=' retract= dropretract='
-    local command='' options='' word at plain=0 is_value=''
+    local command='' options='' word at plain=0 is_value='' IFS=$' \t\n'
     COMPREPLY=()
 
     # bash makes three words of --mod=FILE, and of an operation

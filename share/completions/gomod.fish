@@ -33,7 +33,7 @@ end
 
 # The modules that the go.mod of this folder requires, of those that need no quotes.
 function __gomod_paths
-    test -f go.mod; and head -c 16777216 go.mod | awk '
+    test -f go.mod; and head -c 1048576 go.mod | awk '
         { sub(/\/\/.*/, "") }
         block && $1 == ")" { block = 0 }
         { path = block ? $1 : $1 == "require" ? $2 : "" }
