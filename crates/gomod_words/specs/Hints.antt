@@ -1,4 +1,5 @@
--- The tables of hints: what is said of a word that a command does not take. They are the constants HINTS and OTHER_HINTS.
+-- What is said of a word that a command does not take: the tables of hints, which are the constants HINTS and
+-- OTHER_HINTS.
 use Rattle.std.specs.Prelude.{◌≡◌, ◌⊎◌, ◌==◌, ◌++◌, ◌&&◌, ◌<◌, ◌≤◌, nat_lt, if◌then◌else◌, Bool, List, codes, length, map, true, false}
 use Rattle.std.specs.Borrow.{Bor}
 use Rattle.std.specs.Char.{to_ascii_lowercase}
@@ -66,7 +67,7 @@ HasSaid is_near key hint = HasSaidIn hints is_near key hint ⊎ HasSaidIn other_
 abbrev pub IsForm : Text → Text → Type 0
 IsForm word form = (part : Text) × HasSubslice word part × (form ≡ codes "*" ++ part ++ codes "*")
 
--- the table says this of a word with this key: by the key, by the form of the word, or by a name that is near to the key
+-- the tables say this of a word with this key: by the key, by the form of the word, or by a name that is near
 abbrev pub IsHintBy : Text → Text → Text → Type 0
 IsHintBy word key hint =
     HasSaid false key hint ⊎ ((form : Text) × IsForm word form × HasSaid false form hint) ⊎ HasSaid true key hint
