@@ -153,7 +153,9 @@ def errors(said):
 def differing(message):
     """The pairs of terms in which an error says that two types differ."""
     sides = re.match(r"`\w+`: expected type `(.*) ≡ (.*)`, but this has type `(.*) ≡ (.*)`$", message.split("\n")[0])
-    yield from zip(sides.groups()[:2], sides.groups()[2:]) if sides else ()
+    # the same two sides in the other order say the same
+    if sides and {*sides.groups()[:2]} != {*sides.groups()[2:]}:
+        yield from zip(sides.groups()[:2], sides.groups()[2:])
     pair = r"one has `([^`]*)`\s*\(expected\)[^`]*(?:`[^`]*`[^`]*)??and the other has `([^`]*)`\s*\(found\)"
     yield from re.findall(pair, message)
 

@@ -24,7 +24,7 @@ use Rattle.page.specs.Run.{FileSays, IsRead, Run, Says, answered, faulty, run_of
 use Rattle.page.specs.Types.{AreSums, BadVersion, Class, Fault, Misreading, Missing, NoModule, Sums, TooLong, TooMany, Unknown, WrongArguments, WrongPath}
 use Rattle.page.specs.Worlds.{given_with}
 use Rattle.page.proofs.Ending.{IsReadable, all_read}
-use Rattle.page.proofs.Members.{Pairs, differ, member_cases, member_head, member_tail, no_member}
+use Rattle.page.proofs.Members.{Pairs, differ, member_cases, member_head, member_tail, most_opened, no_member}
 use Rattle.page.proofs.RowsTable.{IsAsked, IsReported, IsTable, Row, are_in, are_members, either_side, ends_of, every, fault_with, firsts, found_with, gathered, has, in_left, in_right, is_bounded, is_no_greater, is_reached, is_selection, is_shallow, rows_from, some, some_one}
 use Rattle.page.proofs.Saying.{as_class, checked, file_said, reads, said_of}
 
@@ -143,6 +143,11 @@ pub data Failure : Type 0 where
   rows_are_not_those_selected : Failure
   faults_do_not_ascend : Failure
   faults_are_of_other_modules : Failure
+
+-- Rows are printed if there is no fault.
+abbrev where_printed : List Fault → Bool → Bool
+where_printed [] test = test
+where_printed (first ∷ others) test = true
 
 abbrev failing : List (Bool × Failure) → List Failure
 failing [] = []
@@ -388,9 +393,9 @@ module _ (main : Main) (sums : Option Sums) (asked : List (Name × Reply)) where
       ∷ (are_told deep_modules, a_deep_module_says_nothing)
       ∷ (is_bounded main tops deep, an_opened_module_is_left_out)
       ∷ (is_reached main tops [] deep, a_deep_module_is_not_opened)
-      ∷ (nat_le (length (firsts rows)) 65536, too_many_are_opened)
-      ∷ (ascends path_cmp selected, rows_do_not_ascend)
-      ∷ (is_selection main tops deep selected, rows_are_not_those_selected)
+      ∷ (nat_le (length (firsts rows)) most_opened, too_many_are_opened)
+      ∷ (where_printed faults (ascends path_cmp selected), rows_do_not_ascend)
+      ∷ (where_printed faults (is_selection main tops deep selected), rows_are_not_those_selected)
       ∷ (ascends (λ (a b : Fault). pair_cmp a.vertex b.vertex) faults, faults_do_not_ascend)
       ∷ (are_in modules opened && are_in opened modules, faults_are_of_other_modules) ∷ []
 
@@ -562,16 +567,19 @@ module _ (content : List ℕ) (text : Option (List ℕ)) (main : Main) (sums : O
       (λ x there. in_opened x (in_right x (top_modules main sums asked) (deep_modules main sums asked) there))))
 
   ends_as : (after : Option (List ℕ)) (limit : Option ℕ) (fs : List Fault) → AreFound (given_with content text asked) main sums fs
+      → where_printed fs (ascends path_cmp (selected main sums asked)) ≡ true
+      → where_printed fs (is_selection main (tops main sums asked) (deep main sums asked) (selected main sums asked)) ≡ true
       → ListEnds after limit (given_with content text asked) (ending_of main sums asked after limit fs)
-  ends_as after limit [] are = no_fault main sums are (
+  ends_as after limit [] are ascend are_those = no_fault main sums are (
     build_list main sums asked,
     rows_from content text main sums asked (tops main sums asked) (deep main sums asked) is_table (selected main sums asked)
-        (ascends_so path_cmp (selected main sums asked) passed.1.1.1.1.1.1.1.1.1.0) passed.1.1.1.1.1.1.1.1.1.1.0,
+        (ascends_so path_cmp (selected main sums asked) ascend) are_those,
     printed_so after limit main (build_list main sums asked),
   )
-  ends_as after limit (first ∷ others) are = some_faulty main sums first others are refl
+  ends_as after limit (first ∷ others) are ascend are_those = some_faulty main sums first others are refl
 
   -- with an outcome that is written out
   pub ends_so : (after : Option (List ℕ)) (limit : Option ℕ) (outcome : Outcome) → ending main sums asked after limit ≡ outcome
       → ListEnds after limit (given_with content text asked) outcome
-  ends_so after limit outcome is = subst (ListEnds after limit (given_with content text asked)) is (ends_as after limit all_faults found)
+  ends_so after limit outcome is = subst (ListEnds after limit (given_with content text asked)) is
+      (ends_as after limit all_faults found passed.1.1.1.1.1.1.1.1.1.0 passed.1.1.1.1.1.1.1.1.1.1.0)

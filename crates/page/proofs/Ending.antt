@@ -10,7 +10,7 @@ use Rattle.page.specs.ModuleVersion.{ModuleVersion}
 use Rattle.page.specs.Reading.{IsFileReading, file_of, is_askable}
 use Rattle.page.specs.Run.{IsNeeded, IsOpened, IsRead, IsSettled, Run, run_of}
 use Rattle.page.specs.Types.{Class, Sums}
-use Rattle.page.proofs.Members.{each_member, few_members}
+use Rattle.page.proofs.Members.{each_member, few_members, most_opened}
 
 -- ---- answers
 
@@ -48,7 +48,7 @@ module _ (main : Main) (sums : Option Sums) (asked : List (Name × Reply)) (open
       (each_member WasAsked opened were x (opened_in x opens) (subst (λ (n : Name). is_askable n ≡ true) (sym is) askable))
 
   pub settled : AllByRecursion (IsReadable sums) asked → IsDistinct same_name (names_in asked) → AllByRecursion (IsNeeded run) (names_in asked)
-      → AllByRecursion WasAsked opened → length opened ≤ 65536 → IsSettled run (names_in asked)
+      → AllByRecursion WasAsked opened → length opened ≤ most_opened → IsSettled run (names_in asked)
   settled readable once needed were few = record {
     read = all_read main sums asked readable;
     once = once;

@@ -6,6 +6,7 @@ pub mod OneOutcome
 pub mod Checked
 pub mod Listed
 pub mod Reported
+pub mod Table
 pub mod Nothing
 pub mod Many
 pub mod Parts

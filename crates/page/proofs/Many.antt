@@ -1,5 +1,5 @@
 -- The world of a main file that requires too many modules.
-use Rattle.std.proofs.Common.{◌≡◌, ◌++◌, ◌<◌, ◌≤◌, ◌^◌, ℕ, zero, suc, Bool, false, List, [], ◌∷◌, None, Result, Ok, Err, Contains, ap, arith, codes, inl, length, refl, subst, sym}
+use Rattle.std.proofs.Common.{◌≡◌, ◌++◌, ◌<◌, ◌≤◌, ◌^◌, ℕ, zero, suc, Bool, false, List, [], ◌∷◌, None, Result, Ok, Err, Contains, ap, arith, codes, inl, inr, length, refl, subst, sym}
 use Rattle.std.specs.Prelude.{if◌then◌else◌}
 use Rattle.std.specs.Fmt.{decimal}
 use Rattle.std.specs.List.{AllByRecursion, IsDistinct}
@@ -7,15 +7,15 @@ use Rattle.std.proofs.lemmas.Bool.{false_from_ne_true}
 use Rattle.std.proofs.lemmas.Fmt.{decimal_injective}
 use Rattle.std.proofs.lemmas.List.{append_cancel_left}
 use Rattle.page.specs.Files.{main_in}
-use Rattle.page.specs.Files.RowFiles.{at, many_file, many_text, versions_below}
+use Rattle.page.specs.Files.RowFiles.{at, full_file, many_file, many_text, versions_below}
 use Rattle.page.specs.Main.{Main, without_excluded}
 use Rattle.page.specs.ModuleVersion.{ModuleVersion, pair_eq}
 use Rattle.page.specs.Queries.{too_many}
-use Rattle.page.specs.Run.{AreTooMany, run_of}
+use Rattle.page.specs.Run.{AreTooMany, IsDeep, IsOpened, IsTop, Requires, Run, answered, from_deep, from_main, from_top, run_of, sound}
 use Rattle.page.specs.Types.{Misreading, Unknown}
 use Rattle.page.specs.Worlds.Rows.{TooManyAreReported}
 use Rattle.page.proofs.Ending.{all_read}
-use Rattle.page.proofs.Members.{pair_same, text_itself}
+use Rattle.page.proofs.Members.{few_members, most_opened, pair_same, text_itself}
 
 abbrev version : ℕ → ModuleVersion
 version n = at (codes "a") (codes "v0.0." ++ decimal n)
@@ -58,13 +58,43 @@ is_main = ap chosen (text_itself many_text)
 
 are_too_many : AreTooMany (run_of many_file None [])
 are_too_many = (
-  versions_below 65537,
-  subst (λ (n : ℕ). 65536 < n) (sym (length_is 65537)) (omega arith),
+  versions_below (suc most_opened),
+  subst (λ (n : ℕ). most_opened < n) (sym (length_is (suc most_opened))) (omega arith),
   record {
-    once = distinct_below 65537 (omega arith);
-    each = λ x there. inl (subst (λ (xs : List ModuleVersion). Contains xs x) (sym (none_excluded (versions_below 65537))) there);
+    once = distinct_below (suc most_opened) (omega arith);
+    each = λ x there. inl (subst (λ (xs : List ModuleVersion). Contains xs x) (sym (none_excluded (versions_below (suc most_opened)))) there);
   },
 )
 
+-- ---- as many as may be opened
+
+abbrev full : Run
+full = run_of full_file None []
+
+nothing_said : (x y : ModuleVersion) → Requires full x y → ⊥
+nothing_said x y (file, sound (answered reply may at is) right, there) = cc at
+
+full_top : (x : ModuleVersion) → IsDeep full x → IsTop full x
+full_top x (from_main unpruned top) = top
+full_top y (from_top {x = x} file top tells unpruned there) = absurd (nothing_said x y (file, tells, there))
+full_top y (from_deep {x = x} is requires) = absurd (nothing_said x y requires)
+
+top_of : (x : ModuleVersion) → IsOpened full x → IsTop full x
+top_of x (inl top) = top
+top_of x (inr deep) = full_top x deep
+
+all_kept : (xs : List ModuleVersion) → without_excluded full_file xs ≡ xs
+all_kept [] = refl
+all_kept (x ∷ xs) = ap (λ (ys : List ModuleVersion). x ∷ ys) (all_kept xs)
+
+not_too_many : AreTooMany full → ⊥
+not_too_many (xs, over, are) =
+    let all = few_members xs (versions_below most_opened) are.once
+        (λ x there. subst (λ (ys : List ModuleVersion). Contains ys x) (all_kept (versions_below most_opened)) (top_of x (are.each x there))) in
+    omega (arith, all, length_is most_opened, over)
+
 pub too_many_are_reported : TooManyAreReported
-too_many_are_reported = too_many many_file None (record { main_file = is_main; sums = tt }) (all_read many_file None [] tt) are_too_many refl refl
+too_many_are_reported = record {
+  over = too_many many_file None (record { main_file = is_main; sums = tt }) (all_read many_file None [] tt) are_too_many refl refl;
+  full = not_too_many;
+}

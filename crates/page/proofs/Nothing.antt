@@ -13,7 +13,7 @@ use Rattle.page.specs.Run.{AreTooMany, IsDeep, IsDue, IsNeeded, IsOpened, IsTop,
 use Rattle.page.specs.Types.{AreSums, Fault, Misreading, Sums}
 use Rattle.page.specs.Worlds.{HasNoOutcome, failing, given_by, given_with}
 use Rattle.page.specs.Worlds.Rows.{OthersHaveNone, a_bare, a_name}
-use Rattle.page.proofs.Members.{each_member, few_members, no_member}
+use Rattle.page.proofs.Members.{each_member, few_members, most_opened, no_member}
 use Rattle.page.proofs.OneOutcome.{not_both, one_main}
 use Rattle.page.proofs.Saying.{required_in, said_of, says}
 
@@ -58,12 +58,12 @@ module _ (content : List ℕ) (main : Main) (asked : List (Name × Reply)) (fail
     opened_is_top x (inl top) = top
     opened_is_top x (inr is) = deep_is_top x is
 
-    not_over : length (without_excluded main main.requirements) ≤ 65536 → AreTooMany run → ⊥
+    not_over : length (without_excluded main main.requirements) ≤ most_opened → AreTooMany run → ⊥
     not_over few (xs, over, are) =
         let all = few_members xs (without_excluded main main.requirements) are.once (λ x there. opened_is_top x (are.each x there)) in
         omega (arith, all, few, over)
 
-    none_ends : length (without_excluded main main.requirements) ≤ 65536 → ((name : Name) → failed ≡ name ∷ [] → IsDue run name → ⊥)
+    none_ends : length (without_excluded main main.requirements) ≤ most_opened → ((name : Name) → failed ≡ name ∷ [] → IsDue run name → ⊥)
         → ((faults : List Fault) → AreFound given main None faults → ⊥) → HasNoOutcome given
     none_ends few undue unfound outcome (bad_main place misread unasked is) = not_both main place (sym is_main ∙ misread)
     none_ends few undue unfound outcome (bad_sums other report is bad unasked says) = bad

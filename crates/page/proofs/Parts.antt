@@ -77,6 +77,7 @@ parts_are_shown = record {
   end = (Of mid_nine, refl);
   greater = record { not_main = differ mid_ten.0 (codes "m") refl; is_end = (Of mid_nine, inr refl); greatest = greatest_version };
   other_path = record { not_main = differ mid_nine.0 (codes "m") refl; is_end = (Of mid_nine, inl refl); greatest = greatest_of_path };
+  tie = refl;
   replacing = refl;
   has_row = ((Of end_one, None), (1, omega arith, refl), refl);
   rest = ((Of end_one, None), record { before = main_entry ∷ []; parts = refl; path_is = refl; others = before_end });

@@ -3,14 +3,14 @@ use Rattle.std.proofs.Common.{◌≡◌, ℕ, List, [], ◌∷◌, Option, None,
 use Rattle.std.specs.Fmt.{digits}
 use Rattle.page.specs.Asked.{Name, Reply, answer_in, folder_file}
 use Rattle.page.specs.Files.{local_file, local_text, mid_nine, old_file}
-use Rattle.page.specs.Files.RowFiles.{alone_file, forking_file, forking_text, hosts_file, hosts_text, late_text, local_zero, nine_file, nine_text, one_file, one_text, replacing_file, three_file, three_text, unfetchable_file, unfetchable_text}
+use Rattle.page.specs.Files.RowFiles.{alone_file, forking_file, forking_text, hosts_file, hosts_text, late_text, local_zero, nine_file, nine_text, one_file, one_text, replacing_file, replacing_text, three_file, three_text, two_file, two_text, unfetchable_file, unfetchable_text}
 use Rattle.page.specs.Main.{Main}
 use Rattle.page.specs.Queries.{bad_main, bad_sums, device, faulty, no_fault, too_many}
 use Rattle.page.specs.Path.{is_fetchable}
 use Rattle.page.specs.Run.{IsDue, run_of}
-use Rattle.page.specs.Types.{Misreading, NoModule, Sums, Unknown, sums_table, sums_text}
-use Rattle.page.specs.Worlds.{DeviceIsReported, FaultsAreReported, HasNoOutcome, asked_mid, failing, reporting, wrong_answers}
-use Rattle.page.specs.Worlds.Rows.{EmptyMainIsReported, FolderDeviceIsReported, ForkIsReported, HostsAreReported, MalformedIsReported, OneFileIsReported, SumsAreReported, TwoFaultsAreReported, UnfetchableIsReported, a_bare, a_name, answer, malformed_answers, nine_answers, sums_answers, wrong_fork_answers}
+use Rattle.page.specs.Types.{Misreading, NoModule, Sums, Unknown, sums_table, sums_text, twice_table, twice_text}
+use Rattle.page.specs.Worlds.{DeviceIsReported, FaultsAreReported, HasNoOutcome, asked_mid, failing, printing, reporting, wrong_answers}
+use Rattle.page.specs.Worlds.Rows.{EmptyMainIsReported, FolderDeviceIsReported, ForkIsReported, HostsAreReported, MalformedIsReported, OneFileIsReported, SumsAreReported, TwoFaultsAreReported, UnfetchableIsReported, a_bare, a_name, answer, folder_answers, malformed_answers, nine_answers, sums_answers, two_missing, wrong_fork_answers}
 use Rattle.page.proofs.Checked.{ends_so}
 use Rattle.page.proofs.Ending.{all_read}
 use Rattle.page.proofs.Nothing.{no_cons, no_main, same_one, some_not_none}
@@ -35,8 +35,12 @@ fork_is_reported = ends_so forking_text None forking_file None wrong_fork_answer
 
 pub malformed_is_reported : MalformedIsReported
 unfolding is_fetchable digits
-malformed_is_reported = ends_so three_text None three_file None malformed_answers refl tt refl None None
-    (reporting (codes "example.com/b@v1.0.0: Malformed 3 WrongArguments\nexample.com/c@v1.0.0: Missing\n")) refl
+malformed_is_reported = record {
+  both = ends_so three_text None three_file None malformed_answers refl tt refl None None
+      (reporting (codes "example.com/b@v1.0.0: Malformed 3 WrongArguments\nexample.com/c@v1.0.0: Missing\n")) refl;
+  folder = ends_so replacing_text None replacing_file None _ refl tt refl None None
+      (reporting (codes "local@v0.0.0: Malformed 3 WrongArguments\n")) refl;
+}
 
 pub two_faults_are_reported : TwoFaultsAreReported
 unfolding is_fetchable digits
@@ -64,6 +68,15 @@ sums_are_reported = record {
   checked = ends_so three_text (Some sums_text) three_file (Some sums_table) sums_answers refl refl refl None None
       (reporting (codes "example.com/b@v1.1.0: NoSum\nexample.com/c@v1.0.0: SumDiffers\n")) refl;
   invalid = bad_sums alone_file _ refl refl (refl, refl) refl;
+  twice = ends_so one_text (Some twice_text) one_file (Some twice_table) (a_bare ∷ []) refl refl refl None None
+      (reporting (codes "example.com/a@v1.0.0: SumDiffers\n")) refl;
+  folder = ends_so replacing_text (Some sums_text) replacing_file (Some sums_table) folder_answers refl refl refl None None
+      (printing (codes "example.com/m\nlocal v0.0.0 => ../local\n")) refl;
+  both = bad_main (0, NoModule) refl (refl, refl) refl;
+  empty = ends_so one_text (Some sums_text) one_file (Some sums_table) (answer (codes "a") [] ∷ []) refl refl refl None None
+      (reporting (codes "example.com/a@v1.0.0: SumDiffers\n")) refl;
+  missing = ends_so two_text (Some sums_text) two_file (Some sums_table) two_missing refl refl refl None None
+      (reporting (codes "example.com/a@v1.0.0: Missing\nexample.com/b@v1.0.0: Missing\n")) refl;
 }
 
 -- ---- the device

@@ -19,7 +19,7 @@ use Rattle.page.specs.Types.{AreSums, Class, Fault, Main as FromMain, Of, Sums}
 use Rattle.page.specs.Version.{version_cmp}
 use Rattle.page.specs.Worlds.{given_with}
 use Rattle.page.proofs.Ending.{IsReadable, settled}
-use Rattle.page.proofs.Members.{Pairs, each_member, member_cases, member_head, member_tail, no_member, pair_same, pairs_of, text_itself}
+use Rattle.page.proofs.Members.{Pairs, each_member, member_cases, member_head, member_tail, most_opened, no_member, pair_same, pairs_of, text_itself}
 use Rattle.page.proofs.Saying.{class_is, file_is, has_no_fault, required_in, requires_nothing, says}
 
 -- ---- lists
@@ -196,7 +196,7 @@ pub record IsTable (content : List ℕ) (text : Option (List ℕ)) (main : Main)
   pub tells : AllByRecursion (λ (row : Row). Says (run_of main sums asked) row.0 row.1) (tops ++ deep)
   pub bounded : is_bounded main tops deep ≡ true
   pub reached : is_reached main tops [] deep ≡ true
-  pub few : length (firsts (tops ++ deep)) ≤ 65536
+  pub few : length (firsts (tops ++ deep)) ≤ most_opened
 
 -- the answers are those to the files of these rows
 pub record IsAsked (main : Main) (sums : Option Sums) (asked : List (Name × Reply)) (rows : List Row) : Type 0 where

@@ -9,6 +9,7 @@ use Rattle.page.specs.Main.{Main}
 use Rattle.page.specs.ModuleVersion.{ModuleVersion}
 use Rattle.page.specs.Types.{Class, Misreading, Sums, hash_fault}
 pub mod RowFiles
+pub mod TableFiles
 
 -- ---- modules
 

@@ -1,6 +1,7 @@
 -- Stand-ins for what docs/proof/HEADLINE.md takes from the code, from REPORTS.md and from the crate semver. The copies
 -- beside this file are of the definitions themselves.
-use Rattle.std.specs.Prelude.{◌≡◌, ◌&&◌, ℕ, if◌then◌else◌, List, [], ◌∷◌, ◌++◌, Option, Some, None, Result, Ok, Err, ⊤, codes}
+use Rattle.std.specs.Prelude.{◌≡◌, ◌&&◌, ℕ, if◌then◌else◌, List, [], ◌∷◌, ◌++◌, filter, Option, Some, None, Result, Ok, Err, ⊤, codes}
+use Rattle.std.specs.List.{list_all}
 use Rattle.std.specs.Ordering.{nat_cmp, on}
 use Rattle.std.specs.Str.{bytes_eq}
 use Rattle.std.specs.declared.cmp.Ordering.{Ordering}
@@ -56,7 +57,9 @@ known_versions =
     ∷ (codes "v1.0.9", (1, 0, 9, [], [])) ∷ (codes "v1.0.10", (1, 0, 10, [], []))
     ∷ (codes "v1.1.0-9", (1, 1, 0, codes "9", [])) ∷ (codes "v1.1.0", (1, 1, 0, [], []))
     ∷ (codes "v1.2.0", (1, 2, 0, [], [])) ∷ (codes "v1.9.0", (1, 9, 0, [], []))
-    ∷ (codes "v1.10.0", (1, 10, 0, [], [])) ∷ []
+    ∷ (codes "v1.10.0", (1, 10, 0, [], [])) ∷ (codes "v1.0.1-9", (1, 0, 1, codes "9", []))
+    ∷ (codes "v2.0.0+incompatible", (2, 0, 0, [], codes "incompatible"))
+    ∷ (codes "v10.0.0+incompatible", (10, 0, 0, [], codes "incompatible")) ∷ []
 
 abbrev pub parts_among : List (List ℕ × Parts) → List ℕ → Parts
 parts_among [] text = (1, 0, 0, [], [])
@@ -87,9 +90,20 @@ abbrev pub sums_table : Sums
 sums_table = (codes "example.com/a", codes "v1.0.0", codes "module example.com/a\n")
     ∷ (codes "example.com/c", codes "v1.0.0", codes "module example.com/a\n") ∷ []
 
+-- Of two lines the second has the hash of another text.
+abbrev pub twice_text : List ℕ
+twice_text = codes "example.com/a v1.0.0/go.mod h1:NeOsx/KTizj35klXP3wYh3O0751aAtYrRoX+a6YAye8=\n"
+    ++ codes "example.com/a v1.0.0/go.mod h1:qZPdy7koPyVhLfOsQtblw6bFK7FgHzimMb2d5LRQSWc=\n"
+
+abbrev pub twice_table : Sums
+twice_table = (codes "example.com/a", codes "v1.0.0", codes "module example.com/a\n")
+    ∷ (codes "example.com/a", codes "v1.0.0", codes "module example.com/c\n") ∷ []
+
 -- what the bytes of a go.sum say, or the report
 abbrev pub sums_in : List ℕ → Result Sums (List ℕ)
-sums_in text = if bytes_eq text sums_text then Ok sums_table else Err (codes "go.sum:1: BadSum\n")
+sums_in text =
+    if bytes_eq text sums_text then Ok sums_table
+    else (if bytes_eq text twice_text then Ok twice_table else Err (codes "go.sum:1: BadSum\n"))
 
 -- Without a go.sum there is no table.
 abbrev pub AreSums : Option (List ℕ) → Option Sums → Type 0
@@ -101,9 +115,15 @@ abbrev pub AreInvalidSums : Option (List ℕ) → List ℕ → Type 0
 AreInvalidSums None report = ⊥
 AreInvalidSums (Some text) report = sums_in text ≡ Err report
 
+-- the lines of a path and a version
+abbrev pub lines_of : Sums → List ℕ → List ℕ → Sums
+lines_of table path version = filter (λ one. bytes_eq one.0 path && bytes_eq one.1 version) table
+
+-- each line has the hash of the contents
+abbrev pub lines_fault : Sums → List ℕ → Option Class
+lines_fault [] content = Some NoSum
+lines_fault lines content = if list_all (λ one. bytes_eq one.2 content) lines then None else Some SumDiffers
+
 -- the fault of a file of these contents
 abbrev pub hash_fault : Sums → List ℕ → List ℕ → List ℕ → Option Class
-hash_fault [] path version content = Some NoSum
-hash_fault (one ∷ others) path version content =
-    if bytes_eq one.0 path && bytes_eq one.1 version
-    then (if bytes_eq one.2 content then None else Some SumDiffers) else hash_fault others path version content
+hash_fault table path version content = lines_fault (lines_of table path version) content

@@ -7,6 +7,7 @@ use Rattle.page.specs.Queries.{Given}
 use Rattle.page.specs.ListQuery.{ListEnds}
 pub mod Parts
 pub mod Rows
+pub mod Table
 
 abbrev pub asked_top : Name
 asked_top = mod_file (codes "top.org") (codes "v1.0.0")

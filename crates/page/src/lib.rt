@@ -6,6 +6,13 @@
 
 ghost use Rattle.page.specs.Worlds.{DeviceIsReported, FaultsAreReported, OneOutcome, PrunedIsListed, UnprunedIsListed};
 ghost use Rattle.page.specs.Worlds.Parts.{OthersDoNotHold, PartsAreShown};
+ghost use Rattle.page.specs.Worlds.Table.{
+  ExcludesAreTold,
+  GoVersionsAreTold,
+  OrdersAreTold,
+  ReplacesAreTold,
+  TextsAreTold,
+};
 ghost use Rattle.page.specs.Worlds.Rows.{
   DeepIsOpened,
   EachPartCounts,
@@ -185,4 +192,29 @@ pub fn parts_are_shown()
 /// that a file which may not be asked for is needed, that the lesser of two versions has a row.
 pub fn others_do_not_hold()
     ensures { OthersDoNotHold }
+{}
+
+/// Go 1.9 is below 1.17, go 1.19 to 3.0 are not.
+pub fn go_versions_are_told()
+    ensures { GoVersionsAreTold }
+{}
+
+/// The parts of a version in their order; paths by their bytes.
+pub fn orders_are_told()
+    ensures { OrdersAreTold }
+{}
+
+/// An exclude is of one version of one path.
+pub fn excludes_are_told()
+    ensures { ExcludesAreTold }
+{}
+
+/// A replace is of one version or of one path; what its file may declare.
+pub fn replaces_are_told()
+    ensures { ReplacesAreTold }
+{}
+
+/// Host names, and texts to their last byte.
+pub fn texts_are_told()
+    ensures { TextsAreTold }
 {}

@@ -5,6 +5,7 @@ use Rattle.std.specs.List.{flat_map}
 use Rattle.std.specs.Str.{bytes_eq}
 use Rattle.page.specs.Directives.{Folder, Left, Module, Replacing}
 use Rattle.page.specs.Fields.{Dependency}
+use Rattle.page.specs.Files.TableFiles.{table_files, table_mains}
 use Rattle.page.specs.Main.{Main}
 use Rattle.page.specs.ModuleVersion.{ModuleVersion}
 use Rattle.page.specs.Types.{BadVersion, Misreading, NoModule, TooMany, Unknown, WrongArguments}
@@ -194,6 +195,10 @@ many_text = codes "module example.com/m // It requires many versions.\n" ++ line
 abbrev pub many_file : Main
 many_file = main_with (1, 16) (versions_below 65537) []
 
+-- It requires as many as may be opened.
+abbrev pub full_file : Main
+full_file = main_with (1, 16) (versions_below 65536) []
+
 -- a text with what it says
 abbrev pub MainSaid : Type 0
 MainSaid = List ℕ × Main
@@ -203,7 +208,8 @@ valid_mains =
     (alone_text, alone_file) ∷ (both_text, both_file) ∷ (one_text, one_file) ∷ (two_text, two_file)
     ∷ (excluding_text, excluding_file) ∷ (ends_text, ends_file) ∷ (unfetchable_text, unfetchable_file)
     ∷ (replacing_text, replacing_file) ∷ (forking_text, forking_file) ∷ (three_text, three_file)
-    ∷ (later_text, later_file) ∷ (folders_text, folders_file) ∷ (nine_text, nine_file) ∷ (hosts_text, hosts_file) ∷ []
+    ∷ (later_text, later_file) ∷ (folders_text, folders_file) ∷ (nine_text, nine_file) ∷ (hosts_text, hosts_file)
+    ∷ table_mains
 
 abbrev pub main_among : List MainSaid → List ℕ → Result Main (ℕ × Misreading)
 main_among [] content = if bytes_eq content many_text then Ok many_file else Err (1, Unknown)
@@ -306,7 +312,7 @@ valid_files =
     ∷ old (codes "a") (codes "c") ∷ new (codes "a") (codes "c") ∷ new (codes "c") (codes "d")
     ∷ requires (codes "b") (codes "a") (codes "v1.10.0")
     ∷ of_go (codes "a") (codes "1.18") (1, 18) ∷ of_go (codes "b") (codes "1.22") (1, 22)
-    ∷ of_go (codes "c") (codes "2.0") (2, 0) ∷ (lesser_text, lesser_file) ∷ (greater_text, greater_file) ∷ []
+    ∷ of_go (codes "c") (codes "2.0") (2, 0) ∷ (lesser_text, lesser_file) ∷ (greater_text, greater_file) ∷ table_files
 
 abbrev pub said_among : List Said → List ℕ → Result Dependency (ℕ × Misreading)
 said_among [] content = Err (1, Unknown)

@@ -15,6 +15,8 @@ use Rattle.page.specs.Outcome.{Outcome}
 use Rattle.page.specs.Reading.{IsContentReading, IsFileReading, IsReadUnless}
 use Rattle.page.specs.Run.{FileSays, IsDeep, IsEdge, IsFault, IsNeeded, IsOpened, IsRead, IsTop, Requires, Run, Says, run_of}
 use Rattle.page.specs.Types.{Class, Malformed, Missing, NoSum, NotFetchable, Of, TooLong, WrongArguments, WrongPath, sums_table}
+use Rattle.page.specs.Version.{version_cmp}
+use Rattle.std.specs.declared.cmp.Ordering.TheVariants.{Greater}
 use Rattle.page.specs.Worlds.{asked_folder, printing, pruned_answers, unpruned_answers, wrong_answers}
 use Rattle.page.specs.Worlds.Rows.{a_name, answer, fork_name, malformed_answers, name_at, sums_answers, unopened_answers}
 
@@ -83,6 +85,8 @@ pub record PartsAreShown : Type 0 where
   -- the greater of two versions is selected, whatever the versions of other paths are
   pub greater : IsSelected (codes "m") two_versions mid_ten
   pub other_path : IsSelected (codes "m") two_paths mid_nine
+  -- of two versions of one precedence the text decides
+  pub tie : version_cmp (codes "v1.0.0+b") (codes "v1.0.0") ≡ Greater
   -- what stands behind the arrow of a row
   pub replacing : replacement_text (Module (codes "fork.org") (codes "v1.9.0")) ≡ codes "fork.org v1.9.0"
   -- a row, and what follows it

@@ -1,10 +1,11 @@
 -- More worlds, each of which shows one thing that `list` does.
 use Rattle.std.specs.Prelude.{◌≡◌, ◌++◌, ℕ, false, List, [], ◌∷◌, Option, Some, None, codes}
 use Rattle.page.specs.Asked.{Name, Reply, absent, bytes, folder_file, mod_file, too_long}
-use Rattle.page.specs.Files.RowFiles.{alone_text, both_text, ends_text, excluding_text, forking_text, going, malformed_text, module_line, one_text, path_of, replacing_text, requiring, three_text, two_text, unfetchable_text, folders_text, greater_text, hosts_text, late_text, later_text, lesser_text, many_text, nine_text, unknown_text}
+use Rattle.page.specs.Files.RowFiles.{alone_text, both_text, ends_text, excluding_text, forking_text, going, malformed_text, module_line, one_text, path_of, replacing_text, requiring, three_text, two_text, unfetchable_text, folders_text, greater_text, hosts_text, late_text, later_text, lesser_text, many_text, nine_text, unknown_text, full_file}
 use Rattle.page.specs.ListQuery.{ListEnds}
 use Rattle.page.specs.Reading.{declares}
-use Rattle.page.specs.Types.{sums_text}
+use Rattle.page.specs.Run.{AreTooMany, run_of}
+use Rattle.page.specs.Types.{sums_text, twice_text}
 use Rattle.page.specs.Worlds.{HasNoOutcome, failing, failing_with, given_by, given_with, printing, reporting}
 
 -- the text is printed
@@ -135,9 +136,12 @@ malformed_answers =
     ∷ answer (codes "b") malformed_text ∷ []
 
 -- A malformed file has a line and a kind, and is a fault even of a version that has no row; so is a missing file.
-abbrev pub MalformedIsReported : Type 0
-MalformedIsReported = IsReportedAs three_text malformed_answers
-    (codes "example.com/b@v1.0.0: Malformed 3 WrongArguments\nexample.com/c@v1.0.0: Missing\n")
+-- A folder's file may be malformed, too.
+pub record MalformedIsReported : Type 0 where
+  pub both : IsReportedAs three_text malformed_answers
+      (codes "example.com/b@v1.0.0: Malformed 3 WrongArguments\nexample.com/c@v1.0.0: Missing\n")
+  pub folder : IsReportedAs replacing_text ((folder_file (codes "../local"), bytes malformed_text) ∷ [])
+      (codes "local@v0.0.0: Malformed 3 WrongArguments\n")
 
 abbrev pub own_answers : List (Name × Reply)
 own_answers =
@@ -160,6 +164,7 @@ pub record OwnPathIsLeftOut : Type 0 where
   pub after_third : OwnPrints (Some (codes "example.com/k")) None (codes "example.com/z v1.0.0\n")
   pub after_last : OwnPrints (Some (codes "example.com/z")) None []
   pub limited : OwnPrints None (Some 2) (codes "example.com/m\nexample.com/a v1.0.0\n")
+  pub three : OwnPrints None (Some 3) (codes "example.com/m\nexample.com/a v1.0.0\nexample.com/k v1.0.0\n")
   pub none : OwnPrints None (Some 0) []
   pub both : OwnPrints (Some (codes "example.com/m")) (Some 1) (codes "example.com/a v1.0.0\n")
 
@@ -245,6 +250,9 @@ sums_answers =
     bare_answer (codes "a") (codes "v1.0.0") ∷ bare_answer (codes "b") (codes "v1.1.0")
     ∷ bare_answer (codes "c") (codes "v1.0.0") ∷ []
 
+abbrev pub two_missing : List (Name × Reply)
+two_missing = (a_name, absent) ∷ (name_at (codes "b") (codes "v1.0.0"), absent) ∷ []
+
 -- A go.sum lists a file, does not list the second, and lists another hash of the third. One that is invalid is
 -- reported.
 pub record SumsAreReported : Type 0 where
@@ -252,7 +260,19 @@ pub record SumsAreReported : Type 0 where
       (codes "example.com/b@v1.1.0: NoSum\nexample.com/c@v1.0.0: SumDiffers\n"))
   pub invalid : ListEnds None None (given_with alone_text (Some (codes "a b\n")) [])
       (reporting (codes "go.sum:1: BadSum\n"))
+  -- each line of a file counts; a folder's file has none
+  pub twice : ListEnds None None (given_with one_text (Some twice_text) (a_bare ∷ [])) (reporting
+      (codes "example.com/a@v1.0.0: SumDiffers\n"))
+  pub folder : ListEnds None None (given_with replacing_text (Some sums_text) folder_answers) (printing
+      (codes "example.com/m\nlocal v0.0.0 => ../local\n"))
+  -- the main file is read first; a file of no bytes has a hash; one that is missing is so, listed or not
+  pub both : ListEnds None None (given_with [] (Some (codes "a b\n")) []) (reporting (codes "go.mod:0: NoModule\n"))
+  pub empty : ListEnds None None (given_with one_text (Some sums_text) (answer (codes "a") [] ∷ [])) (reporting
+      (codes "example.com/a@v1.0.0: SumDiffers\n"))
+  pub missing : ListEnds None None (given_with two_text (Some sums_text) two_missing) (reporting
+      (codes "example.com/a@v1.0.0: Missing\nexample.com/b@v1.0.0: Missing\n"))
 
--- Its main file requires one module too many.
-abbrev pub TooManyAreReported : Type 0
-TooManyAreReported = IsReportedAs many_text [] (codes "gomod: TooMany\n")
+-- A main file requires one module too many, and one as many as may be opened.
+pub record TooManyAreReported : Type 0 where
+  pub over : IsReportedAs many_text [] (codes "gomod: TooMany\n")
+  pub full : AreTooMany (run_of full_file None []) → ⊥
