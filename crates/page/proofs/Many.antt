@@ -6,15 +6,16 @@ use Rattle.std.specs.List.{AllByRecursion, IsDistinct}
 use Rattle.std.proofs.lemmas.Bool.{false_from_ne_true}
 use Rattle.std.proofs.lemmas.Fmt.{decimal_injective}
 use Rattle.std.proofs.lemmas.List.{append_cancel_left}
+use Rattle.page.specs.Asked.{Name, Reply}
 use Rattle.page.specs.Files.{main_in}
 use Rattle.page.specs.Files.RowFiles.{at, full_file, many_file, many_text, versions_below}
 use Rattle.page.specs.Main.{Main, without_excluded}
 use Rattle.page.specs.ModuleVersion.{ModuleVersion, pair_eq}
 use Rattle.page.specs.Queries.{too_many}
 use Rattle.page.specs.Run.{AreTooMany, IsDeep, IsOpened, IsTop, Requires, Run, answered, from_deep, from_main, from_top, run_of, sound}
-use Rattle.page.specs.Types.{Misreading, Unknown}
-use Rattle.page.specs.Worlds.Rows.{TooManyAreReported}
-use Rattle.page.proofs.Ending.{all_read}
+use Rattle.page.specs.Types.{Misreading, Missing, Unknown}
+use Rattle.page.specs.Worlds.Rows.{TooManyAreReported, all_absent}
+use Rattle.page.proofs.Ending.{IsReadable, all_read}
 use Rattle.page.proofs.Members.{few_members, most_opened, pair_same, text_itself}
 
 abbrev version : ℕ → ModuleVersion
@@ -56,8 +57,8 @@ chosen b = if b then Ok many_file else Err (1, Unknown)
 is_main : main_in many_text ≡ Ok many_file
 is_main = ap chosen (text_itself many_text)
 
-are_too_many : AreTooMany (run_of many_file None [])
-are_too_many = (
+are_too_many : (asked : List (Name × Reply)) → AreTooMany (run_of many_file None asked)
+are_too_many asked = (
   versions_below (suc most_opened),
   subst (λ (n : ℕ). most_opened < n) (sym (length_is (suc most_opened))) (omega arith),
   record {
@@ -65,6 +66,13 @@ are_too_many = (
     each = λ x there. inl (subst (λ (xs : List ModuleVersion). Contains xs x) (sym (none_excluded (versions_below (suc most_opened)))) there);
   },
 )
+
+abbrev many_absent : List (Name × Reply)
+many_absent = all_absent (versions_below (suc most_opened))
+
+absent_read : (xs : List ModuleVersion) → AllByRecursion (IsReadable None) (all_absent xs)
+absent_read [] = tt
+absent_read (x ∷ xs) = (λ name. (Err Missing, refl), absent_read xs)
 
 -- ---- as many as may be opened
 
@@ -95,6 +103,9 @@ not_too_many (xs, over, are) =
 
 pub too_many_are_reported : TooManyAreReported
 too_many_are_reported = record {
-  over = too_many many_file None (record { main_file = is_main; sums = tt }) (all_read many_file None [] tt) are_too_many refl refl;
+  over = too_many many_file None (record { main_file = is_main; sums = tt }) (all_read many_file None [] tt)
+      (are_too_many []) refl refl;
+  asked = too_many many_file None (record { main_file = is_main; sums = tt })
+      (all_read many_file None many_absent (absent_read (versions_below (suc most_opened)))) (are_too_many many_absent) refl refl;
   full = not_too_many;
 }

@@ -42,7 +42,7 @@ unfolding is_fetchable digits
 replaces_are_told = all_hold replace_worlds
     ((refl, refl, refl), ((refl, refl, refl), ((refl, refl, refl), ((refl, refl, refl), ((refl, refl, refl),
     ((refl, refl, refl), ((refl, refl, refl), ((refl, refl, refl), ((refl, refl, refl), ((refl, refl, refl),
-    tt))))))))))
+    ((refl, refl, refl), tt)))))))))))
 
 pub texts_are_told : TextsAreTold
 unfolding is_fetchable digits

@@ -218,6 +218,9 @@ replace_worlds =
         (Err (codes "a.org@v1.0.0: WrongPath\n"))
     ∷ world (main_of (a ∷ []) [] (path_by a.0 (by_module b) ∷ [])) (held_as b (dep (Some a.0) (1, 16) []) ∷ [])
         (Ok (codes "m\na.org v1.0.0 => b.org v1.0.0\n"))
+    -- what a file requires of a module that isn't opened is not opened, though its path would be right for that
+    ∷ world (main_of (b ∷ []) [] (path_by a.0 (by_module b) ∷ [])) (held_as b (dep (Some a.0) (1, 16) (c ∷ [])) ∷ [])
+        (Err (codes "b.org@v1.0.0: WrongPath\n"))
     ∷ []
 
 -- ---- paths and texts

@@ -1,8 +1,9 @@
 -- More worlds, each of which shows one thing that `list` does.
-use Rattle.std.specs.Prelude.{◌≡◌, ◌++◌, ℕ, false, List, [], ◌∷◌, Option, Some, None, codes}
+use Rattle.std.specs.Prelude.{◌≡◌, ◌++◌, ℕ, false, List, [], ◌∷◌, map, Option, Some, None, codes}
 use Rattle.page.specs.Asked.{Name, Reply, absent, bytes, folder_file, mod_file, too_long}
-use Rattle.page.specs.Files.RowFiles.{alone_text, both_text, ends_text, excluding_text, forking_text, going, malformed_text, module_line, one_text, path_of, replacing_text, requiring, three_text, two_text, unfetchable_text, folders_text, greater_text, hosts_text, late_text, later_text, lesser_text, many_text, nine_text, unknown_text, full_file}
+use Rattle.page.specs.Files.RowFiles.{alone_text, both_text, ends_text, excluding_text, forking_text, going, malformed_text, module_line, one_text, path_of, replacing_text, requiring, three_text, two_text, unfetchable_text, folders_text, greater_text, hosts_text, late_text, later_text, lesser_text, many_text, nine_text, unknown_text, full_file, versions_below}
 use Rattle.page.specs.ListQuery.{ListEnds}
+use Rattle.page.specs.ModuleVersion.{ModuleVersion}
 use Rattle.page.specs.Reading.{declares}
 use Rattle.page.specs.Run.{AreTooMany, run_of}
 use Rattle.page.specs.Types.{sums_text, twice_text}
@@ -272,7 +273,12 @@ pub record SumsAreReported : Type 0 where
   pub missing : ListEnds None None (given_with two_text (Some sums_text) two_missing) (reporting
       (codes "example.com/a@v1.0.0: Missing\nexample.com/b@v1.0.0: Missing\n"))
 
--- A main file requires one module too many, and one as many as may be opened.
+-- No file of these modules is there.
+abbrev pub all_absent : List ModuleVersion → List (Name × Reply)
+all_absent = map (λ (x : ModuleVersion). (mod_file x.0 x.1, absent))
+
+-- A main file requires one module too many, whether files were asked for or not, and one as many as may be opened.
 pub record TooManyAreReported : Type 0 where
   pub over : IsReportedAs many_text [] (codes "gomod: TooMany\n")
+  pub asked : IsReportedAs many_text (all_absent (versions_below 65537)) (codes "gomod: TooMany\n")
   pub full : AreTooMany (run_of full_file None []) → ⊥
