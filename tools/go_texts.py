@@ -97,6 +97,8 @@ def odd_line(some, line):
         if form == "comment":
             words[at] = f"{word} // {told['piece']}" if at == len(words) - 1 else word
             told["way"] = "character" if at == len(words) - 1 else "none"
+        elif form == "string" and told["piece"] in '"\\':  # another word of MORE has an escape
+            words[at], told["way"], told["form"] = word, "none", "comment"
         elif form == "string":
             words[at] = f'"{words[at]}"'
     elif way == "word" and part in WORDS:
