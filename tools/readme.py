@@ -121,7 +121,8 @@ def files_in(room):
     for folder, folders, names in os.walk(room):
         for path in (os.path.join(folder, it) for it in [*folders, *names]):
             is_link, is_folder = os.path.islink(path), os.path.isdir(path)
-            content = os.readlink(path) if is_link else "a folder" if is_folder else read(path)
+            content = (os.readlink(path) if is_link else "a folder" if is_folder
+                       else read(path) if os.path.isfile(path) else "a pipe")
             found[os.path.relpath(path, room)] = content
     return found
 
