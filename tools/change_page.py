@@ -90,7 +90,10 @@ def listed(part, is_equal):
 
 def changes(page):
     """All changes: those that are listed, and those by rule."""
-    wrong, rest = CHANGES.read_text().split(EQUAL)
+    text = CHANGES.read_text()
+    if text.count(EQUAL) != 1 or text.count(UNSHOWN) != 1:
+        sys.exit(f"change-page: {CHANGES} has a block that lacks a mark or has one twice:\n{EQUAL}{UNSHOWN}")
+    wrong, rest = text.split(EQUAL)
     equal, unshown = rest.split(UNSHOWN)
     found = [*listed(wrong, False), *listed(equal, True)]
     marked = {line for line in unshown.split("\n") if "⟪" in line}
