@@ -224,6 +224,9 @@ class Documents:
         text = re.sub(r"example/[\w-]+\.mod", "stranger/go.mod", text)
         commands = ['cp() { command cp -a stranger/. "${@: -1}"; }', "seq() { echo 1 2; }"]
         commands += [it for it in re.findall(r"(?m)^    \$ (.*)", text) if not absent([it])]
+        # a folder with a link that leads out of it
+        commands += ["mkdir $scratch/linked && ln -s $PWD/stranger $scratch/linked/rsc.io",
+                     "example/fetch-missing.sh stranger/go.mod $scratch/linked file://$PWD/example/cache/download"]
         # without a prompt, but writing a file
         commands += [f"cp $TMPDIR && cd $TMPDIR && {it}" for it in re.findall(r"(?m)^    (\w.* > .*)", text)]
         with scratch_room() as room:
