@@ -2,7 +2,7 @@
 
     tools/change-page.sh                  lists the changes, each with its number, its definition and its file, and
                                           compares their counts with those in docs/proof/HEADLINE.md, and what is said
-                                          of the worlds, and tools/evaluate_cases.antt, with what is computed
+                                          of the worlds, and tools/evaluate_cases.txt, with what is computed
     tools/change-page.sh NUMBER..         tries these
     tools/change-page.sh --all            tries all, which takes some 20 minutes of CPU time
     tools/change-page.sh --some SECONDS   tries as many as fit into so many seconds of CPU time, others for each commit

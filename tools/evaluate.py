@@ -6,7 +6,7 @@ a world has; `ListEnds after limit run OUTCOME` gives each outcome that the defi
 computed as one near 12, so that worlds with too many modules can be tried. That a world has no other outcome is no proof:
 of unknown lists those are tried that have all members, in the orders that the definitions compare by, or lack one.
 
-tools/evaluate_cases.antt has facts of which it is known whether they hold.
+tools/evaluate_cases.txt has facts of which it is known whether they hold.
 """
 
 import functools
@@ -18,7 +18,7 @@ import sys
 from definitions import Module, Node, Unreadable
 
 PAGE = pathlib.Path("crates/page")
-CASES = pathlib.Path("tools/evaluate_cases.antt")
+CASES = pathlib.Path("tools/evaluate_cases.txt")
 OWN = "Rattle.page.specs."
 MANY, FEW = 65536, 12  # the bound of the definitions, and what it is computed as
 sys.setrecursionlimit(6000)
