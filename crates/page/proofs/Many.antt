@@ -98,7 +98,7 @@ all_kept (x ∷ xs) = ap (λ (ys : List ModuleVersion). x ∷ ys) (all_kept xs)
 not_too_many : AreTooMany full → ⊥
 not_too_many (xs, over, are) =
     let all = few_members xs (versions_below most_opened) are.once
-        (λ x there. subst (λ (ys : List ModuleVersion). Contains ys x) (all_kept (versions_below most_opened)) (top_of x (are.each x there))) in
+    (λ x there. subst (λ (ys : List ModuleVersion). Contains ys x) (all_kept (versions_below most_opened)) (top_of x (are.each x there))) in
     omega (arith, all, length_is most_opened, over)
 
 pub too_many_are_reported : TooManyAreReported

@@ -21,34 +21,100 @@ all_hold (w ∷ ws) are =
 
 pub go_versions_are_told : GoVersionsAreTold
 unfolding is_fetchable digits
-go_versions_are_told = all_hold go_worlds
-    ((refl, refl, refl), ((refl, refl, refl), ((refl, refl, refl), ((refl, refl, refl), ((refl, refl, refl),
-    ((refl, refl, refl), ((refl, refl, refl), tt)))))))
+go_versions_are_told = all_hold go_worlds (
+  (refl, refl, refl),
+  (
+    (refl, refl, refl),
+    (
+      (refl, refl, refl),
+      (
+        (refl, refl, refl),
+        (
+          (refl, refl, refl),
+          ((refl, refl, refl), ((refl, refl, refl), tt)),
+        ),
+      ),
+    ),
+  ),
+)
 
 pub orders_are_told : OrdersAreTold
 unfolding is_fetchable digits
-orders_are_told = all_hold order_worlds
-    ((refl, refl, refl), ((refl, refl, refl), ((refl, refl, refl), ((refl, refl, refl), ((refl, refl, refl),
-    ((refl, refl, refl), tt))))))
+orders_are_told = all_hold order_worlds (
+  (refl, refl, refl),
+  (
+    (refl, refl, refl),
+    (
+      (refl, refl, refl),
+      (
+        (refl, refl, refl),
+        (
+          (refl, refl, refl),
+          ((refl, refl, refl), tt),
+        ),
+      ),
+    ),
+  ),
+)
 
 pub excludes_are_told : ExcludesAreTold
 unfolding is_fetchable digits
-excludes_are_told = all_hold exclude_worlds
-    ((refl, refl, refl), ((refl, refl, refl), ((refl, refl, refl), ((refl, refl, refl), ((refl, refl, refl),
-    tt)))))
+excludes_are_told = all_hold exclude_worlds (
+  (refl, refl, refl),
+  (
+    (refl, refl, refl),
+    (
+      (refl, refl, refl),
+      (
+        (refl, refl, refl),
+        (
+          (refl, refl, refl),
+          tt,
+        ),
+      ),
+    ),
+  ),
+)
 
 pub replaces_are_told : ReplacesAreTold
 unfolding is_fetchable digits
-replaces_are_told = all_hold replace_worlds
-    ((refl, refl, refl), ((refl, refl, refl), ((refl, refl, refl), ((refl, refl, refl), ((refl, refl, refl),
-    ((refl, refl, refl), ((refl, refl, refl), ((refl, refl, refl), ((refl, refl, refl), ((refl, refl, refl),
-    ((refl, refl, refl), tt)))))))))))
+replaces_are_told = all_hold replace_worlds (
+  (refl, refl, refl),
+  (
+    (refl, refl, refl),
+    (
+      (refl, refl, refl),
+      (
+        (refl, refl, refl),
+        (
+          (refl, refl, refl),
+          (
+            (refl, refl, refl),
+            (
+              (refl, refl, refl),
+              (
+                (refl, refl, refl),
+                (
+                  (refl, refl, refl),
+                  (
+                    (refl, refl, refl),
+                    ((refl, refl, refl), tt),
+                  ),
+                ),
+              ),
+            ),
+          ),
+        ),
+      ),
+    ),
+  ),
+)
 
 pub texts_are_told : TextsAreTold
 unfolding is_fetchable digits
 texts_are_told = record {
   worlds = all_hold path_worlds
-    ((refl, refl, refl), ((refl, refl, refl), ((refl, refl, refl), ((refl, refl, refl), tt))));
+      ((refl, refl, refl), ((refl, refl, refl), ((refl, refl, refl), ((refl, refl, refl), tt))));
   rows = refl;
   faults = refl;
 }

@@ -140,10 +140,10 @@ go_worlds =
     ∷ world (needs (a ∷ [])) (own a (3, 0) (b ∷ []) ∷ []) (Ok (codes "m\na.org v1.0.0\nb.org v1.0.0\n"))
     -- a folder's file at the top is pruned like any other
     ∷ world (main_of (a ∷ []) [] (path_by a.0 (Folder (codes "./a")) ∷ [])) (folder (codes "./a") (1, 17) (b ∷ []) ∷ [])
-        (Ok (codes "m\na.org v1.0.0 => ./a\nb.org v1.0.0\n"))
+    (Ok (codes "m\na.org v1.0.0 => ./a\nb.org v1.0.0\n"))
     -- the main module's own path is opened at the top
     ∷ world (main_of (first (codes "m") ∷ []) [] (path_by (codes "m") (Folder (codes "./own")) ∷ []))
-        (folder (codes "./own") (1, 16) (d ∷ []) ∷ plain d ∷ []) (Ok (codes "m\nd.org v1.0.0\n"))
+    (folder (codes "./own") (1, 16) (d ∷ []) ∷ plain d ∷ []) (Ok (codes "m\nd.org v1.0.0\n"))
     ∷ []
 
 -- ---- orders
@@ -156,22 +156,22 @@ abbrev pub order_worlds : List World
 order_worlds =
     -- the second number counts before the third
     world (needs (a ∷ [])) (wants (c_at (codes "v1.1.0") ∷ c_at (codes "v1.0.9") ∷ []))
-        (Ok (codes "m\na.org v1.0.0\nc.org v1.1.0\n"))
+    (Ok (codes "m\na.org v1.0.0\nc.org v1.1.0\n"))
     -- and the third before the pre-release
     ∷ world (needs (a ∷ [])) (wants (c_at (codes "v1.0.1-9") ∷ c ∷ [])) (Ok (codes "m\na.org v1.0.0\nc.org v1.0.1-9\n"))
     -- the first number is one, too
     ∷ world (needs (a ∷ [])) (wants (c_at (codes "v2.0.0+incompatible") ∷ c_at (codes "v10.0.0+incompatible") ∷ []))
-        (Ok (codes "m\na.org v1.0.0\nc.org v10.0.0+incompatible\n"))
+    (Ok (codes "m\na.org v1.0.0\nc.org v10.0.0+incompatible\n"))
     -- paths are ordered by their bytes, not by their lengths, and a dash comes before a slash
     ∷ world (needs (b ∷ first (codes "a.org/x/y") ∷ first (codes "a.org/x-y") ∷ []))
-        (plain b ∷ plain (first (codes "a.org/x/y")) ∷ plain (first (codes "a.org/x-y")) ∷ [])
-        (Ok (codes "m\na.org/x-y v1.0.0\na.org/x/y v1.0.0\nb.org v1.0.0\n"))
+    (plain b ∷ plain (first (codes "a.org/x/y")) ∷ plain (first (codes "a.org/x-y")) ∷ [])
+    (Ok (codes "m\na.org/x-y v1.0.0\na.org/x/y v1.0.0\nb.org v1.0.0\n"))
     ∷ world (needs (b ∷ first (codes "a.org/x/y") ∷ first (codes "a.org/x-y") ∷ []))
-        (plain b ∷ gone (first (codes "a.org/x/y")) ∷ gone (first (codes "a.org/x-y")) ∷ [])
-        (Err (codes "a.org/x-y@v1.0.0: Missing\na.org/x/y@v1.0.0: Missing\n"))
+    (plain b ∷ gone (first (codes "a.org/x/y")) ∷ gone (first (codes "a.org/x-y")) ∷ [])
+    (Err (codes "a.org/x-y@v1.0.0: Missing\na.org/x/y@v1.0.0: Missing\n"))
     -- only the main module's own path has no row
     ∷ world (main_of (first (codes "m/sub") ∷ []) [] (path_by (codes "m/sub") (Folder (codes "./sub")) ∷ []))
-        (folder (codes "./sub") (1, 17) [] ∷ []) (Ok (codes "m\nm/sub v1.0.0 => ./sub\n"))
+    (folder (codes "./sub") (1, 17) [] ∷ []) (Ok (codes "m\nm/sub v1.0.0 => ./sub\n"))
     ∷ []
 
 -- ---- excludes and replaces
@@ -180,13 +180,13 @@ abbrev pub exclude_worlds : List World
 exclude_worlds =
     -- one version is excluded, no later one, no earlier one, and no module below
     world (main_of (c_at (codes "v1.2.0") ∷ []) (c_at (codes "v1.1.0") ∷ []) []) (plain (c_at (codes "v1.2.0")) ∷ [])
-        (Ok (codes "m\nc.org v1.2.0\n"))
+    (Ok (codes "m\nc.org v1.2.0\n"))
     ∷ world (main_of (c ∷ []) (c_at (codes "v1.1.0") ∷ []) []) (plain c ∷ []) (Ok (codes "m\nc.org v1.0.0\n"))
     ∷ world (main_of (first (codes "c.org/sub") ∷ []) (c ∷ []) []) (plain (first (codes "c.org/sub")) ∷ [])
-        (Ok (codes "m\nc.org/sub v1.0.0\n"))
+    (Ok (codes "m\nc.org/sub v1.0.0\n"))
     -- an exclude is one of the left side, replaced or not
     ∷ world (main_of (a ∷ []) (b ∷ []) (one_by a (by_module b) ∷ [])) (plain b ∷ [])
-        (Ok (codes "m\na.org v1.0.0 => b.org v1.0.0\n"))
+    (Ok (codes "m\na.org v1.0.0 => b.org v1.0.0\n"))
     ∷ world (main_of (c ∷ []) (c ∷ []) (one_by c (Folder (codes "./c")) ∷ [])) [] (Ok (codes "m\n"))
     ∷ []
 
@@ -194,33 +194,33 @@ abbrev pub replace_worlds : List World
 replace_worlds =
     -- a replace of one version replaces no later one, and one of a path no module below
     world (main_of (c_at (codes "v1.2.0") ∷ []) [] (one_by (c_at (codes "v1.1.0")) (Folder (codes "./c")) ∷ []))
-        (plain (c_at (codes "v1.2.0")) ∷ []) (Ok (codes "m\nc.org v1.2.0\n"))
+    (plain (c_at (codes "v1.2.0")) ∷ []) (Ok (codes "m\nc.org v1.2.0\n"))
     ∷ world (main_of (mv (codes "c.org/v2") (codes "v2.0.0") ∷ []) [] (path_by c.0 (Folder (codes "./c")) ∷ []))
-        (plain (mv (codes "c.org/v2") (codes "v2.0.0")) ∷ []) (Ok (codes "m\nc.org/v2 v2.0.0\n"))
+    (plain (mv (codes "c.org/v2") (codes "v2.0.0")) ∷ []) (Ok (codes "m\nc.org/v2 v2.0.0\n"))
     -- a right side is not replaced again
     ∷ world (main_of (a ∷ []) [] (path_by a.0 (by_module b) ∷ path_by b.0 (Folder (codes "./b")) ∷ [])) (plain b ∷ [])
-        (Ok (codes "m\na.org v1.0.0 => b.org v1.0.0\n"))
+    (Ok (codes "m\na.org v1.0.0 => b.org v1.0.0\n"))
     -- what another module alone requires is replaced, too, and a pre-release
     ∷ world (main_of (a ∷ []) [] (path_by b.0 (Folder (codes "./b")) ∷ []))
-        (own a (1, 16) (b ∷ []) ∷ folder (codes "./b") (1, 16) [] ∷ [])
-        (Ok (codes "m\na.org v1.0.0\nb.org v1.0.0 => ./b\n"))
+    (own a (1, 16) (b ∷ []) ∷ folder (codes "./b") (1, 16) [] ∷ [])
+    (Ok (codes "m\na.org v1.0.0\nb.org v1.0.0 => ./b\n"))
     ∷ world (main_of (c_at (codes "v1.0.0-9") ∷ []) [] (path_by c.0 (Folder (codes "./c")) ∷ []))
-        (folder (codes "./c") (1, 16) [] ∷ []) (Ok (codes "m\nc.org v1.0.0-9 => ./c\n"))
+    (folder (codes "./c") (1, 16) [] ∷ []) (Ok (codes "m\nc.org v1.0.0-9 => ./c\n"))
     -- the right side may have the same path, or be an absolute folder
     ∷ world (main_of (c ∷ []) [] (path_by c.0 (by_module (c_at (codes "v1.2.0"))) ∷ []))
-        (plain (c_at (codes "v1.2.0")) ∷ []) (Ok (codes "m\nc.org v1.0.0 => c.org v1.2.0\n"))
+    (plain (c_at (codes "v1.2.0")) ∷ []) (Ok (codes "m\nc.org v1.0.0 => c.org v1.2.0\n"))
     ∷ world (main_of (a ∷ []) [] (path_by a.0 (Folder (codes "/nowhere/a")) ∷ []))
-        ((folder_file (codes "/nowhere/a"), None) ∷ []) (Err (codes "a.org@v1.0.0: Missing\n"))
+    ((folder_file (codes "/nowhere/a"), None) ∷ []) (Err (codes "a.org@v1.0.0: Missing\n"))
     -- a replacing module's file declares a path, which is one of the two
     ∷ world (main_of (a ∷ []) [] (path_by a.0 (by_module b) ∷ [])) (held_as b (dep (Some d.0) (1, 16) []) ∷ [])
-        (Err (codes "a.org@v1.0.0: WrongPath\n"))
+    (Err (codes "a.org@v1.0.0: WrongPath\n"))
     ∷ world (main_of (a ∷ []) [] (path_by a.0 (by_module b) ∷ [])) (held_as b (dep None (1, 17) []) ∷ [])
-        (Err (codes "a.org@v1.0.0: WrongPath\n"))
+    (Err (codes "a.org@v1.0.0: WrongPath\n"))
     ∷ world (main_of (a ∷ []) [] (path_by a.0 (by_module b) ∷ [])) (held_as b (dep (Some a.0) (1, 16) []) ∷ [])
-        (Ok (codes "m\na.org v1.0.0 => b.org v1.0.0\n"))
+    (Ok (codes "m\na.org v1.0.0 => b.org v1.0.0\n"))
     -- what a file requires of a module that isn't opened is not opened, though its path would be right for that
     ∷ world (main_of (b ∷ []) [] (path_by a.0 (by_module b) ∷ [])) (held_as b (dep (Some a.0) (1, 16) (c ∷ [])) ∷ [])
-        (Err (codes "b.org@v1.0.0: WrongPath\n"))
+    (Err (codes "b.org@v1.0.0: WrongPath\n"))
     ∷ []
 
 -- ---- paths and texts
@@ -229,20 +229,20 @@ abbrev pub path_worlds : List World
 path_worlds =
     -- a path above the module's, or one below it, is a wrong one
     world (needs (a ∷ first (codes "c.org/sub") ∷ []))
-        (held_as a (dep (Some (codes "a.org/sub")) (1, 16) [])
-        ∷ held_as (first (codes "c.org/sub")) (dep (Some c.0) (1, 16) []) ∷ [])
-        (Err (codes "a.org@v1.0.0: WrongPath\nc.org/sub@v1.0.0: WrongPath\n"))
+    (held_as a (dep (Some (codes "a.org/sub")) (1, 16) [])
+    ∷ held_as (first (codes "c.org/sub")) (dep (Some c.0) (1, 16) []) ∷ [])
+    (Err (codes "a.org@v1.0.0: WrongPath\nc.org/sub@v1.0.0: WrongPath\n"))
     -- the dot stands in the first element, where each byte counts, and there may be two
     ∷ world (needs (first (codes "a.b.c/x") ∷ first (codes "a_b.com/x") ∷ first (codes "corp/a.b")
-        ∷ first (codes "eXample.com/a") ∷ []))
-        (gone (first (codes "a.b.c/x")) ∷ [])
-        (Err (codes "a.b.c/x@v1.0.0: Missing\na_b.com/x@v1.0.0: NotFetchable\ncorp/a.b@v1.0.0: NotFetchable\n"
-        ++ codes "eXample.com/a@v1.0.0: NotFetchable\n"))
+    ∷ first (codes "eXample.com/a") ∷ []))
+    (gone (first (codes "a.b.c/x")) ∷ [])
+    (Err (codes "a.b.c/x@v1.0.0: Missing\na_b.com/x@v1.0.0: NotFetchable\ncorp/a.b@v1.0.0: NotFetchable\n"
+    ++ codes "eXample.com/a@v1.0.0: NotFetchable\n"))
     -- a version's plus sign is shown, and is part of its file's name
     ∷ world (needs (c_at (codes "v2.0.0+incompatible") ∷ [])) (plain (c_at (codes "v2.0.0+incompatible")) ∷ [])
-        (Ok (codes "m\nc.org v2.0.0+incompatible\n"))
+    (Ok (codes "m\nc.org v2.0.0+incompatible\n"))
     ∷ world (needs (c_at (codes "v2.0.0+incompatible") ∷ [])) (gone (c_at (codes "v2.0.0+incompatible")) ∷ [])
-        (Err (codes "c.org@v2.0.0+incompatible: Missing\n"))
+    (Err (codes "c.org@v2.0.0+incompatible: Missing\n"))
     ∷ []
 
 -- ---- all
