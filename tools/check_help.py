@@ -3,10 +3,11 @@ command, each operation of edit, and nothing else.
 
     tools/check-help.sh
 
-Of share/man/gomod.1 it reads the forms of SYNOPSIS and the lists of COMMANDS, OPTIONS and OPERATIONS. It calls the
+Of share/man/gomod.1 it reads the forms of SYNOPSIS and the lists of COMMANDS, OPTIONS and OPERATIONS. What else the
+man page and all help say, limits, statuses and examples, was read side by side, and has a checksum here. It calls the
 completion for bash, and reads those for zsh and fish, so neither of them has to be installed. Then it completes lines
 in bash, and in zsh and fish where they are installed (tools/completions.py): folders, also after a comma, go's cache,
-and the paths of a go.mod.
+and the paths of a go.mod, also after an operation's `=`.
 
 It needs bin/gomod (./build makes it), bash and python3. It prints each difference, what was compared, and what was
 skipped for want of which shell. The status is 1 if there is a difference.
@@ -18,9 +19,11 @@ import subprocess
 
 import completions
 import script
-from script import read
+from script import checksum, read
 
 MAN = "share/man/gomod.1"
+# what the man page and all help say, when they were last read beside one another: who changes one reads them again
+READ = "vsilrvlv"
 BASH, ZSH, FISH = (f"share/completions/{it}" for it in ("gomod.bash", "_gomod", "gomod.fish"))
 HELP = {"-h", "--help"}
 
@@ -35,6 +38,11 @@ class Known:
         self.options.setdefault(command, set()).update(options)
 
 
+def help_of(*command):
+    """What --help prints of a command."""
+    return subprocess.run(["bin/gomod", *command, "--help"], capture_output=True, text=True, check=True).stdout
+
+
 def section(text, head):
     """The lines of help below a head, up to the next head."""
     found = re.search(rf"(?ms)^{head}:\n(.*?)(?=^\S|\Z)", text)
@@ -43,9 +51,6 @@ def section(text, head):
 
 def from_help():
     """What --help shows."""
-
-    def help_of(*command):
-        return subprocess.run(["bin/gomod", *command, "--help"], capture_output=True, text=True, check=True).stdout
 
     def options_of(text):
         found = re.findall(r"(?m)^ {2,6}(?:(-\w), )?(--[\w-]+)", section(text, "Options"))
@@ -182,6 +187,10 @@ def main():
     wrong += compare_all(BASH, wanted, from_bash(wanted.commands))
     wrong += compare_all(ZSH, wanted, from_zsh())
     wrong += compare_all(FISH, wanted, from_fish(wanted.commands))
+    said = checksum(read(MAN) + "".join(help_of(*it.split()) for it in ["", *sorted(wanted.commands - {"help"})]))
+    if said != READ:
+        wrong += 1
+        print(f"{MAN} or --help has changed: read both, limits, statuses and examples too, and set READ to {said}")
     counts = len(wanted.commands), sum(map(len, wanted.options.values())), len(wanted.operations)
     print("%d commands, %d options and %d operations" % counts, end=", ")
     print(f"in the man page and three completions: {wrong} wrong")

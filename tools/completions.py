@@ -33,6 +33,12 @@ require ( // two
 \t"rsc.io/quote" v1.5.2
 )
 
+\trequire example.com/four v1.0.0
+
+require(
+\texample.com/three v1.0.0
+)
+
 replace example.com/replaced => ./first
 """
 # What is typed before TAB, a bar, and the line that it becomes. HOME is the path of the home.
@@ -49,11 +55,22 @@ gomod versions --proxy HOME/go/pkg/mo|gomod versions --proxy HOME/go/pkg/mod
 gomod graph --mod mai|gomod graph --mod main.mod
 gomod chain rs|gomod chain rsc.io/quote
 gomod chain example.com/o|gomod chain example.com/one
-gomod versions example.com/t|gomod versions example.com/two
+gomod versions example.com/tw|gomod versions example.com/two
 gomod list --after rs|gomod list --after rsc.io/quote
 gomod chain example.com/rep|gomod chain example.com/rep
 gomod chain example.com/com|gomod chain example.com/com
 gomod edit go.mod dropreq|gomod edit go.mod droprequire=
+gomod edit go.mod droprequire=rs|gomod edit go.mod droprequire=rsc.io/quote
+gomod edit go.mod go=1.22 require=example.com/o|gomod edit go.mod go=1.22 require=example.com/one
+gomod edit go.mod replace=rs|gomod edit go.mod replace=rsc.io/quote
+gomod edit go.mod go=rs|gomod edit go.mod go=rs
+gomod chain example.com/th|gomod chain example.com/three
+gomod chain example.com/f|gomod chain example.com/four
+gomod chain 'rs|gomod chain 'rsc.io/quote
+gomod chain "example.com/o|gomod chain "example.com/one
+gomod versions --proxy ../first rs|gomod versions --proxy ../first rsc.io/quote
+gomod list --limit 3 --prox|gomod list --limit 3 --proxy
+gomod list --limit rs|gomod list --limit rs
 """
 PAIRS = [it.split("|") for it in LINES.strip().split("\n")]
 # Beside the good path a.b/c, and as the only folder: no file `ran` may appear.
@@ -61,12 +78,13 @@ HOSTILE = ("$(id>ran)", "`id>ran`", "a;id>ran;", "a|id>ran", "a&id>ran", "<(id>r
            "-m", "a'b", 'a"b', "a\\b", "a\nid>ran")
 # What is typed there before TAB and Enter, and the words that gomod is given.
 BESIDE = (("chain ", "chain a.b/c"), ("list --proxy ", "list --proxy TEXT"), ("list --proxy ./", "list --proxy ./TEXT"),
-          ("list --proxy x,", "list --proxy x,TEXT"), ("list --proxy x\\|", "list --proxy x|TEXT"))
+          ("list --proxy x,", "list --proxy x,TEXT"), ("list --proxy x\\|", "list --proxy x|TEXT"),
+          ("edit go.mod droprequire=", "edit go.mod droprequire=a.b/c"))
 
 
 def lay_room(room):
     """Lays the files of the scratch folder."""
-    for it in ("module", "first", "second", "'quo\nted", "home/go/pkg/mod/cache/download"):
+    for it in ("module", "first", "second", "'quo\nted", "home/go/pkg/mod/cache/download", "kept/cache/download"):
         os.makedirs(f"{room}/{it}")
     os.mkfifo(f"{room}/first/go.mod")
     for name in ("go.mod", "main.mod"):
@@ -160,8 +178,13 @@ def differences(shell, room):
             typed, wanted = (re.sub("HOME", f"{room}/home", it) for it in (typed, wanted))
             came = "".join(shell.completed(typed))
             # what follows a completed word, a slash, a quote or a blank, is the shell's affair
-            if came.rstrip(" /'") != wanted:
+            if came.rstrip(" /'\"") != wanted:
                 yield typed, came, wanted
+        shell.completed(f"export GOMODCACHE={room}/kept; gomod", "\r")
+        came = "".join(shell.completed("gomod list --proxy "))
+        if came.rstrip("/ ") != f"gomod list --proxy {room}/kept/cache/download":
+            yield "gomod list --proxy (with GOMODCACHE)", came, "end with kept/cache/download"
+        shutil.rmtree(f"{room}/kept")
         shutil.rmtree(f"{room}/home/go")
         shell.completed(f"cd {room}/first; gomod", "\r")
         if shell.completed("gomod chain ", "\r") != ["chain"]:
@@ -186,7 +209,7 @@ def differences(shell, room):
 def main():
     """Completes all lines in all shells."""
     tried = [it for it in SHELLS if shutil.which(it)]
-    wrong, count = 0, len(PAIRS) + len(HOSTILE) * len(BESIDE)
+    wrong, count = 0, len(PAIRS) + 1 + len(HOSTILE) * len(BESIDE)
     with contextlib.ExitStack() as rooms, concurrent.futures.ThreadPoolExecutor() as pool:
         begun = [rooms.enter_context(tempfile.TemporaryDirectory(prefix="gomod-completion-")) for _ in tried]
         for room in begun:

@@ -95,6 +95,13 @@ _gomod() {
             return
             ;;
         --limit) return ;;
+        droprequire | require | replace)
+            if [[ -n $is_value && $command == edit && $plain -gt 0 ]]; then
+                _gomod_paths "$current"
+                compopt -o nospace 2> /dev/null
+            fi
+            return
+            ;;
     esac
     [[ -z $is_value ]] || return
 

@@ -42,6 +42,17 @@ function __gomod_paths
         /^[ \t]*require[ \t]*\(/ { block = 1 }'
 end
 
+# Whether an operation stands here whose `=` isn't typed yet.
+function __gomod_needs_operation
+    test (count (commandline -opc)) -gt 2; and not string match -q '*=*' -- (commandline -ct)
+end
+
+# These modules after the `=` of some operations.
+function __gomod_values
+    set -l verb (commandline -ct | string match -r '^(?:droprequire|require|replace)=')
+    and string replace -r '^' $verb -- (__gomod_paths)
+end
+
 complete -c gomod -f
 
 complete -c gomod -n __fish_use_subcommand -a list -d 'Print the build list'
@@ -70,6 +81,8 @@ complete -c gomod -n '__fish_seen_subcommand_from chain versions' -d Module -a '
 # the first word after edit is the file, the others are operations
 complete -c gomod -n '__fish_seen_subcommand_from fmt' -F
 complete -c gomod -n '__fish_seen_subcommand_from edit; and test (count (commandline -opc)) -eq 2' -F
-complete -c gomod -n '__fish_seen_subcommand_from edit; and test (count (commandline -opc)) -gt 2' -d Operation \
+complete -c gomod -n '__fish_seen_subcommand_from edit; and __gomod_needs_operation' -d Operation \
     -a 'module= go= require= droprequire= exclude= dropexclude= replace= dropreplace= retract= dropretract='
+complete -c gomod -n '__fish_seen_subcommand_from edit; and test (count (commandline -opc)) -gt 2' -d Module \
+    -a '(__gomod_values)'
 complete -c gomod -n '__fish_seen_subcommand_from help' -a 'list graph chain versions fmt edit'
