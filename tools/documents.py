@@ -160,7 +160,7 @@ class Sources:
         if one.visibility == "pub" or block and (block.trait or block.kind == "trait"):
             for it in within:
                 self.public[crate, it].add(one.name)
-        if "laws" in parts or crate == "gomod_laws":
+        if "laws" in parts or crate.endswith("_laws"):
             self.laws.add(one.name)
 
     def read_definitions(self, path):

@@ -41,7 +41,7 @@ HINTS = "gomod_words/src/hints.rt"
 # what stands for a word in the command that a tip shows
 PLACE = r"\b(PATH|VERSION|FOLDER|FILE|DIR|OP)\b"
 # crates that no program or library of users is made of
-ASIDE = "gomod_case_* gomod_laws gomod_tests library_example page run_cases".split()
+ASIDE = "gm_file_edit_laws gomod_case_* gomod_laws gomod_tests library_example page run_cases".split()
 DIRECTIVES = "module go require replace exclude retract"
 # files in which these words are something else, and what
 OTHERWISE = {

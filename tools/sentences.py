@@ -51,7 +51,7 @@ def public_functions():
     found = collections.defaultdict(list)
     for path in files("src/**/*.rt"):
         crate = path.parts[1]
-        is_law = crate == WHOLE or "laws" in path.with_suffix("").parts
+        is_law = crate.endswith("_laws") or "laws" in path.with_suffix("").parts
         for one in items_of(path.read_text()):
             if one.kind == "fn" and one.visibility == "pub":
                 stated = re.sub(r"(?m)^[ \t]*//.*\n", "", one.contract).removesuffix("{}").removesuffix("{")

@@ -1,5 +1,5 @@
 -- The loops that find the position of a new entry, and the insertion of lines.
-use Rattle.std.proofs.Common.{◌≡◌, ℕ, suc, ◌+◌, ◌<◌, ◌≤◌, Bool, true, false, List, [], ◌∷◌, ◌++◌, length, take, drop, Option, Some, None, is_some, refl, sym, ap, ◌∙◌, append-nil, append_assoc, arith}
+use Rattle.std.proofs.Common.{◌≡◌, ℕ, suc, ◌+◌, ◌<◌, ◌≤◌, Bool, true, false, List, [], ◌∷◌, ◌++◌, length, take, drop, Option, None, is_some, refl, sym, ap, ◌∙◌, append-nil, append_assoc, arith}
 use Rattle.std.specs.Prelude.{if◌then◌else◌, insert}
 use Rattle.std.proofs.lemmas.List.{drop_all, length-append, length-take-le, take-append-drop, take_all, take_more}
 use Rattle.gm_syntax.specs.Tokens.{Placed}
@@ -9,8 +9,7 @@ use Rattle.gm_file.specs.Faults.{is_module}
 use Rattle.gm_file_edit.specs.Edited.{after_closing, after_first_of}
 use Rattle.gm_file_edit.specs.declared.adding.Spot.{Spot}
 use Rattle.gm_file_edit.specs.NewWords.{entry_at}
-use Rattle.gm_file_edit.specs.Holding.{directive_at, passes, is_there}
-use Rattle.gm_file_edit.specs.GoPlace.{is_loose}
+use Rattle.gm_file_edit.specs.Holding.{directive_at, passes, is_there, is_loose}
 use Rattle.gm_file_edit.specs.Private.Keys.{key_at}
 use Rattle.gm_file_edit.specs.Private.Marks.{IsAdditionSpot, line_at}
 use Rattle.gm_file_edit.specs.declared.keys.Key.{Key}

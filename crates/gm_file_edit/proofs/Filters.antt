@@ -1,6 +1,6 @@
 -- Filters of lists, and tests of what they leave.
 use Rattle.std.proofs.Common.{◌≡◌, ◌&&◌, not, Bool, true, false, List, [], ◌∷◌, refl, sym, ap, ◌∙◌, inl, inr}
-use mathlib.Core.Bool.{and_comm, and_self}
+use mathlib.Core.Bool.{and_self}
 use Rattle.std.specs.Prelude.{filter}
 use Rattle.std.specs.List.{list_any}
 use Rattle.std.proofs.lemmas.Bool.{and_right, cases_Bool, not-true, or_from, or_parts}
@@ -12,7 +12,7 @@ filter-one p x xs e = rw e
 pub filter-none : {X : Type 0} (p : X → Bool) (x : X) (xs : List X) → p x ≡ false → filter p (x ∷ xs) ≡ filter p xs
 filter-none p x xs e = rw e
 
-filter-filter : {X : Type 0} (p q : X → Bool) (xs : List X) → filter p (filter q xs) ≡ filter (λ x. q x && p x) xs
+pub filter-filter : {X : Type 0} (p q : X → Bool) (xs : List X) → filter p (filter q xs) ≡ filter (λ x. q x && p x) xs
 filter-filter p q [] = refl
 filter-filter {X} p q (x ∷ xs) = elim (cases_Bool (q x)) [
   | inl hit ↦ rw (hit, filter-filter p q xs)
@@ -81,22 +81,6 @@ others-none test xs = none-filtered test (others test) (λ x e. not-true (test x
 
 pub none-of-others : {X : Type 0} (test : X → Bool) (xs : List X) → filter test (filter (others test) xs) ≡ []
 none-of-others test xs = no-filter test (filter (others test) xs) (others-none test xs)
-
--- what passes a test is not lost among the others of a test that excludes it
-pub among-others : {X : Type 0} (test other : X → Bool) → ((x : X) → (test x && other x) ≡ false) → (xs : List X)
-    → filter test (filter (others other) xs) ≡ filter test xs
-among-others test other apart xs = filter-filter test (others other) xs
-    ∙ filter_agree (λ x. others other x && test x) test (λ x. beside (test x) (other x) (apart x)) xs
-  where
-    beside : (a b : Bool) → (a && b) ≡ false → (not b && a) ≡ a
-    beside true true e = absurd cc
-    beside true false e = refl
-    beside false true e = refl
-    beside false false e = refl
-
--- two filters in either order
-pub filters-swap : {X : Type 0} (p q : X → Bool) (xs : List X) → filter p (filter q xs) ≡ filter q (filter p xs)
-filters-swap p q xs = filter-filter p q xs ∙ filter_agree (λ x. q x && p x) (λ x. p x && q x) (λ x. and_comm (q x) (p x)) xs ∙ sym (filter-filter q p xs)
 
 -- filtering a second time changes nothing
 pub others-twice : {X : Type 0} (test : X → Bool) (xs : List X) → filter (others test) (filter (others test) xs) ≡ filter (others test) xs

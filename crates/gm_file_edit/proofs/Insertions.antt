@@ -13,10 +13,9 @@ use Rattle.gm_file.proofs.DirectiveVerbs.{directive-verb, same-verb}
 use Rattle.gm_file_edit.specs.Edited.{with_addition, after_closing, after_first_of, after_last_of, has_verb, new_entry, put_in}
 use Rattle.gm_file_edit.specs.Edits.{Edit, Target, Set, ModuleIs, GoIs, RequireAt, ReplaceWith, Add, Exclude, Retract, Drop}
 use Rattle.gm_file_edit.specs.Holding.{directive_at, passes, is_there, item_of}
-use Rattle.gm_file_edit.specs.Laws.{directives_of}
 use Rattle.gm_file_edit.specs.NewWords.{entry_at, made_word, single}
 use Rattle.gm_file_edit.specs.Private.Marks.{IsOfVerb}
-use Rattle.gm_file_edit.proofs.Pairs.{block-append, file-held, held_from, IsSound, put-line}
+use Rattle.gm_file_edit.proofs.Pairs.{block-append, held_from, IsSound, put-line}
 use Rattle.gm_syntax.specs.Bare.{new_word}
 use Rattle.gm_syntax.specs.LineViews.{plain}
 use Rattle.gm_syntax.proofs.Changes.{blank_stands}
@@ -43,9 +42,6 @@ pub there-is : (test : Directive → Bool) (block : Option Placed) (lines : List
     → is_there test block lines ≡ list_any test (held_from block lines)
 there-is test block [] = refl
 there-is test block (line ∷ lines) = rw (there-is test (block_after_line block line) lines) (sym (any-held test (directive_at block line) _))
-
-pub there-said : (test : Directive → Bool) (lines : List (Line Placed)) → is_there test None lines ≡ list_any test (directives_of lines)
-there-said test lines = there-is test None lines ∙ ap (list_any test) (sym (file-held lines))
 
 -- a line that holds a directive leaves the open block open
 pub passing-level : (test : Directive → Bool) (block : Option Placed) (line : Line Placed)

@@ -12,8 +12,7 @@ use Rattle.gm_syntax.specs.Tokens.{Placed}
 use Rattle.gm_file.specs.Directives.{Strict, block_after_line, block_after_lines, item_at, with_blocks_from}
 use Rattle.gm_file.specs.Faults.{item_kinds}
 use Rattle.gm_file.proofs.Snoc.{with_blocks-snoc}
-use Rattle.gm_file_edit.specs.GoPlace.{is_loose}
-use Rattle.gm_file_edit.specs.Holding.{item_of}
+use Rattle.gm_file_edit.specs.Holding.{item_of, is_loose}
 use Rattle.gm_file_edit.specs.declared.keys.Key.{Key}
 use Rattle.gm_file_edit.specs.Private.Keys.{held_subject, key_at, key_with, keys_from}
 use Rattle.gm_file_edit.specs.Private.Marks.{line_at, unmarked}

@@ -18,13 +18,7 @@ pub mod EditedSound
 pub mod Places
 pub mod Seats
 pub mod Said
-pub mod SaidAfter
-pub mod Comments
 pub mod Untouched
-pub mod Additions
-pub mod Twice
-pub mod Undone
-pub mod EitherOrder
 pub mod KeyedChanges
 pub mod NewKeys
 pub mod WordKeys

@@ -1,17 +1,16 @@
 -- The keys of lines that an operation puts in or rewrites, and the marks of lines, which are at entries.
-use Rattle.std.proofs.Common.{◌≡◌, ℕ, zero, suc, ◌<◌, Bool, true, false, List, [], ◌∷◌, length, take, set, Option, Some, None, is_some, refl, sym, ap, ◌∙◌, arith, inl, inr}
+use Rattle.std.proofs.Common.{◌≡◌, ℕ, zero, suc, ◌<◌, Bool, true, false, List, [], ◌∷◌, length, take, set, Option, Some, None, is_some, refl, ap, ◌∙◌, arith, inl, inr}
 use Rattle.std.specs.Prelude.{IfSome, take_while, not}
 use Rattle.std.proofs.lemmas.Bool.{cases_Bool}
 use Rattle.gm_syntax.specs.Tokens.{Placed}
 use Rattle.gm_syntax.specs.Document.{Line, Blank, Comment, Open, Close, Entry}
 use Rattle.gm_file.specs.Directives.{Directive, block_after_line, block_after_lines, item_at}
 use Rattle.gm_file_edit.specs.About.{about}
-use Rattle.gm_file_edit.specs.Edits.{Edit, Setting, Set, ModuleIs, GoIs, RequireAt, ReplaceWith, Add, Exclude, Retract, Drop}
-use Rattle.gm_file_edit.specs.GoPlace.{is_loose}
-use Rattle.gm_file_edit.specs.Holding.{directive_at, passes}
-use Rattle.gm_file_edit.specs.Kinds.{directive_set, is_fit}
+use Rattle.gm_file_edit.specs.Edits.{Edit, Setting, Set, Add, Drop}
+use Rattle.gm_file_edit.specs.Holding.{directive_at, passes, is_loose}
+use Rattle.gm_file_edit.specs.Kinds.{is_fit}
 use Rattle.gm_file_edit.specs.declared.keys.Key.{Key}
-use Rattle.gm_file_edit.specs.Private.Keys.{IsKeyedEntry, Subject, held_subject, key_at, key_with, subject_of, target_of_edit}
+use Rattle.gm_file_edit.specs.Private.Keys.{IsKeyedEntry, Subject, key_at, key_with, subject_of, target_of_edit}
 use Rattle.gm_file_edit.specs.Private.Marks.{AreAtEntries, line_at, marks_from}
 use Rattle.gm_file_edit.specs.Renewing.{made_new}
 use Rattle.gm_file_edit.specs.Sound.{IsSoundEdit, addition_of, setting_of}
@@ -28,12 +27,8 @@ use Rattle.gm_file_edit.proofs.Walking.{right-at}
 -- ---- what an operation puts in is what it targets
 
 put-subjects : (edit : Edit) → IfSome (put_by edit) (λ d. subject_of d ≡ target_of_edit edit)
-put-subjects (Set (ModuleIs path)) = refl
-put-subjects (Set (GoIs text)) = refl
-put-subjects (Set (RequireAt p)) = refl
-put-subjects (Set (ReplaceWith r)) = refl
-put-subjects (Add (Exclude p)) = refl
-put-subjects (Add (Retract ends)) = refl
+put-subjects (Set s) = refl
+put-subjects (Add a) = refl
 put-subjects (Drop t) = tt
 
 pub key-about : (edit : Edit) (entry : List ℕ × List Placed) {key : Key} → key ≡ key_with (target_of_edit edit) false → entry_put edit ≡ Some entry

@@ -3,12 +3,12 @@ use Rattle.std.proofs.Common.{◌≡◌, ℕ, suc, ◌+◌, ◌-◌, ◌<◌, �
 use Rattle.std.specs.Prelude.{not, take_while}
 use Rattle.std.specs.List.{list_any, prefix_len, swap}
 use Rattle.std.proofs.lemmas.List.Edits.{swap_is}
-use Rattle.std.proofs.lemmas.List.{drop-drop, drop-set-lt, get_or_default, length-drop, length-set, length-take-le, take_all, take_more, take_more_set, take-set-le}
+use Rattle.std.proofs.lemmas.List.{drop-drop, drop-set-lt, get_or_default, length-set, length-take-le, take_more, take_more_set, take-set-le}
 use Rattle.gm_syntax.specs.Layout.{is_blank_line}
 use Rattle.gm_syntax.specs.LineViews.{plain}
 use Rattle.gm_syntax.specs.Tokens.{Placed}
 use Rattle.gm_syntax.specs.Document.{Line, Blank, Comment, Open, Close, Entry}
-use Rattle.gm_file_edit.specs.Fates.{Fate, empties, fate_by, kept_lines, remaining, widened_from}
+use Rattle.gm_file_edit.specs.Fates.{Fate, empties, fate_by, remaining, widened_from}
 use Rattle.gm_file_edit.specs.Private.Marks.{AreAtEntries, fates_of, line_at, unmarked}
 use Rattle.gm_file_edit.proofs.Seats.{kept-lines}
 use Rattle.gm_file_edit.proofs.Untouched.{all-lines-stay, all_stay}
@@ -131,9 +131,6 @@ widen-more {whole} {old} n {block} next_block {behind} next_behind {mark} next_m
             append_assoc front (fate_by next_mark (line_at whole n) ∷ []) after,
           ) (rw (mark_here, line-here whole n lt, step) at so.left);
     }
-
-pub rest-of : {X : Type 0} (xs : List X) (n : ℕ) → take (length xs - n) (drop n xs) ≡ drop n xs
-rest-of xs n = let rest = length-drop n xs in take_all (length xs - n) (drop n xs) (omega (arith, rest))
 
 -- a line without a mark
 pub widen-line : {whole : List (Line Placed)} (old : List Bool) (n : ℕ) {block : Option Bool} (next_block : Option Bool)

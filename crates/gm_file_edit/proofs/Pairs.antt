@@ -9,7 +9,7 @@ use Rattle.gm_syntax.specs.Tokens.{Placed}
 use Rattle.gm_syntax.specs.Document.{Line, Blank, Comment, Open, Close, Entry, IsValidLine, IsDocument, inside_after, inside_after_all, start}
 use Rattle.gm_syntax.specs.LineViews.{plain, plain_lines}
 use Rattle.gm_syntax.proofs.Changes.{AreValidFrom, lines_stand, standing_lines}
-use Rattle.gm_file.specs.Directives.{Strict, Directive, LineInBlock, block_after_line, block_after_lines, directives, directive_said, with_blocks, with_blocks_from}
+use Rattle.gm_file.specs.Directives.{Strict, Directive, LineInBlock, block_after_line, block_after_lines, directive_said, with_blocks, with_blocks_from}
 use Rattle.gm_file.specs.Faults.{fault_of, is_module, item_kinds}
 use Rattle.gm_file.specs.Pairwise.{IsRightAlone}
 use Rattle.gm_file.proofs.Pairwise.{AreApart, AreRightApart, IsClear, apart-faultless, apart-with, faultless-apart}
@@ -34,11 +34,6 @@ held_in seats = filter_map held_at seats
 -- the directives that lines hold, given the verb of the open block, if any
 abbrev pub held_from : Option Placed → List (Line Placed) → List Directive
 held_from block lines = held_in (with_blocks_from block lines)
-
-pub held-append : (block : Option Placed) (front back : List (Line Placed))
-    → held_from block (front ++ back) ≡ held_from block front ++ held_from (block_after_lines block front) back
-held-append block front back = ap held_in (with_blocks-snoc block front back)
-    ∙ filter_map-append held_at (with_blocks_from block front) (with_blocks_from (block_after_lines block front) back)
 
 -- a line can be in its place and has no fault by itself
 abbrev pub IsRightLine : Seat → Type 0
@@ -80,15 +75,11 @@ inside-plain block (Entry words suffix) e = e
 abbrev AreAlone : Option Word → List (Line Word) → Type 0
 AreAlone block lines = AllByRecursion IsRightAlone (with_blocks_from block lines)
 
-plain-held : (block : Option Placed) (lines : List (Line Placed))
+pub plain-held : (block : Option Placed) (lines : List (Line Placed))
     → filter_map (directive_said Strict) (with_blocks_from (option_map word_of block) (plain_lines lines))
     ≡ held_in (with_blocks_from block lines)
 plain-held block [] = refl
 plain-held block (line ∷ lines) = rw (block-plain block line, plain-held (block_after_line block line) lines)
-
--- the directives of a file
-pub file-held : (lines : List (Line Placed)) → directives Strict (plain_lines lines) ≡ held_from None lines
-file-held lines = plain-held None lines
 
 right-lines : {inside : Bool} (block : Option Placed) (lines : List (Line Placed)) → inside ≡ is_some block
     → AreValidFrom inside (plain_lines lines) → inside_after_all inside (plain_lines lines) ≡ false

@@ -1,5 +1,5 @@
 -- What operations target, by subjects and by keys: no line is passed over that an operation targets.
-use Rattle.std.proofs.Common.{◌≡◌, ◌&&◌, ◌||◌, ℕ, not, Bool, true, false, List, [], ◌∷◌, Option, Some, None, is_none, is_some, refl, sym, ap, ◌∙◌, inl, inr}
+use Rattle.std.proofs.Common.{◌≡◌, ◌&&◌, ◌||◌, ℕ, Bool, true, false, List, [], ◌∷◌, Option, Some, None, is_none, is_some, refl, sym, ap, ◌∙◌, inl, inr}
 use Rattle.std.specs.Prelude.{nat_eq}
 use Rattle.std.specs.List.{list_any}
 use Rattle.std.specs.Str.{bytes_eq}
@@ -11,13 +11,13 @@ use Rattle.gm_syntax.specs.Document.{Line}
 use Rattle.gm_file.specs.declared.verb.Verb.{Verb}
 use Rattle.gm_file.specs.declared.verb.Verb.TheVariants.{Module as ForModule, Unknown}
 use Rattle.gm_file.specs.Directives.{Directive, Requires, Excludes, Replaces, Retracts, Left, block_after_line, is_of_verb, verb_eq, verb_of_directive}
-use Rattle.gm_file.specs.Faults.{is_module, is_same_left, is_same_version}
+use Rattle.gm_file.specs.Faults.{is_module, is_same_version}
 use Rattle.gm_file.proofs.DirectiveVerbs.{same-verb}
 use Rattle.gm_file.proofs.Indexed.{same-version}
 use Rattle.gm_file_edit.specs.About.{about, is_covered_by}
 use Rattle.gm_file_edit.specs.Edits.{Edit, Set, ModuleIs, GoIs, RequireAt, Drop, AnyRequire, Add, Exclude, AnyExclude, ReplaceWith, AnyReplace, Retract, AnyRetract}
 use Rattle.gm_file_edit.specs.Holding.{directive_at, is_there, passes}
-use Rattle.gm_file_edit.specs.Private.Keys.{Subject, agrees, are_texts, held_subject, is_about, key_at, key_with, keys_from, text_number, subject_of, takes_any_version, target_of_edit}
+use Rattle.gm_file_edit.specs.Private.Keys.{Subject, agrees, are_texts, held_subject, is_about, key_with, keys_from, text_number, subject_of, takes_any_version, target_of_edit}
 
 -- ---- operations by subjects
 

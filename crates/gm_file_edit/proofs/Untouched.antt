@@ -2,24 +2,15 @@
 use Rattle.std.proofs.Common.{◌≡◌, ◌&&◌, Bool, true, false, List, [], ◌∷◌, ◌++◌, map, Option, Some, None, is_none, refl, sym, ap, ◌∙◌, append-nil, inl, inr}
 use Rattle.gm_syntax.specs.Tokens.{Placed}
 use Rattle.gm_syntax.specs.Document.{Line, Blank, Comment, Open, Close, Entry}
-use Rattle.gm_file.specs.Directives.{Directive, block_after_line}
 use Rattle.gm_file_edit.specs.About.{about}
 use Rattle.gm_file_edit.specs.Edited.{with_change, lines_after, put_in}
-use Rattle.gm_file_edit.specs.Edits.{Edit, Set, Add, Drop}
-use Rattle.gm_file_edit.specs.Kinds.{is_drop}
-use Rattle.gm_file_edit.specs.Fates.{Fate, without_targets, dropping_from, empties, is_emptied, kept_lines, remaining, widened_from}
-use Rattle.gm_file_edit.specs.Holding.{directive_at, passes, is_there}
-use Rattle.std.proofs.lemmas.Bool.{and_right, cases_Bool, or_parts}
+use Rattle.gm_file_edit.specs.Edits.{Edit}
+use Rattle.gm_file_edit.specs.Fates.{Fate, empties, is_emptied, kept_lines, remaining, widened_from}
+use Rattle.gm_file_edit.specs.Holding.{is_there}
+use Rattle.std.proofs.lemmas.Bool.{and_right, cases_Bool}
 
 abbrev pub all_stay : List (Line Placed) → List Fate
 all_stay lines = map (λ line. Some line) lines
-
-pub none-dropped-from : (test : Directive → Bool) (block : Option Placed) (lines : List (Line Placed))
-    → is_there test block lines ≡ false → dropping_from test block lines ≡ all_stay lines
-none-dropped-from test block [] e = refl
-none-dropped-from test block (line ∷ lines) e =
-    let parts = or_parts (passes test (directive_at block line)) (is_there test (block_after_line block line) lines) e in
-    rw (parts.0, none-dropped-from test (block_after_line block line) lines parts.1)
 
 -- lines that stay empty no block, before fates that empty none
 empties-none : (fates : List Fate) → empties false fates ≡ false → (lines : List (Line Placed)) → empties false (all_stay lines ++ fates) ≡ false
@@ -61,9 +52,6 @@ pub all-lines-stay : (lines : List (Line Placed)) → remaining (all_stay lines)
 unfolding remaining
 all-lines-stay lines = all-lines-left false lines
 
-pub none-dropped : (test : Directive → Bool) (lines : List (Line Placed)) → is_there test None lines ≡ false → without_targets test lines ≡ lines
-none-dropped test lines e = ap remaining (none-dropped-from test None lines e) ∙ all-lines-stay lines
-
 -- ---- the lines after an operation
 
 -- what holds whether an operation targets a directive or none
@@ -75,11 +63,3 @@ by-edited P edit lines there none = elim (cases_Bool (is_there (about edit) None
   | inl is ↦ rw is (there is)
   | inr not_there ↦ rw not_there (none not_there)
 ]
-
--- a drop
-pub edited-drop : (edit : Edit) (lines : List (Line Placed)) → is_drop edit ≡ true → lines_after edit lines ≡ without_targets (about edit) lines
-unfolding with_change put_in
-edited-drop (Drop t) lines e = by-edited (λ ls. ls ≡ without_targets (about (Drop t)) lines) (Drop t) lines
-    (λ there. refl) (λ none. sym (none-dropped (about (Drop t)) lines none))
-edited-drop (Set s) lines e = absurd cc
-edited-drop (Add a) lines e = absurd cc

@@ -1,27 +1,20 @@
 -- What an entry is about, by its words.
-use Rattle.std.proofs.Common.{◌≡◌, ℕ, suc, ◌+◌, ◌-◌, ◌<◌, ◌≤◌, ◌&&◌, Bool, true, false, List, [], ◌∷◌, length, get_or, take, drop, Option, Some, None, is_some, refl, sym, ap, ◌∙◌, arith, inl, inr}
-use Rattle.std.specs.Borrow.{Bor}
-use Rattle.std.specs.Option.{option_map}
-use Rattle.std.proofs.lemmas.Option.{same_Some}
+use Rattle.std.proofs.Common.{◌≡◌, ℕ, suc, ◌+◌, ◌-◌, ◌&&◌, Bool, true, false, List, [], ◌∷◌, take, drop, Option, Some, None, is_some, refl, sym, ap, ◌∙◌, arith, inl, inr}
 use Rattle.std.specs.List.{after_first, before_first, position_or_len}
 use Rattle.std.proofs.lemmas.Bool.{cases_Bool}
 use Rattle.gm_name.specs.ModuleVersion.{ModuleVersion}
 use Rattle.gm_syntax.specs.declared.word.Kind.{Kind}
 use Rattle.gm_syntax.specs.declared.word.Kind.TheVariants as kind
 use Rattle.gm_syntax.specs.Words.{Word, HasValue}
-use Rattle.gm_syntax.specs.Tokens.{Placed, words_of}
-use Rattle.gm_syntax.specs.Document.{Line, Blank, Comment, Open, Close, Entry, is_mark}
+use Rattle.gm_syntax.specs.Document.{is_mark}
 use Rattle.gm_syntax.proofs.NewWords.{value_is}
 use Rattle.gm_file.specs.declared.verb.Verb.{Verb}
 use Rattle.gm_file.specs.declared.verb.Verb.TheVariants as verb
-use Rattle.gm_file.specs.Directives.{Strict, Directive, DeclaresModule, DeclaresGo, Requires, Excludes, Replaces, Retracts, Kept, Item, Left, VersionInterval, directive_in, directive_of, ends_of, is_arrow, is_empty_block, is_of_arrow, item_at, left_of, left_with, left_without, main_verb, one_of, pair, pair_of, replacing, replacing_of, right_of}
-use Rattle.gm_file.specs.Faults.{entry_kinds, item_kinds}
+use Rattle.gm_file.specs.Directives.{Strict, Directive, DeclaresModule, DeclaresGo, Requires, Excludes, Replaces, Retracts, Kept, Left, VersionInterval, directive_of, ends_of, is_arrow, is_of_arrow, left_of, left_with, left_without, one_of, pair, pair_of, replacing, replacing_of, right_of}
+use Rattle.gm_file.specs.Faults.{entry_kinds}
 use Rattle.gm_file.specs.Values.{argument, argument_of_kind}
-use Rattle.gm_file_edit.specs.Holding.{item_of}
-use Rattle.gm_file_edit.specs.declared.keys.Key.{Key}
-use Rattle.gm_file_edit.specs.Private.Keys.{Subject, words_held, held_subject, key_at, key_with, subject_of, texts_named}
+use Rattle.gm_file_edit.specs.Private.Keys.{Subject, held_subject, key_with, subject_of, texts_named}
 use Rattle.gm_file_edit.proofs.Feeds.{both-are, map-some}
-use Rattle.gm_file_edit.proofs.Packs.{rest-of}
 
 -- ---- one word
 
@@ -148,77 +141,3 @@ entry-about own words (Some d) says valid = entry-texts own words d says
 pub entry-key : (own : Verb) (words : List Word) (inside : Bool) {named : Texts} → entry_kinds Strict [] own (directive_of own words) ≡ []
     → named ≡ texts_named own words → key_with (subject own named) inside ≡ key_with (held_subject (directive_of own words)) inside
 entry-key own words inside valid is = rw (is, entry-about own words (directive_of own words) refl valid)
-
--- ---- lines
-
-pub no-words : (block : Option (Bor Placed)) (line : Line Placed) {key : Key} {inside : Bool} → words_held line ≡ None
-    → key ≡ key_with (held_subject None) inside → inside ≡ is_some block → key ≡ key_at (option_map (λ t. t.now) block) line
-unfolding item_at
-no-words None Blank none is within = rw (is, within)
-no-words None (Comment text) none is within = rw (is, within)
-no-words None (Open verb suffix) none is within = rw (is, within)
-no-words None (Close suffix) none is within = rw (is, within)
-no-words (Some t) Blank none is within = rw (is, within)
-no-words (Some t) (Comment text) none is within = rw (is, within)
-no-words (Some t) (Open verb suffix) none is within = rw (is, within)
-no-words (Some t) (Close suffix) none is within = rw (is, within)
-no-words block (Entry words suffix) none is within = absurd cc
-
--- what a line with these words says
-pub words-say : (block : Option Placed) (line : Line Placed) {others : List Placed} → words_held line ≡ Some others
-    → item_of block line ≡ item_of block (Entry others None)
-unfolding item_at
-words-say block Blank is = absurd cc
-words-say block (Comment text) is = absurd cc
-words-say block (Open verb suffix) is = absurd cc
-words-say block (Close suffix) is = absurd cc
-words-say (Some verb) (Entry words suffix) {others} is = ap (λ (ws : List Placed). item_of (Some verb) (Entry ws None)) (same_Some words others is)
-words-say None (Entry [] suffix) {others} is = ap (λ (ws : List Placed). item_of None (Entry ws None)) (same_Some [] others is)
-words-say None (Entry (word ∷ words) suffix) {others} is = ap (λ (ws : List Placed). item_of None (Entry ws None)) (same_Some (word ∷ words) others is)
-
-pub words-key : (block : Option Placed) (line : Line Placed) {words : List Placed} → words_held line ≡ Some words
-    → key_at block (Entry words None) ≡ key_at block line
-words-key block line is = ap (λ (item : Item). key_with (held_subject (directive_in Strict item)) (is_some block)) (sym (words-say block line is))
-
--- ---- entries in blocks and outside
-
-module _ (block : Option (Bor Placed)) {t : Bor Placed} (words : List Placed) {own : Verb} (is : block ≡ Some t) (own_is : own ≡ main_verb t.now.word.spelling) where
-  pub inside-valid : item_kinds Strict [] (item_of (option_map (λ t. t.now) block) (Entry words None)) ≡ [] → entry_kinds Strict [] own (directive_of own (words_of words)) ≡ []
-  unfolding item_at
-  inside-valid valid = rw own_is (rw is at valid)
-
-  pub inside-key : key_with (held_subject (directive_of own (words_of words))) true ≡ key_at (option_map (λ t. t.now) block) (Entry words None)
-  unfolding item_at
-  inside-key = rw (is, own_is)
-
-module _ (words : List Placed) {verb : Placed} {arguments : List Placed} {own : Verb} (is : words ≡ verb ∷ arguments) (own_is : own ≡ main_verb verb.word.spelling)
-    (filled : is_empty_block (words_of arguments) ≡ false) where
-  pub outside-valid : item_kinds Strict [] (item_of None (Entry words None)) ≡ [] → entry_kinds Strict [] own (directive_of own (words_of arguments)) ≡ []
-  unfolding item_at
-  outside-valid valid = rw own_is (rw (is, filled) at valid)
-
-  pub outside-key : key_with (held_subject (directive_of own (words_of arguments))) false ≡ key_at None (Entry words None)
-  unfolding item_at
-  outside-key = rw (is, filled, own_is)
-
--- no words, or a block without entries
-pub no-single : (words : List Placed) {key : Key} → words ≡ [] → key ≡ key_with (held_subject None) false → key ≡ key_at None (Entry words None)
-unfolding item_at
-no-single words none is = rw (is, none)
-
-pub whole-block : (words : List Placed) {verb : Placed} {arguments : List Placed} {key : Key} → words ≡ verb ∷ arguments → is_empty_block (words_of arguments) ≡ true
-    → key ≡ key_with (held_subject None) false → key ≡ key_at None (Entry words None)
-unfolding item_at
-whole-block words split empty is = rw (is, split, empty)
-
--- ---- words at their places
-
-pub nil-of : (words : List Placed) → length words < 1 → words ≡ []
-nil-of [] lt = refl
-nil-of (word ∷ words) lt = absurd (omega (arith, lt))
-
-pub split-words : (words : List Placed) {verb : Placed} → 1 ≤ length words → verb ≡ get_or words 0 verb
-    → words ≡ verb ∷ take (length words - 1) (drop 1 words)
-split-words [] le is = absurd (omega (arith, le))
-split-words (word ∷ words) {verb} le is =
-    ap (λ (w : Placed). w ∷ words) (sym is) ∙ ap (λ (rest : List Placed). verb ∷ rest) (sym (rest-of (word ∷ words) 1))

@@ -1,8 +1,9 @@
--- The directive that a line of a file holds, and whether a line holds one that passes a test.
+-- The directive that a line of a file holds, whether a line holds one that passes a test, and whether it opens or
+-- closes a block.
 use Rattle.std.specs.Prelude.{◌||◌, Bool, false, List, [], ◌∷◌, Option, Some, None}
 use Rattle.std.specs.Option.{option_map}
 use Rattle.gm_syntax.specs.Tokens.{Placed}
-use Rattle.gm_syntax.specs.Document.{Line}
+use Rattle.gm_syntax.specs.Document.{Line, is_level}
 use Rattle.gm_syntax.specs.LineViews.{plain}
 use Rattle.gm_file.specs.Directives.{Strict, Directive, Item, block_after_line, item_at, directive_in}
 
@@ -24,3 +25,7 @@ abbrev pub is_there : (Directive → Bool) → Option Placed → List (Line Plac
 is_there test block [] = false
 is_there test block (line ∷ lines) =
     passes test (directive_at block line) || is_there test (block_after_line block line) lines
+
+-- whether a line neither opens nor closes a block
+abbrev pub is_loose : Line Placed → Bool
+is_loose line = is_level (plain line)

@@ -8,7 +8,3 @@ pub mod Private
 pub mod Renewing
 pub mod Sound
 pub mod Edited
-pub mod Laws
-pub mod EditLaws
-pub mod GoPlace
-pub mod Undone

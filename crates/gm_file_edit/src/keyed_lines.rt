@@ -6,7 +6,7 @@ ghost use Rattle.gm_syntax.specs.Document.{Blank, IsDocument};
 ghost use Rattle.gm_syntax.specs.LineViews.{line_of, line_views, plain_lines};
 ghost use Rattle.gm_file.specs.Directives.{Strict, block_after_lines, with_blocks_from};
 ghost use Rattle.gm_file.specs.Faults.{fault_of};
-ghost use Rattle.gm_file_edit.specs.GoPlace.{is_loose};
+ghost use Rattle.gm_file_edit.specs.Holding.{is_loose};
 ghost use Rattle.gm_file_edit.specs.Private.Keys.{key_at, keys_from};
 ghost use Rattle.gm_file_edit.specs.Private.Marks.{line_at, unmarked};
 

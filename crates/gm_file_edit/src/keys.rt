@@ -6,14 +6,13 @@
 
 ghost use Rattle.std.specs.Prelude.{◌≡◌, [], IfOk, None, option_and_then};
 ghost use Rattle.std.specs.Option.{option_map};
-ghost use Rattle.gm_syntax.specs.Document.{Entry as EntryOf};
 ghost use Rattle.gm_syntax.specs.LineViews.{line_of};
 ghost use Rattle.gm_syntax.specs.Tokens.{words_of};
 ghost use Rattle.gm_file.specs.Values.{argument};
-ghost use Rattle.gm_file.specs.Directives.{Strict, directive_of, verb_eq};
-ghost use Rattle.gm_file.specs.Faults.{entry_kinds, item_kinds};
+ghost use Rattle.gm_file.specs.Directives.{Saying, Strict, verb_eq};
+ghost use Rattle.gm_file.specs.Faults.{item_kinds};
 ghost use Rattle.gm_file_edit.specs.Holding.{item_of};
-ghost use Rattle.gm_file_edit.specs.Private.Keys.{agrees, words_held, held_subject, key_at, key_with, text_number, placed, subject_view, texts_named, words_view};
+ghost use Rattle.gm_file_edit.specs.Private.Keys.{agrees, held_subject, item_key, key_at, key_with, text_number, placed, subject_view, texts_named, words_view};
 
 use crate::subject::Subject;
 use gm_file::{Verb, is_empty_block, main_verb};
@@ -144,11 +143,18 @@ fn number_in(alloc: Global, word: Option<&Token>) -> Result<u32, AllocError>
 }
 
 /// The key of a valid entry with this verb and these arguments.
-fn entry_key(alloc: Global, verb: Verb, words: &[Token], inside: bool) -> Result<Key, AllocError>
-    requires { entry_kinds Strict [] verb (directive_of verb (words_of words.now)) ≡ [] }
-    ensures { IfOk result (λ key. key ≡ key_with (held_subject (directive_of verb (words_of words.now))) inside) }
+fn entry_key(
+    alloc: Global,
+    verb: &Token,
+    arguments: &[Token],
+    inside: bool,
+) -> Result<Key, AllocError>
+    requires { item_kinds Strict [] (Saying verb.now.word.spelling (words_of arguments.now)) ≡ [] }
+    ensures { IfOk result (λ key. key
+        ≡ item_key (Saying verb.now.word.spelling (words_of arguments.now)) inside) }
 {
-    let (one, other) = words_about(verb, words);
+    let verb = main_verb(verb.spelling());
+    let (one, other) = words_about(verb, arguments);
     let first = number_in(alloc, one)?;
     let second = number_in(alloc, other)?;
     Ok(Key {
@@ -159,52 +165,28 @@ fn entry_key(alloc: Global, verb: Verb, words: &[Token], inside: bool) -> Result
     })
 }
 
-/// The key of a valid entry of these words outside blocks.
-fn single_key(alloc: Global, words: &[Token]) -> Result<Key, AllocError>
-    requires { item_kinds Strict [] (item_of None (EntryOf words.now None)) ≡ [] }
-    ensures { IfOk result (λ key. key ≡ key_at None (EntryOf words.now None)) }
-{
-    match words {
-        [] => Ok(silent_key(false)),
-        [verb, arguments @ ..] => {
-            if is_empty_block(arguments) {
-                Ok(silent_key(false))
-            } else {
-                entry_key(alloc, main_verb(verb.spelling()), arguments, false)
-            }
-        }
-    }
-}
-
-/// The key of a valid entry of these words.
-fn words_key(alloc: Global, block: Option<&Token>, words: &[Token]) -> Result<Key, AllocError>
-    requires { item_kinds Strict [] (item_of (option_map (λ t. t.now) block) (EntryOf words.now None)) ≡ [] }
-    ensures { IfOk result (λ key. key ≡ key_at (option_map (λ t. t.now) block.entry) (EntryOf words.now None)) }
-{
-    match block {
-        None => single_key(alloc, words),
-        Some(verb) => entry_key(alloc, main_verb(verb.spelling()), words, true),
-    }
-}
-
-/// The words of an entry.
-pub(crate) fn entry_words<'w, 'a>(line: &'w Line<'a>) -> Option<&'w [Token<'a>]>
-    ensures { option_map (λ words. words.now) result ≡ words_held (line_of line.now) }
-{
-    match line {
-        Line::Entry(words, _) => Some(words.as_slice()),
-        Line::Blank | Line::Comment(_) | Line::Open(_, _) | Line::Close(_) => None,
-    }
-}
-
-/// The key of a line of a valid file. Fails only if memory runs out, which strings with escapes take.
+/// The key of a line of a valid file, given the verb of the open block, if any. Fails only if memory runs out, which
+/// strings with escapes take.
+#[tactic(auto, unfolding(gm_file::specs::Directives::item_at))]
 pub(crate) fn key_of(alloc: Global, block: Option<&Token>, line: &Line) -> Result<Key, AllocError>
     requires { item_kinds Strict [] (item_of (option_map (λ t. t.now) block) (line_of line.now)) ≡ [] }
     ensures { IfOk result (λ key. key ≡ key_at (option_map (λ t. t.now) block.entry) (line_of line.now)) }
 {
-    match entry_words(line) {
-        None => Ok(silent_key(block.is_some())),
-        Some(words) => words_key(alloc, block, words),
+    let Line::Entry(words, _) = line else {
+        return Ok(silent_key(block.is_some()));
+    };
+    match block {
+        Some(verb) => entry_key(alloc, verb, words.as_slice(), true),
+        None => match words.as_slice() {
+            [] => Ok(silent_key(false)),
+            [verb, arguments @ ..] => {
+                if is_empty_block(arguments) {
+                    Ok(silent_key(false))
+                } else {
+                    entry_key(alloc, verb, arguments, false)
+                }
+            }
+        },
     }
 }
 

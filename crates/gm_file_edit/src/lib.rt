@@ -17,7 +17,6 @@ mod editor;
 mod fault;
 mod keyed_lines;
 mod keys;
-pub mod laws;
 mod marking;
 mod new_words;
 mod op;

@@ -10,12 +10,12 @@ ghost use Rattle.gm_syntax.specs.Tokens.{words_of};
 ghost use Rattle.gm_file.specs.Faults.{is_same_version};
 ghost use Rattle.gm_file.specs.Values.{argument};
 ghost use Rattle.gm_file_edit.specs.About.{about};
-ghost use Rattle.gm_file_edit.specs.Private.Keys.{agrees, have_texts, hold_texts, subject_view};
+ghost use Rattle.gm_file_edit.specs.Private.Keys.{agrees, have_texts, hold_texts, subject_view, words_held};
 ghost use Rattle.gm_file_edit.specs.Private.Marks.{marks_from};
 ghost use Rattle.gm_file_edit.specs.Sound.{edit_of};
 
 use crate::keyed_lines::KeyedLines;
-use crate::keys::{Key, agrees, entry_words, key_with, words_about};
+use crate::keys::{Key, agrees, key_with, words_about};
 use crate::op::Change;
 use crate::subject::{Subject, takes_any_version, target_of};
 use gm_syntax::{Kind, Line, Token};
@@ -74,6 +74,16 @@ fn have_texts(
         return Ok(true);
     }
     is_value(alloc, second, target.second)
+}
+
+/// The words of an entry.
+fn entry_words<'w, 'a>(line: &'w Line<'a>) -> Option<&'w [Token<'a>]>
+    ensures { option_map (λ words. words.now) result ≡ words_held (line_of line.now) }
+{
+    match line {
+        Line::Entry(words, _) => Some(words.as_slice()),
+        Line::Blank | Line::Comment(_) | Line::Open(_, _) | Line::Close(_) => None,
+    }
 }
 
 /// The arguments of an entry: its words without the verb, which a block has at its opening.

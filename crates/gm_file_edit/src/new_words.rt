@@ -13,14 +13,6 @@ use gm_name::{ModPath, ModVersion};
 use gm_syntax::{Punct, Token};
 use std::alloc::{AllocError, Global};
 
-/// Appends a word.
-fn push_token<'a>(words: &mut Vec<Token<'a>>, word: Token<'a>) -> Result<(), AllocError>
-    ensures { OnOk result (words.new.items ≡ words.old.items ++ word.entry ∷ []) }
-{
-    words.push(word)?;
-    Ok(())
-}
-
 /// Appends the word with this value.
 pub(crate) fn push_word<'a>(
     alloc: Global,
@@ -30,36 +22,16 @@ pub(crate) fn push_word<'a>(
     requires { HasNoLineFeed value.now }
     ensures { OnOk result (words.new.items ≡ words.old.items ++ made_word value.now ∷ []) }
 {
-    push_token(words, Token::spell(alloc, value)?)
+    words.push(Token::spell(alloc, value)?)?;
+    Ok(())
 }
 
 /// Appends a punctuation mark.
 fn push_mark<'a>(alloc: Global, words: &mut Vec<Token<'a>>, punct: Punct) -> Result<(), AllocError>
     ensures { OnOk result (words.new.items ≡ words.old.items ++ made_mark punct ∷ []) }
 {
-    push_token(words, Token::mark(alloc, punct)?)
-}
-
-/// Appends a path.
-fn push_path<'a>(
-    alloc: Global,
-    words: &mut Vec<Token<'a>>,
-    path: &ModPath,
-) -> Result<(), AllocError>
-    ensures { OnOk result (words.new.items ≡ words.old.items ++ made_word path.now ∷ []) }
-{
-    push_word(alloc, words, path.as_str())
-}
-
-/// Appends a version.
-fn push_version<'a>(
-    alloc: Global,
-    words: &mut Vec<Token<'a>>,
-    version: &ModVersion,
-) -> Result<(), AllocError>
-    ensures { OnOk result (words.new.items ≡ words.old.items ++ made_word version.now ∷ []) }
-{
-    push_word(alloc, words, version.as_str())
+    words.push(Token::mark(alloc, punct)?)?;
+    Ok(())
 }
 
 /// Appends a path and a version.
@@ -71,8 +43,8 @@ fn push_pair<'a>(
 ) -> Result<(), AllocError>
     ensures { OnOk result (words.new.items ≡ words.old.items ++ pair_words (path.now, version.now)) }
 {
-    push_path(alloc, words, path)?;
-    push_version(alloc, words, version)
+    push_word(alloc, words, path.as_str())?;
+    push_word(alloc, words, version.as_str())
 }
 
 /// Appends the left side of a `replace`.
@@ -85,7 +57,7 @@ fn push_left<'a>(
     ensures { OnOk result (words.new.items ≡ words.old.items ++ left_words path.now version.now) }
 {
     match version {
-        None => push_path(alloc, words, path),
+        None => push_word(alloc, words, path.as_str()),
         Some(version) => push_pair(alloc, words, path, version),
     }
 }
@@ -165,7 +137,7 @@ fn push_marked<'a>(
     ensures { OnOk result (words.new.items ≡ words.old.items ++ made_mark punct ∷ made_word version.now ∷ []) }
 {
     push_mark(alloc, words, punct)?;
-    push_version(alloc, words, version)
+    push_word(alloc, words, version.as_str())
 }
 
 /// Appends two versions in brackets, with a comma between them.
@@ -193,7 +165,7 @@ pub(crate) fn interval_words<'a>(
 {
     let mut words = Vec::new(alloc);
     if ends.low == ends.high {
-        push_version(alloc, &mut words, &ends.low)?;
+        push_word(alloc, &mut words, ends.low.as_str())?;
     } else {
         push_ends(alloc, &mut words, &ends.low, &ends.high)?;
     }

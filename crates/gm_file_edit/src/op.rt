@@ -9,8 +9,7 @@ ghost use Rattle.gm_file_edit.specs.Private.Sound.{IsParsedPart};
 
 use crate::fault::OpFault;
 use crate::part::{
-    LeftSide, read_go, read_interval, read_left, read_pair, read_path, read_replace,
-    split_at_equals,
+    LeftSide, read_go, read_interval, read_left, read_pair, read_path, read_replace, split_at,
 };
 use gm_file::{Interval, Replace};
 use gm_name::{ModPath, ModVersion};
@@ -134,7 +133,7 @@ impl Op {
         ensures ok { IfOk result (λ op. edit_in text.now ≡ Some op) }
         ensures spelling { IsErrOf result OpFault.Spelling → edit_in text.now ≡ None }
     {
-        let Some((name, argument)) = split_at_equals(text) else {
+        let Some((name, argument)) = split_at(text, '=') else {
             return Err(OpFault::Spelling);
         };
         let change = read_named(alloc, name, argument)?;

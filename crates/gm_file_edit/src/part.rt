@@ -3,13 +3,13 @@
 //! Each `read_` function fails with `OpFault::Spelling` if and only if the text isn't such an argument, unless memory
 //! runs out.
 
-ghost use Rattle.std.specs.Prelude.{◌≡◌, true};
+ghost use Rattle.std.specs.Prelude.{◌≡◌, ◌<◌, true};
 ghost use Rattle.std.specs.String.{string_bytes};
 ghost use Rattle.gm_file.specs.Views.{interval_view, replace_view, right_view};
 ghost use Rattle.gm_file_edit.specs.Edits.{inside_brackets, interval_in, is_bracketed, go_text_in, left_in, pair_in, path_in, replacing_in, right_in, trim, two_versions_in, version_in};
 ghost use Rattle.gm_file_edit.specs.Sound.{left_view};
 ghost use Rattle.gm_file_edit.specs.Private.Sound.{IsParsedPart, split_view};
-ghost use Rattle.gm_operation.specs.Operations.{has_byte, split_at_byte};
+ghost use Rattle.gm_operation.specs.Operations.{split_at_byte};
 
 use crate::fault::OpFault;
 use gm_file::{Interval, Replace, Right, is_folder, strict_go};
@@ -25,32 +25,12 @@ pub(crate) struct LeftSide {
     pub(crate) version: Option<ModVersion>,
 }
 
-/// Splits a text at its first `=`, which is in neither part.
-pub(crate) fn split_at_equals(text: &str) -> Option<(&str, &str)>
-    ensures { split_view result ≡ split_at_byte 61 text.now }
+/// Splits a text at the first of an ASCII character, which is in neither part.
+pub(crate) fn split_at(text: &str, sign: char) -> Option<(&str, &str)>
+    requires { sign < 128 }
+    ensures { split_view result ≡ split_at_byte sign text.now }
 {
-    text.split_once('=')
-}
-
-/// Splits a text at its first `@`, which is in neither part.
-fn split_at_sign(text: &str) -> Option<(&str, &str)>
-    ensures { split_view result ≡ split_at_byte 64 text.now }
-{
-    text.split_once('@')
-}
-
-/// Splits a text at its first comma, which is in neither part.
-fn split_at_comma(text: &str) -> Option<(&str, &str)>
-    ensures { split_view result ≡ split_at_byte 44 text.now }
-{
-    text.split_once(',')
-}
-
-/// Whether a text contains a line feed.
-fn has_line_feed(text: &[u8]) -> bool
-    ensures { result ≡ has_byte 10 text.now }
-{
-    text.iter().any(|b| *b == b'\n')
+    text.split_once(sign)
 }
 
 /// Parses a module path.
@@ -91,7 +71,7 @@ pub(crate) fn read_go(alloc: Global, text: &str) -> Result<String, OpFault>
 pub(crate) fn read_pair(alloc: Global, text: &str) -> Result<(ModPath, ModVersion), OpFault>
     ensures { IsParsedPart (λ pair. pair) (pair_in text.now) result }
 {
-    let Some((path, version)) = split_at_sign(text) else {
+    let Some((path, version)) = split_at(text, '@') else {
         return Err(OpFault::Spelling);
     };
     let path = read_path(alloc, path)?;
@@ -99,19 +79,12 @@ pub(crate) fn read_pair(alloc: Global, text: &str) -> Result<(ModPath, ModVersio
     Ok((path, version))
 }
 
-/// Whether a text contains `@`.
-fn has_at_sign(text: &[u8]) -> bool
-    ensures { result ≡ has_byte 64 text.now }
-{
-    text.iter().any(|b| *b == b'@')
-}
-
 /// Parses the left side of a `replace`: a path, optionally with `@` and a version.
 #[tactic(auto, unfolding(crate::specs::Edits::left_in))]
 pub(crate) fn read_left(alloc: Global, text: &str) -> Result<LeftSide, OpFault>
     ensures { IsParsedPart left_view (left_in text.now) result }
 {
-    if has_at_sign(text.as_bytes()) {
+    if text.as_bytes().contains(&b'@') {
         let (path, version) = read_pair(alloc, text)?;
         return Ok(LeftSide {
             path,
@@ -132,7 +105,7 @@ fn read_right(alloc: Global, text: &str) -> Result<Right, OpFault>
     ensures { IsParsedPart right_view (right_in text.now) result }
 {
     if is_folder(text) {
-        if has_line_feed(text.as_bytes()) {
+        if text.as_bytes().contains(&b'\n') {
             return Err(OpFault::Spelling);
         }
         return Ok(Right::Folder(String::from_str(alloc, text)?));
@@ -146,7 +119,7 @@ fn read_right(alloc: Global, text: &str) -> Result<Right, OpFault>
 pub(crate) fn read_replace(alloc: Global, text: &str) -> Result<Replace, OpFault>
     ensures { IsParsedPart replace_view (replacing_in text.now) result }
 {
-    let Some((left, right)) = split_at_equals(text) else {
+    let Some((left, right)) = split_at(text, '=') else {
         return Err(OpFault::Spelling);
     };
     let LeftSide { path, version } = read_left(alloc, left)?;
@@ -188,7 +161,7 @@ fn inside_brackets(text: &str) -> &str
 fn read_two_versions(alloc: Global, text: &str) -> Result<Interval, OpFault>
     ensures { IsParsedPart interval_view (two_versions_in text.now) result }
 {
-    let Some((low, high)) = split_at_comma(text) else {
+    let Some((low, high)) = split_at(text, ',') else {
         return Err(OpFault::Spelling);
     };
     let low = read_version(alloc, trim(low))?;

@@ -10,7 +10,7 @@ ghost use Rattle.gm_file.specs.Directives.{block_after_lines};
 ghost use Rattle.gm_file.specs.Views.{replace_view};
 ghost use Rattle.gm_file_edit.specs.Edits.{Set};
 ghost use Rattle.gm_file_edit.specs.Fates.{remaining};
-ghost use Rattle.gm_file_edit.specs.GoPlace.{is_loose};
+ghost use Rattle.gm_file_edit.specs.Holding.{is_loose};
 ghost use Rattle.gm_file_edit.specs.Private.Keys.{key_at};
 ghost use Rattle.gm_file_edit.specs.Renewing.{made_new, with_arguments, with_last};
 ghost use Rattle.gm_file_edit.specs.NewWords.{replace_words};

@@ -15,11 +15,11 @@ use Rattle.gm_file_edit.specs.About.{about}
 use Rattle.gm_file_edit.specs.Edited.{lines_after}
 use Rattle.gm_file_edit.specs.Edits.{Edit as Operation, Set, ModuleIs, GoIs, RequireAt, ReplaceWith, Add, Exclude, Retract, Drop, edit_in}
 use Rattle.gm_file_edit.specs.Kinds.{is_fit}
-use Rattle.gm_file_edit.specs.Laws.{IsEditOf, directives_of}
-use Rattle.gm_file_edit.specs.Undone.{undone_by}
-use Rattle.gm_file_edit.proofs.EitherOrder.{either-order}
+use Rattle.gm_file_edit_laws.specs.Laws.{IsEditOf, directives_of}
+use Rattle.gm_file_edit_laws.specs.Undone.{undone_by}
+use Rattle.gm_file_edit_laws.proofs.EitherOrder.{either-order}
 use Rattle.gm_file_edit.proofs.Places.{edited-same}
-use Rattle.gm_file_edit.proofs.Undone.{drop-undoes-layout}
+use Rattle.gm_file_edit_laws.proofs.Undone.{drop-undoes-layout}
 use Rattle.gm_file.specs.Main.{IsMainOf}
 use Rattle.gomod_run.specs.Queries.{longest}
 use Rattle.gomod_run.specs.Outcome.{text_outcome}

@@ -17,7 +17,7 @@ use Rattle.gm_file.specs.Main.{IsMainOf}
 use Rattle.gm_file_edit.specs.Edited.{lines_after}
 use Rattle.gm_file_edit.specs.Edits.{Edit as Operation, edit_in}
 use Rattle.gm_file_edit.specs.Kinds.{is_fit}
-use Rattle.gm_file_edit.specs.Laws.{IsEditOf, directives_of}
+use Rattle.gm_file_edit_laws.specs.Laws.{IsEditOf, directives_of}
 use Rattle.gm_file_edit.proofs.EditedSound.{edited-document}
 use Rattle.gm_file_edit.proofs.Written.{written-sound}
 use Rattle.gomod_run.specs.Edit.{EditEnds, applied, bad_main, lines_after_all, edits_outcome, refusal_of, refusals_from}

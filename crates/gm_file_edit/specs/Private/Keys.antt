@@ -8,13 +8,14 @@ use Rattle.gm_syntax.specs.Document.{Line, Entry}
 use Rattle.gm_syntax.specs.Words.{Word}
 use Rattle.gm_file.specs.Faults.{is_same_version}
 use Rattle.gm_file.specs.Values.{argument}
-use Rattle.gm_file.specs.Directives.{Directive, DeclaresModule, DeclaresGo, Requires, Excludes, Replaces, Retracts, Kept, LineInBlock, verb_eq, with_blocks_from}
+use Rattle.gm_file.specs.Directives.{Directive, DeclaresModule, DeclaresGo, Requires, Excludes, Replaces, Retracts, Item, Kept, LineInBlock, Strict, directive_in, verb_eq, with_blocks_from}
 use Rattle.gm_file.specs.declared.verb.Verb.{Verb}
 use Rattle.gm_file.specs.declared.verb.Verb.TheVariants as verb
 use Rattle.gm_file_edit.specs.declared.keys.Key.{Key}
 use Rattle.gm_file_edit.specs.declared.subject.Subject as declared
-use Rattle.gm_file_edit.specs.Edits.{Edit, Set, ModuleIs, GoIs, RequireAt, Drop, AnyRequire, Add, Exclude, AnyExclude, ReplaceWith, AnyReplace, Retract, AnyRetract}
-use Rattle.gm_file_edit.specs.Holding.{directive_at}
+use Rattle.gm_file_edit.specs.Edits.{Edit, Set, ReplaceWith, Add, Drop, AnyRequire, AnyExclude, AnyReplace, AnyRetract}
+use Rattle.gm_file_edit.specs.Kinds.{directive_added, directive_set}
+use Rattle.gm_file_edit.specs.Holding.{item_of}
 use Rattle.gm_file_edit.specs.NewWords.{entry_at}
 use Rattle.gm_file_edit.specs.Private.Marks.{IsOfVerb}
 
@@ -34,17 +35,13 @@ subject_of (Replaces r) = (verb.Replace, (Some r.0.path, r.0.version))
 subject_of (Retracts ends) = (verb.Retract, (Some ends.0, Some ends.1))
 subject_of Kept = (verb.Nothing, (None, None))
 
--- what the directives are about that an operation targets
+-- what the directives are about that an operation targets: that which it sets or adds, or those that it drops
 abbrev pub target_of_edit : Edit → Subject
-target_of_edit (Set (ModuleIs path)) = (verb.Module, (None, None))
-target_of_edit (Set (GoIs text)) = (verb.Go, (None, None))
-target_of_edit (Set (RequireAt p)) = (verb.Require, (Some p.0, None))
+target_of_edit (Set s) = subject_of (directive_set s)
+target_of_edit (Add a) = subject_of (directive_added a)
 target_of_edit (Drop (AnyRequire path)) = (verb.Require, (Some path, None))
-target_of_edit (Add (Exclude p)) = (verb.Exclude, (Some p.0, Some p.1))
 target_of_edit (Drop (AnyExclude p)) = (verb.Exclude, (Some p.0, Some p.1))
-target_of_edit (Set (ReplaceWith r)) = (verb.Replace, (Some r.0.path, r.0.version))
 target_of_edit (Drop (AnyReplace left)) = (verb.Replace, (Some left.path, left.version))
-target_of_edit (Add (Retract ends)) = (verb.Retract, (Some ends.0, Some ends.1))
 target_of_edit (Drop (AnyRetract ends)) = (verb.Retract, (Some ends.0, Some ends.1))
 
 -- whether an operation targets all directives about its path, whatever their versions
@@ -111,9 +108,13 @@ key_with subject inside =
 abbrev pub held_subject : Option Directive → Subject
 held_subject held = option_map_or subject_of held (verb.Unknown, (None, None))
 
+-- the key of a line with this content
+abbrev pub item_key : Item → Bool → Key
+item_key item inside = key_with (held_subject (directive_in Strict item)) inside
+
 -- the key of a line, given the verb of the open block, if any
 abbrev pub key_at : Option Placed → Line Placed → Key
-key_at block line = key_with (held_subject (directive_at block line)) (is_some block)
+key_at block line = item_key (item_of block line) (is_some block)
 
 -- the keys of lines, given the verb of the block that is open before them, if any
 abbrev pub keys_from : Option Placed → List (Line Placed) → List Key

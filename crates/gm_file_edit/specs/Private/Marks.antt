@@ -10,8 +10,7 @@ use Rattle.gm_file_edit.specs.declared.packing.Place.{Place}
 use Rattle.gm_file_edit.specs.declared.packing.Place.TheVariants as place
 use Rattle.gm_file_edit.specs.Edited.{with_addition}
 use Rattle.gm_file_edit.specs.Fates.{Fate, fate_by}
-use Rattle.gm_file_edit.specs.GoPlace.{is_loose}
-use Rattle.gm_file_edit.specs.Holding.{directive_at, passes}
+use Rattle.gm_file_edit.specs.Holding.{directive_at, passes, is_loose}
 use Rattle.gm_file_edit.specs.NewWords.{entry_at}
 
 -- the line at an index

@@ -1,5 +1,0 @@
-use Rattle.gm_file_edit.proofs.Additions.{addition-follows}
-use Rattle.gm_file_edit.proofs.laws.additions_follow_their_verb.Goals as goal
-
-pub returns : goal.returns
-returns c = addition-follows

@@ -1,5 +1,0 @@
-use Rattle.gm_file_edit.proofs.Additions.{addition-last}
-use Rattle.gm_file_edit.proofs.laws.additions_of_new_verbs_are_last.Goals as goal
-
-pub returns : goal.returns
-returns c = addition-last

@@ -1,5 +1,0 @@
-use Rattle.gm_file_edit.proofs.SaidAfter.{idle-drop}
-use Rattle.gm_file_edit.proofs.laws.drops_of_nothing_change_nothing.Goals as goal
-
-pub returns : goal.returns
-returns c = idle-drop

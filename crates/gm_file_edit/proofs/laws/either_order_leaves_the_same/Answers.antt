@@ -1,5 +1,0 @@
-use Rattle.gm_file_edit.proofs.EitherOrder.{either-order}
-use Rattle.gm_file_edit.proofs.laws.either_order_leaves_the_same.Goals as goal
-
-pub returns : goal.returns
-returns c = either-order

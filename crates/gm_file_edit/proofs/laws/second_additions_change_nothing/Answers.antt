@@ -1,5 +1,0 @@
-use Rattle.gm_file_edit.proofs.SaidAfter.{second-addition}
-use Rattle.gm_file_edit.proofs.laws.second_additions_change_nothing.Goals as goal
-
-pub returns : goal.returns
-returns c = second-addition

@@ -1,5 +1,0 @@
-use Rattle.gm_file_edit.proofs.SaidAfter.{second-drop}
-use Rattle.gm_file_edit.proofs.laws.second_drops_change_nothing.Goals as goal
-
-pub returns : goal.returns
-returns c = second-drop

@@ -1,5 +1,0 @@
-use Rattle.gm_file_edit.proofs.Twice.{second-setting}
-use Rattle.gm_file_edit.proofs.laws.second_settings_change_nothing.Goals as goal
-
-pub returns : goal.returns
-returns c = second-setting

@@ -1,5 +1,0 @@
-use Rattle.gm_file_edit.proofs.SaidAfter.{set-stands-alone}
-use Rattle.gm_file_edit.proofs.laws.what_is_set_stands_alone.Goals as goal
-
-pub returns : goal.returns
-returns c = set-stands-alone

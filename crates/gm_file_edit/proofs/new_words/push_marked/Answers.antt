@@ -1,0 +1,5 @@
+use Rattle.gm_file_edit.proofs.Feeds.{version-plain}
+use Rattle.gm_file_edit.proofs.new_words.push_marked.Goals as goal
+
+pub push_word-requires : goal.push_word-requires
+push_word-requires c = rw c.as_str.ensures.text (version-plain c.args.version.now c.as_str.ensures.version)

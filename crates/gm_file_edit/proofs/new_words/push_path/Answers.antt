@@ -1,5 +1,0 @@
-use Rattle.gm_file_edit.proofs.Feeds.{path-plain}
-use Rattle.gm_file_edit.proofs.new_words.push_path.Goals as goal
-
-pub push_word-requires : goal.push_word-requires
-push_word-requires c = rw c.as_str.ensures.text (path-plain c.args.path.now c.as_str.ensures.path)

@@ -1,7 +1,0 @@
-use Rattle.std.proofs.Common.{lit<}
-use Rattle.std.proofs.lemmas.Str.Pattern.{split_once_first}
-use Rattle.gm_file_edit.proofs.Cuts.{cut-is}
-use Rattle.gm_file_edit.proofs.part.split_at_comma.Goals as goal
-
-pub returns : goal.returns
-returns c = cut-is 44 c.args.text.now c.split_once.result (split_once_first 44 c.args.text.now c.split_once.result c.split_once.ensures.cases (lit< tt))

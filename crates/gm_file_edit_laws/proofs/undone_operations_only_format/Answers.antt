@@ -1,0 +1,5 @@
+use Rattle.gm_file_edit_laws.proofs.Undone.{drop-undoes-layout}
+use Rattle.gm_file_edit_laws.proofs.undone_operations_only_format.Goals as goal
+
+pub returns : goal.returns
+returns c = drop-undoes-layout

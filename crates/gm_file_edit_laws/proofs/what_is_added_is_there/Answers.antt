@@ -1,0 +1,5 @@
+use Rattle.gm_file_edit_laws.proofs.SaidAfter.{added-is-there}
+use Rattle.gm_file_edit_laws.proofs.what_is_added_is_there.Goals as goal
+
+pub returns : goal.returns
+returns c = added-is-there
