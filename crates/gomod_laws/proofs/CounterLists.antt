@@ -26,7 +26,7 @@ use Rattle.gomod_run.specs.Reports.{not_listed_line}
 use Rattle.gomod_run.proofs.GreatestRows.{as_build_list}
 use Rattle.gomod_run.proofs.ListLines.{Lacks, cut_at, lacks, path_has_no_blank, text_says_rows}
 use Rattle.gomod_run.proofs.OneRead.{one_main}
-use Rattle.gomod_run.proofs.OneStore.{one_outcome}
+use Rattle.gomod_laws.proofs.RunsOnce.{one_outcome}
 use Rattle.gomod_run.proofs.PrintedList.{all_rows, texts_join}
 use Rattle.gomod_run.proofs.RunNames.{run_has_names, run_has_proper_rows}
 use Rattle.gomod_words.specs.declared.usage.Command.TheVariants.{List as Rows}

@@ -23,13 +23,13 @@ use Rattle.gm_file_edit_laws.proofs.Undone.{drop-undoes-layout}
 use Rattle.gm_file.specs.Main.{IsMainOf}
 use Rattle.gomod_run.specs.Queries.{longest}
 use Rattle.gomod_run.specs.Outcome.{text_outcome}
-use Rattle.gomod_run.proofs.OneRead.{misread_or_lines, same_lines}
+use Rattle.gomod_run.proofs.OneRead.{same_lines}
 use Rattle.gomod_run.specs.Edit.{EditEnds, applied, bad_main}
-use Rattle.gomod_run.proofs.Sameness.{in_turn_same}
 use Rattle.gomod_laws.specs.EditPairLaws.{EitherOrderChangesNoBuild, UndoneIsFormatted}
 use Rattle.gomod_laws.specs.LineOrderLaws.{HoldTheSame}
 use Rattle.gomod_laws.specs.Runs.{IsEdited}
 use Rattle.gomod_words.specs.Usage.{texts_in}
+use Rattle.gomod_laws.proofs.FilesOnce.{in_turn_same, misread_or_lines}
 use Rattle.gomod_laws.proofs.EditTurns.{edited_from, next_is, read_sound, taken_turn, text_lines, turned}
 use Rattle.gomod_laws.proofs.FormattingProofs.{fmt_is}
 use Rattle.gomod_laws.proofs.LineOrderLines.{lines_in_any_order}

@@ -8,7 +8,7 @@ use Rattle.gm_file_edit.specs.Edited.{lines_after}
 use Rattle.gm_file_edit_laws.proofs.Twice.{second-operation}
 use Rattle.gomod_run.specs.Edit.{EditEnds, applied, bad_main}
 use Rattle.gomod_run.specs.Outcome.{Outcome}
-use Rattle.gomod_run.proofs.Sameness.{edit_once}
+use Rattle.gomod_laws.proofs.FilesOnce.{edit_once}
 use Rattle.gomod_words.specs.Usage.{texts_in}
 use Rattle.gomod_words.specs.declared.usage.Command.TheVariants.{Edit}
 use Rattle.gomod_laws.specs.EditTwiceLaws.{AreOneOrRefuseALater, LastTwiceIsOnce, RefuseALater, RepeatsOne, TwiceIsOnceOrRefused, TwicePrintsAsOnce}

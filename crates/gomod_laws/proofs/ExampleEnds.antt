@@ -28,12 +28,13 @@ use Rattle.gm_graph.proofs.LawProofs.{modules_say_one_thing}
 use Rattle.gomod_run.specs.Queries.{AreFound, FilesReadAs, bad_main, bad_sums, device, faulty, no_fault, too_many}
 use Rattle.gomod_run.specs.ListQuery.{ListEnds, no_path}
 use Rattle.gomod_run.specs.Outcome.{text_outcome, refusal_outcome}
-use Rattle.gomod_run.proofs.OneRead.{misread_or_main, one_main}
-use Rattle.gomod_run.proofs.OneStore.{one_outcome}
+use Rattle.gomod_run.proofs.OneRead.{one_main}
+use Rattle.gomod_laws.proofs.RunsOnce.{one_outcome}
 use Rattle.gomod_run.proofs.ListLines.{heads}
 use Rattle.gomod_words.specs.declared.usage.Command.TheVariants.{List as Rows}
 use Rattle.gomod_laws.specs.ExampleRuns.{BadSumIsRefused, EmptyIsRefused, HasNoOutcome, IsListedAlone, RequiredIsAsked, alone, low_name, main_requiring, requiring, run_with_bad_sum, top_name, top_one}
 use Rattle.gomod_laws.specs.ExampleRuns as example
+use Rattle.gomod_laws.proofs.FilesOnce.{misread_or_main}
 use Rattle.gomod_laws.proofs.ExampleEdges.{none_opened, pairs_of}
 use Rattle.gomod_laws.proofs.ExampleFiles.{empty_is_malformed, files_are_read}
 

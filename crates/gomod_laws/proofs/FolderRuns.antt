@@ -19,15 +19,15 @@ use Rattle.gomod_run.specs.QueryLaws.{AnswerAlike}
 use Rattle.gomod_run.specs.Queries.{AreFound, answers_of, given_of}
 use Rattle.gomod_run.specs.Needs.{AnsweredAll, AnswersByName}
 use Rattle.gomod_run.specs.Outcome.{Outcome}
-use Rattle.gomod_run.proofs.OneQueryStore.{alike_back, stores_agree}
+use Rattle.gomod_run.proofs.StoresAgree.{alike_back, stores_agree}
 use Rattle.gomod_words.specs.declared.usage.Command.{Command}
-use Rattle.gomod_words.specs.declared.usage.Command.TheVariants.{Fmt, Edit, Versions, Graph, List as Rows, Chain}
+use Rattle.gomod_words.specs.declared.usage.Command.TheVariants.{Fmt, Edit, Versions}
 use Rattle.gomod_run.specs.Runs.{Needs, is_query}
 use Rattle.gomod_run.specs.Versions.{AreShown, IsLatestListed, VersionsEnds, VersionsNeed, all_listed, not_retracted}
 use Rattle.gomod_run.proofs.AllAsked.{done_answers}
 use Rattle.gomod_run.proofs.Answering.{answered_in}
-use Rattle.gomod_run.proofs.OneStore.{one_for_stores}
-use Rattle.gomod_run.proofs.OneVersions.{none_needed, one_latest, same_answer, shown_listed}
+use Rattle.gomod_laws.proofs.RunsOnce.{one_for_stores}
+use Rattle.gomod_run.proofs.OneVersions.{alike_itself, none_needed, one_latest, one_listed, same_answer, shown_listed}
 use Rattle.gomod_laws.specs.FolderLaws.{FolderMayAnswer, MoreFoldersChangeNothing}
 use Rattle.gomod_laws.specs.Runs.{HasPrinted}
 use Rattle.gomod_laws.specs.Shown.{run_over}
@@ -115,7 +115,7 @@ module _ (path : List ℕ) (all : Bool) (told : AnswersByName) (outcome : Outcom
   are : AreShown path all told shown
   are = (shown_printed path all told outcome prints ends).1
 
-  pub list_is_file : (reply : Reply) → told (list_file path) ≡ Some reply → IsFile reply
+  list_is_file : (reply : Reply) → told (list_file path) ≡ Some reply → IsFile reply
   list_is_file reply answered =
       let (versions, is) = shown_listed path all told shown are in
       (is.list, same_answer (told (list_file path)) reply (bytes is.list) answered is.answered)
@@ -125,15 +125,16 @@ module _ (path : List ℕ) (all : Bool) (told : AnswersByName) (outcome : Outcom
   needed_is_file name reply (inr (versions, latest, same, is)) answered = by shown are
     where
       by : (these : List (List ℕ)) → AreShown path all told these → IsFile reply
-      by these (all_listed listed every) = absurd (none_needed path all told these versions latest listed every is)
+      by these (all_listed listed every) =
+          absurd (none_needed path all told these versions latest (one_listed path all told told (alike_itself path all told) is.listed listed) every is)
       by these (not_retracted others last other file intervals says retracted hidden) =
-          let latest_same = (one_latest path all told versions others latest last is says.chosen).1 in
+          let latest_same = (one_latest path all told told (alike_itself path all told) versions others latest last is says.chosen).1 in
           let again : told (mod_file path last) ≡ Some reply = subst (λ (n : Name). told n ≡ Some reply) (same ∙ ap (mod_file path) latest_same) answered in
           let (content, content_is) = read_is_file None (mod_file path last) other file says.says in
           (content, same_answer (told (mod_file path last)) reply other again says.answered ∙ content_is)
 
   -- the same files are needed over answers that name the same list
-  pub needed_again : (other : AnswersByName) (name : Name) → ((a b : Reply) → other (list_file path) ≡ Some a → told (list_file path) ≡ Some b → a ≡ b)
+  needed_again : (other : AnswersByName) (name : Name) → ((a b : Reply) → other (list_file path) ≡ Some a → told (list_file path) ≡ Some b → a ≡ b)
       → VersionsNeed path all other name → VersionsNeed path all told name
   needed_again other name alike (inl list) = inl list
   needed_again other name alike (inr need) =
@@ -212,9 +213,7 @@ module _ (main : List ℕ) (sums : Option (List ℕ)) where
   each_is_file (Versions path all) asked outcome run turn prints name reply e =
       needed_is_file path all (answer_in asked) outcome prints run name reply
       (needed_in_turn (VersionsNeed path all) (versions_grow path all) turn name (answered_name asked name reply e)) e
-  each_is_file Graph asked outcome run turn prints name reply e = query_is_file Graph asked outcome refl run prints name reply e
-  each_is_file (Rows after limit) asked outcome run turn prints name reply e = query_is_file (Rows after limit) asked outcome refl run prints name reply e
-  each_is_file (Chain path) asked outcome run turn prints name reply e = query_is_file (Chain path) asked outcome refl run prints name reply e
+  each_is_file command asked outcome run turn prints name reply e = query_is_file command asked outcome refl run prints name reply e
 
   query_names : (command : Command) (asked told : Pairs) (a b : Outcome) → is_query command ≡ true
       → AnswerAlike asked told → Ends command main sums asked a → HasPrinted a
@@ -238,11 +237,8 @@ module _ (main : List ℕ) (sums : Option (List ℕ)) where
       needed_again path all (answer_in told) b also again (answer_in asked) name (alike (list_file path)) need in
       let (reply, answered) = all_answered (Versions path all) main sums told b again also name too in
       answered_name told name reply answered
-  names_in_other Graph asked told a b alike turn run prints again also name there = query_names Graph asked told a b refl alike run prints again also name there
-  names_in_other (Rows after limit) asked told a b alike turn run prints again also name there =
-      query_names (Rows after limit) asked told a b refl alike run prints again also name there
-  names_in_other (Chain path) asked told a b alike turn run prints again also name there =
-      query_names (Chain path) asked told a b refl alike run prints again also name there
+  names_in_other command asked told a b alike turn run prints again also name there =
+      query_names command asked told a b refl alike run prints again also name there
 
 -- ---- one more folder
 

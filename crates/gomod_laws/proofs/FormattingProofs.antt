@@ -16,7 +16,7 @@ use Rattle.gomod_run.specs.Reports.{main_line}
 use Rattle.gomod_run.proofs.OneRead.{same_lines}
 use Rattle.gomod_words.specs.declared.usage.Command.TheVariants.{Fmt}
 use Rattle.gomod_run.specs.Fmt.{FmtEnds, bad_syntax, laid_out}
-use Rattle.gomod_run.proofs.Sameness.{fmt_once}
+use Rattle.gomod_laws.proofs.FilesOnce.{fmt_once}
 use Rattle.gomod_laws.specs.FormattingLaws.{FormattingChangesNoBuild, IsFormatted, LayoutsAreFormatted}
 use Rattle.gomod_laws.proofs.Ended.{Ends}
 use Rattle.gomod_laws.proofs.FormattingBlanks.{main_said, no_fault_again, same_said}

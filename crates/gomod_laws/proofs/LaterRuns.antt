@@ -1,23 +1,21 @@
 -- Runs over a store in which files that were absent now exist.
-use Rattle.std.proofs.Common.{◌≡◌, ◌∙◌, ℕ, Bool, true, List, [], Option, Some, ap, inl, inr, refl, sym}
-use Rattle.gm_store.specs.Asked.{Name, Reply, absent, answer_in, bytes, list_file}
+use Rattle.std.proofs.Common.{◌≡◌, ◌∙◌, ℕ, Bool, true, List, [], Some, ap, inl, inr, refl, sym}
+use Rattle.gm_store.specs.Asked.{Name, Reply, absent, answer_in, bytes}
 use Rattle.gomod_run.specs.QueryLaws.{AnswerAlike}
-use Rattle.gomod_run.specs.Needs.{AnswersByName}
 use Rattle.gomod_run.specs.Outcome.{Outcome}
-use Rattle.gomod_run.proofs.OneQueryStore.{alike_back}
+use Rattle.gomod_run.proofs.StoresAgree.{alike_back}
 use Rattle.gomod_words.specs.Usage.{texts_in}
 use Rattle.gomod_words.specs.declared.usage.Command.{Command}
-use Rattle.gomod_words.specs.declared.usage.Command.TheVariants.{Fmt, Edit, Versions, Graph, List as Rows, Chain}
+use Rattle.gomod_words.specs.declared.usage.Command.TheVariants.{Fmt, Edit, Versions}
 use Rattle.gomod_run.specs.Runs.{is_query}
-use Rattle.gomod_run.specs.Versions.{VersionsEnds, VersionsNeed}
-use Rattle.gomod_run.proofs.OneStore.{both_of, first_kept, kept_outcome, second_kept}
-use Rattle.gomod_run.proofs.OneVersions.{versions_once}
-use Rattle.gomod_run.proofs.Sameness.{edit_once, fmt_once}
+use Rattle.gomod_run.specs.Versions.{VersionsEnds}
 use Rattle.gomod_laws.specs.LaterLaws.{LaterAsksTheSame, LaterPrintsTheSame, OnlyAddsAnswers}
 use Rattle.gomod_laws.specs.Runs.{HasPrinted}
 use Rattle.gomod_laws.proofs.Ended.{Ends}
-use Rattle.gomod_laws.proofs.FolderRuns.{IsFile, each_is_file, list_is_file, names_in_other, needed_again, needed_is_file, query_is_file, same_outcome}
+use Rattle.gomod_laws.proofs.FilesOnce.{edit_once, fmt_once}
+use Rattle.gomod_laws.proofs.FolderRuns.{IsFile, each_is_file, names_in_other, needed_is_file, query_is_file, same_outcome}
 use Rattle.gomod_laws.proofs.PrintedRuns.{Pairs}
+use Rattle.gomod_laws.proofs.VersionsOnce.{versions_once}
 
 -- ---- a file stays
 
@@ -35,29 +33,12 @@ files_stay asked later adds files name a b e f = sym (file_stays asked later add
 
 -- ---- `versions`
 
-module _ (path : List ℕ) (all : Bool) (main : List ℕ) (sums : Option (List ℕ)) (asked later : Pairs)
-    (one other : Outcome) (prints : HasPrinted one) (adds : OnlyAddsAnswers asked later)
-    (ends : VersionsEnds path all (answer_in asked) [] one) where
-  abbrev both : AnswersByName
-  both = both_of (answer_in asked) (answer_in later)
-
-  -- what the later run needs, the earlier one needs
-  needed_before : (name : Name) → VersionsNeed path all (answer_in later) name → VersionsNeed path all (answer_in asked) name
-  needed_before name need =
-      needed_again path all (answer_in asked) one prints ends (answer_in later) name
-      (λ a b e f. file_stays asked later adds (list_file path) b a (list_is_file path all (answer_in asked) one prints ends b f) f e) need
-
-  later_kept : (name : Name) (reply : Reply) → VersionsNeed path all (answer_in later) name → answer_in later name ≡ Some reply → both name ≡ Some reply
-  later_kept name reply need e =
-      second_kept (answer_in asked name) (answer_in later name) reply
-      (λ before f. file_stays asked later adds name before reply
-      (needed_is_file path all (answer_in asked) one prints ends name before (needed_before name need) f) f e) e
-
-  versions_again : VersionsEnds path all (answer_in later) [] other → other ≡ one
-  versions_again also =
-      versions_once path all both other one
-      (kept_outcome path all (answer_in later) both later_kept other also)
-      (kept_outcome path all (answer_in asked) both (λ name reply need e. first_kept (answer_in asked name) (answer_in later name) reply e) one ends)
+versions_again : (path : List ℕ) (all : Bool) (asked later : Pairs) (one other : Outcome) → HasPrinted one → OnlyAddsAnswers asked later
+    → VersionsEnds path all (answer_in asked) [] one → VersionsEnds path all (answer_in later) [] other → one ≡ other
+versions_again path all asked later one other prints adds ends also =
+    versions_once path all (answer_in asked) (answer_in later)
+    (λ name a b need e f. sym (file_stays asked later adds name a b (needed_is_file path all (answer_in asked) one prints ends name a need e) e f))
+    [] one other ends also
 
 -- ---- any command
 
@@ -72,10 +53,8 @@ later_prints_the_same command main sums asked later one other run prints adds ag
     by Fmt first second = fmt_once main other one second first
     by (Edit operations) first second = edit_once (texts_in operations) main other one second first
     by (Versions path all) first second =
-        versions_again path all main sums asked later one other prints adds first second
-    by Graph first second = query Graph refl first second
-    by (Rows after limit) first second = query (Rows after limit) refl first second
-    by (Chain path) first second = query (Chain path) refl first second
+        sym (versions_again path all asked later one other prints adds first second)
+    by c first second = query c refl first second
 
 pub later_asks_the_same : LaterAsksTheSame
 later_asks_the_same command main sums asked later one other run prints adds again name =

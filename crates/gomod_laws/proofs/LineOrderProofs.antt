@@ -8,8 +8,9 @@ use Rattle.gm_graph.specs.Run.{AreTooMany, IsDue, Run, run_of}
 use Rattle.gomod_run.specs.Queries.{Answers, AreFound, FilesReadAs, bad_main, bad_sums, device, faulty, given_of, no_fault, too_many}
 use Rattle.gomod_run.specs.Outcome.{Outcome}
 use Rattle.gomod_run.specs.Private.ByCommand.{PrintsOf}
-use Rattle.gomod_run.proofs.OneRead.{misread_or_main, one_main}
+use Rattle.gomod_run.proofs.OneRead.{one_main}
 use Rattle.gomod_words.specs.declared.usage.Command.{Command}
+use Rattle.gomod_laws.proofs.FilesOnce.{misread_or_main}
 use Rattle.gomod_laws.proofs.LineOrderRuns.{QueriesMove}
 use Rattle.gomod_laws.proofs.LineOrderSame.{SayTheSame}
 use Rattle.gomod_laws.proofs.RunsAlike.{ReadAlike, due_to, found_to, many_to, prints_to}

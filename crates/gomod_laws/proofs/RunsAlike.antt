@@ -20,15 +20,11 @@ use Rattle.gm_graph_select.proofs.Same.{AreSame, same_build_list, same_chain}
 use Rattle.gomod_run.specs.GraphQuery.{graph_text}
 use Rattle.gomod_run.specs.ListQuery.{up_to, list_text, PrintsRows, no_path, path_listed, path_unlisted}
 use Rattle.gomod_run.specs.Outcome.{Outcome, text_outcome}
-use Rattle.gomod_run.specs.Queries.{Answers, AreFound, FilesReadAs, Given, QueryEnds, given_of}
+use Rattle.gomod_run.specs.Queries.{Answers, AreFound, FilesReadAs, given_of}
 use Rattle.gomod_run.specs.ChainQuery.{ShowsChain}
-use Rattle.gomod_run.specs.Runs.{is_query}
 use Rattle.gomod_run.specs.Private.ByCommand.{PrintsOf}
-use Rattle.gomod_run.specs.QueryLaws.{AreAlike}
-use Rattle.gomod_run.proofs.OneStore.{one_for_stores}
-use Rattle.gomod_run.proofs.QueryParts.{ends_query}
 use Rattle.gomod_words.specs.declared.usage.Command.{Command}
-use Rattle.gomod_words.specs.declared.usage.Command.TheVariants.{Fmt, Edit, Versions, Graph, List as Rows, Chain}
+use Rattle.gomod_words.specs.declared.usage.Command.TheVariants.{Graph, List as Rows, Chain}
 use Rattle.gomod_laws.proofs.LineOrderSame.{SayTheSame, files_same, without_same}
 
 -- What a module says by the first run, it says by the second, if its file does and both main files replace it alike.
@@ -41,6 +37,65 @@ says_by r s x same file_too said (wrong_path file is wrong) =
 says_by r s x same file_too said (sound {file} is own) =
     sound (file_too (Ok file) is) (subst (λ (right : Option Right). is_right_path x right file.declared ≡ true) same own)
 
+-- ---- what is printed
+
+abbrev with_path : List ℕ → Main → Main
+with_path path main = record main { path = path }
+
+module _ (r s : Run) (mains : SayTheSame r.main s.main) (edges_same : AreSame (IsEdge r) (IsEdge s)) where
+  edges_to : (edges : List Edge) → AreEdges r edges → AreEdges s edges
+  edges_to edges are = record {
+    ascending = are.ascending;
+    each = λ one. (
+      (λ there. (edges_same one.from one.to).0 ((are.each one).0 there)),
+      (λ is. (are.each one).1 ((edges_same one.from one.to).1 is)),
+    );
+  }
+
+  rows_to : (rows : List Entry) → AreRows r rows → AreRows s rows
+  rows_to rows are =
+      let list = same_build_list (IsEdge r) (IsEdge s) edges_same are in
+      let entry : ModuleVersion → Option Right → Entry = λ x right. (Of x, right) in
+      let replaced : entry_of (replacement_in r.main) ≡ entry_of (replacement_in s.main) = fun_ext (λ (x : ModuleVersion). ap (entry x) (mains.replaced x)) in
+      subst (λ (path : List ℕ). IsBuildList path (replacement_in s.main) (IsEdge s) rows) mains.path
+      (record {
+        selected = list.selected;
+        entries_are = list.entries_are ∙ ap (λ (f : ModuleVersion → Entry). main_entry ∷ map f list.selected) replaced;
+        ascending = list.ascending;
+        each = list.each;
+      })
+
+  same_text : (shown : List Entry) (outcome : Outcome) → outcome ≡ text_outcome (list_text r.main.path shown)
+      → outcome ≡ text_outcome (list_text s.main.path shown)
+  same_text shown outcome says = subst (λ (path : List ℕ). outcome ≡ text_outcome (list_text path shown)) mains.path says
+
+  rows_printed : (rows : List Entry) (after : Option (List ℕ)) (limit : Option ℕ) (outcome : Outcome)
+      → PrintsRows r.main rows after limit outcome → PrintsRows s.main rows after limit outcome
+  rows_printed rows after limit outcome (no_path none says) = no_path none (same_text (up_to limit rows) outcome says)
+  rows_printed rows after limit outcome (path_listed path others is at says) =
+      path_listed path others is (subst (λ (own : List ℕ). IsRestAfter own rows path others) mains.path at) (same_text (up_to limit others) outcome says)
+  rows_printed rows after limit outcome (path_unlisted path is (none, says)) =
+      path_unlisted path is (subst (λ (own : List ℕ). HasEntryFor own rows path → ⊥) mains.path none, says)
+
+  chain_shown : (path : List ℕ) (rows : List Entry) (outcome : Outcome) → ShowsChain path r.main (IsEdge r) rows outcome
+      → ShowsChain path s.main (IsEdge s) rows outcome
+  chain_shown path rows outcome shows = subst (λ (own : List ℕ). ShowsChain path (with_path own s.main) (IsEdge s) rows outcome) mains.path (by shows)
+    where
+      by : ShowsChain path r.main (IsEdge r) rows outcome → ShowsChain path r.main (IsEdge s) rows outcome
+      by (inl (step, steps, entry, chain, says)) = inl (step, steps, entry, same_chain (IsEdge r) (IsEdge s) edges_same chain, says)
+      by (inr unlisted) = inr unlisted
+
+  -- What a query prints of the one run, it prints of the other, which has the same edges.
+  pub printed_by_edges : (command : Command) (outcome : Outcome) → PrintsOf command r outcome → PrintsOf command s outcome
+  printed_by_edges Graph outcome (edges, are, says) = (
+    edges,
+    edges_to edges are,
+    subst (λ (path : List ℕ). outcome ≡ text_outcome (graph_text path edges)) mains.path says,
+  )
+  printed_by_edges (Rows after limit) outcome (rows, are, says) = (rows, rows_to rows are, rows_printed rows after limit outcome says)
+  printed_by_edges (Chain path) outcome (rows, are, shows) = (rows, rows_to rows are, chain_shown path rows outcome shows)
+  printed_by_edges command outcome says = absurd says
+
 -- ---- runs that are alike
 
 -- The main files say the same, and both runs have the same answers. Of an answer that the first run needs they read the
@@ -50,9 +105,6 @@ pub record ReadAlike (r s : Run) : Type 0 where
   pub answers : (name : Name) → r.answers name ≡ s.answers name
   pub read : (name : Name) (reply : Reply) (said : Result Dependency Class) → IsNeeded r name → r.answers name ≡ Some reply
       → IsFileReading r.sums name reply said ↔ IsFileReading s.sums name reply said
-
-abbrev with_path : List ℕ → Main → Main
-with_path path main = record main { path = path }
 
 module _ (r s : Run) (alike : ReadAlike r s) where
   mains : SayTheSame r.main s.main
@@ -152,62 +204,8 @@ module _ (r s : Run) (alike : ReadAlike r s) where
     edge_too s r unpruned_from tops_from requires_from (λ x top. (mains.required x).1 top) step y,
   )
 
-  edges_to : (edges : List Edge) → AreEdges r edges → AreEdges s edges
-  edges_to edges are = record {
-    ascending = are.ascending;
-    each = λ one. (
-      (λ there. (edges_same one.from one.to).0 ((are.each one).0 there)),
-      (λ is. (are.each one).1 ((edges_same one.from one.to).1 is)),
-    );
-  }
-
-  rows_to : (rows : List Entry) → AreRows r rows → AreRows s rows
-  rows_to rows are =
-      let list = same_build_list (IsEdge r) (IsEdge s) edges_same are in
-      let entry : ModuleVersion → Option Right → Entry = λ x right. (Of x, right) in
-      let replaced : entry_of (replacement_in r.main) ≡ entry_of (replacement_in s.main) = fun_ext (λ (x : ModuleVersion). ap (entry x) (mains.replaced x)) in
-      subst (λ (path : List ℕ). IsBuildList path (replacement_in s.main) (IsEdge s) rows) mains.path
-      (record {
-        selected = list.selected;
-        entries_are = list.entries_are ∙ ap (λ (f : ModuleVersion → Entry). main_entry ∷ map f list.selected) replaced;
-        ascending = list.ascending;
-        each = list.each;
-      })
-
-  -- ---- what is printed
-
-  same_text : (shown : List Entry) (outcome : Outcome) → outcome ≡ text_outcome (list_text r.main.path shown)
-      → outcome ≡ text_outcome (list_text s.main.path shown)
-  same_text shown outcome says = subst (λ (path : List ℕ). outcome ≡ text_outcome (list_text path shown)) mains.path says
-
-  rows_printed : (rows : List Entry) (after : Option (List ℕ)) (limit : Option ℕ) (outcome : Outcome)
-      → PrintsRows r.main rows after limit outcome → PrintsRows s.main rows after limit outcome
-  rows_printed rows after limit outcome (no_path none says) = no_path none (same_text (up_to limit rows) outcome says)
-  rows_printed rows after limit outcome (path_listed path others is at says) =
-      path_listed path others is (subst (λ (own : List ℕ). IsRestAfter own rows path others) mains.path at) (same_text (up_to limit others) outcome says)
-  rows_printed rows after limit outcome (path_unlisted path is (none, says)) =
-      path_unlisted path is (subst (λ (own : List ℕ). HasEntryFor own rows path → ⊥) mains.path none, says)
-
-  chain_shown : (path : List ℕ) (rows : List Entry) (outcome : Outcome) → ShowsChain path r.main (IsEdge r) rows outcome
-      → ShowsChain path s.main (IsEdge s) rows outcome
-  chain_shown path rows outcome shows = subst (λ (own : List ℕ). ShowsChain path (with_path own s.main) (IsEdge s) rows outcome) mains.path (by shows)
-    where
-      by : ShowsChain path r.main (IsEdge r) rows outcome → ShowsChain path r.main (IsEdge s) rows outcome
-      by (inl (step, steps, entry, chain, says)) = inl (step, steps, entry, same_chain (IsEdge r) (IsEdge s) edges_same chain, says)
-      by (inr unlisted) = inr unlisted
-
-  -- what a query prints of the one run, it prints of the other
   pub prints_to : (command : Command) (outcome : Outcome) → PrintsOf command r outcome → PrintsOf command s outcome
-  prints_to Graph outcome (edges, are, says) = (
-    edges,
-    edges_to edges are,
-    subst (λ (path : List ℕ). outcome ≡ text_outcome (graph_text path edges)) mains.path says,
-  )
-  prints_to (Rows after limit) outcome (rows, are, says) = (rows, rows_to rows are, rows_printed rows after limit outcome says)
-  prints_to (Chain path) outcome (rows, are, shows) = (rows, rows_to rows are, chain_shown path rows outcome shows)
-  prints_to Fmt outcome says = says
-  prints_to (Edit operations) outcome says = says
-  prints_to (Versions path all) outcome says = says
+  prints_to = printed_by_edges r s mains edges_same
 
 -- What was found over the one main file and go.sum is found over the other, if the two runs are alike.
 pub found_to : (file other : List ℕ) (sums others : Option (List ℕ)) (told : Answers) (m n : Main) (t u : Option Sums)
@@ -219,11 +217,3 @@ found_to file other sums others told m n t u alike read files faults found = rec
   faults_are = faults_to (run_of m t told.asked) (run_of n u told.asked) alike faults found.faults_are;
   none_failed = found.none_failed;
 }
-
--- ---- how queries end
-
--- a query ends in one way over stores that answer alike
-pub one_end : (command : Command) → is_query command ≡ true → (run next : Given) (one other : Outcome) → AreAlike run next
-    → QueryEnds (PrintsOf command) run one → QueryEnds (PrintsOf command) next other → one ≡ other
-one_end command query run next one other alike is be =
-    one_for_stores command run next one other alike (ends_query run one command query is) (ends_query next other command query be)

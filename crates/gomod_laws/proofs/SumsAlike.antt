@@ -19,15 +19,17 @@ use Rattle.gomod_run.specs.Needs.{GraphNeeds}
 use Rattle.gomod_run.specs.Outcome.{Outcome, refusal_outcome}
 use Rattle.gomod_run.specs.Reports.{too_many_line}
 use Rattle.gomod_run.specs.Runs.{is_query}
-use Rattle.gomod_run.proofs.OneRead.{misread_or_main, misread_or_sums, one_main, one_says}
+use Rattle.gomod_run.proofs.OneRead.{one_main, one_says}
 use Rattle.gomod_run.proofs.QueryParts.{query_ends}
 use Rattle.gomod_words.specs.declared.usage.Command.{Command}
-use Rattle.gomod_words.specs.declared.usage.Command.TheVariants.{Fmt, Edit, Versions, Graph, List as Rows, Chain}
+use Rattle.gomod_words.specs.declared.usage.Command.TheVariants.{Fmt, Edit, Versions}
+use Rattle.gomod_laws.proofs.FilesOnce.{misread_or_main, misread_or_sums}
 use Rattle.gomod_laws.proofs.Ended.{Ends}
 use Rattle.gomod_laws.specs.SumLaws.{HasNeedlessLines, HasSumLine, NeedlessLinesChangeNothing, SumLinesInAnyOrder}
 use Rattle.gomod_laws.specs.Shown.{run_over}
 use Rattle.gomod_laws.proofs.FolderRuns.{answered_name}
-use Rattle.gomod_laws.proofs.RunsAlike.{ReadAlike, found_to, one_end, prints_to, says_by}
+use Rattle.gomod_laws.proofs.RunsAlike.{ReadAlike, found_to, prints_to, says_by}
+use Rattle.gomod_laws.proofs.RunsOnce.{query_once}
 use Rattle.gomod_laws.proofs.SumsGiven.{same_unread}
 use Rattle.gomod_laws.proofs.SumsChecked.{find_alike, read_with}
 use Rattle.gomod_laws.proofs.SumsOutcomes.{QueryEndsOver, sum_table}
@@ -158,7 +160,7 @@ module _ (command : Command) (query : is_query command ≡ true) (main one other
 
   finish : QueryEndsOver command main (Some other) asked a → a ≡ b
   finish is =
-      one_end command query (run_over main (Some other) asked) (run_over main (Some other) others) a b
+      query_once command (run_over main (Some other) asked) (run_over main (Some other) others) a b
       (record { file = refl; sums = refl; answers = alike; failed = refl }) is be
 
   same_runs : QueryEndsOver command main (Some one) asked a → a ≡ b
@@ -201,11 +203,8 @@ same_sums_change_nothing (Edit operations) main one other asked others a b alike
     same_unread (Edit operations) main (Some one) (Some other) asked others a b alike (λ run. run) is be
 same_sums_change_nothing (Versions path all) main one other asked others a b alike are is be =
     same_unread (Versions path all) main (Some one) (Some other) asked others a b alike (λ run. run) is be
-same_sums_change_nothing Graph main one other asked others a b alike are is be = same_query Graph refl main one other asked others a b alike are is be
-same_sums_change_nothing (Rows after limit) main one other asked others a b alike are is be =
-    same_query (Rows after limit) refl main one other asked others a b alike are is be
-same_sums_change_nothing (Chain path) main one other asked others a b alike are is be =
-    same_query (Chain path) refl main one other asked others a b alike are is be
+same_sums_change_nothing command main one other asked others a b alike are is be =
+    same_query command refl main one other asked others a b alike are is be
 
 by_needed : (main one other : List ℕ) (asked : List (Name × Reply)) → HasNeedlessLines main one other asked → HaveSameSums main one other asked
 by_needed main one other asked are = record {

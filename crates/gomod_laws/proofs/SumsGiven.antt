@@ -4,7 +4,7 @@ use Rattle.gm_store.specs.Asked.{Name, Reply}
 use Rattle.gomod_run.specs.QueryLaws.{AnswerAlike}
 use Rattle.gomod_run.specs.Outcome.{Outcome}
 use Rattle.gomod_words.specs.declared.usage.Command.{Command}
-use Rattle.gomod_run.proofs.OneStore.{one_for_stores}
+use Rattle.gomod_laws.proofs.RunsOnce.{one_for_stores}
 use Rattle.gomod_laws.specs.Shown.{run_over}
 use Rattle.gomod_laws.proofs.Ended.{Ends}
 

@@ -11,17 +11,18 @@ use Rattle.gomod_run.specs.Needs.{GraphNeeds}
 use Rattle.gomod_run.specs.Outcome.{Outcome}
 use Rattle.gomod_run.specs.Runs.{is_query}
 use Rattle.gomod_run.specs.Private.ByCommand.{PrintsOf}
-use Rattle.gomod_run.proofs.OneQueryStore.{alike_back}
-use Rattle.gomod_run.proofs.OneRead.{misread_or_main}
+use Rattle.gomod_run.proofs.StoresAgree.{alike_back}
 use Rattle.gomod_run.proofs.QueryParts.{query_ends}
 use Rattle.gomod_run.proofs.PrintedList.{printed_run}
 use Rattle.gomod_words.specs.declared.usage.Command.{Command}
-use Rattle.gomod_words.specs.declared.usage.Command.TheVariants.{Fmt, Edit, Versions, Graph, List as Rows, Chain}
+use Rattle.gomod_words.specs.declared.usage.Command.TheVariants.{Fmt, Edit, Versions}
 use Rattle.gomod_laws.specs.Runs.{HasPrinted}
 use Rattle.gomod_laws.specs.SumLaws.{AreRight, OnlyRefuses, RightSumsChangeNothing}
 use Rattle.gomod_laws.specs.Shown.{run_over}
+use Rattle.gomod_laws.proofs.FilesOnce.{misread_or_main}
 use Rattle.gomod_laws.proofs.Ended.{Ends}
-use Rattle.gomod_laws.proofs.RunsAlike.{ReadAlike, found_to, many_to, one_end, prints_to}
+use Rattle.gomod_laws.proofs.RunsAlike.{ReadAlike, found_to, many_to, prints_to}
+use Rattle.gomod_laws.proofs.RunsOnce.{query_once}
 use Rattle.gomod_laws.proofs.SumsGiven.{same_unread}
 use Rattle.gomod_laws.proofs.SumsChecked.{IsRightFor, alike_unchecked, find_alike, no_sum_fault, read_checked, read_unchecked}
 
@@ -46,7 +47,7 @@ module _ (command : Command) (query : is_query command ≡ true) (main sums : Li
   one_unchecked : AnswerAlike asked others → HasPrinted one → Ends command main (Some sums) asked one
       → Ends command main None others other → other ≡ one
   one_unchecked alike prints is be =
-      sym (one_end command query (run_over main None asked) (run_over main None others) one other
+      sym (query_once command (run_over main None asked) (run_over main None others) one other
       (record { file = refl; sums = refl; answers = alike; failed = refl })
       (unchecked_outcome prints (query_ends (run_over main (Some sums) asked) one command query is))
       (query_ends (run_over main None others) other command query be))
@@ -58,12 +59,8 @@ only_refuses (Edit operations) main sums asked others one other alike is be ends
     sym (same_unread (Edit operations) main (Some sums) None asked others one other alike (λ run. run) is.0 be.0)
 only_refuses (Versions path all) main sums asked others one other alike is be ends =
     sym (same_unread (Versions path all) main (Some sums) None asked others one other alike (λ run. run) is.0 be.0)
-only_refuses Graph main sums asked others one other alike is be ends =
-    one_unchecked Graph refl main sums asked others one other alike ends is.0 be.0
-only_refuses (Rows after limit) main sums asked others one other alike is be ends =
-    one_unchecked (Rows after limit) refl main sums asked others one other alike ends is.0 be.0
-only_refuses (Chain path) main sums asked others one other alike is be ends =
-    one_unchecked (Chain path) refl main sums asked others one other alike ends is.0 be.0
+only_refuses command main sums asked others one other alike is be ends =
+    one_unchecked command refl main sums asked others one other alike ends is.0 be.0
 
 -- ---- a go.sum with the right hashes changes nothing
 
@@ -150,7 +147,7 @@ module _ (command : Command) (query : is_query command ≡ true) (main sums : Li
       → other ≡ one
   one_checked alike is be =
       let ends = query_ends (run_over main (Some sums) others) other command query be in
-      sym (one_end command query (run_over main (Some sums) asked) (run_over main (Some sums) others) one other
+      sym (query_once command (run_over main (Some sums) asked) (run_over main (Some sums) others) one other
       (record { file = refl; sums = refl; answers = alike; failed = refl })
       (checked_outcome ends (query_ends (run_over main None asked) one command query is)) ends)
 
@@ -163,9 +160,5 @@ right_sums_change_nothing (Edit operations) main sums asked others one other ali
 right_sums_change_nothing (Versions path all) main sums asked others one other alike right is be =
     same_unread (Versions path all) main (Some sums) None others asked other one (alike_back asked others alike)
     (λ run. run) be.0 is.0
-right_sums_change_nothing Graph main sums asked others one other alike right is be =
-    one_checked Graph refl main sums asked others one other right alike is.0 be.0
-right_sums_change_nothing (Rows after limit) main sums asked others one other alike right is be =
-    one_checked (Rows after limit) refl main sums asked others one other right alike is.0 be.0
-right_sums_change_nothing (Chain path) main sums asked others one other alike right is be =
-    one_checked (Chain path) refl main sums asked others one other right alike is.0 be.0
+right_sums_change_nothing command main sums asked others one other alike right is be =
+    one_checked command refl main sums asked others one other right alike is.0 be.0

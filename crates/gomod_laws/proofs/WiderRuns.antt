@@ -12,7 +12,8 @@ use Rattle.gm_graph.specs.Run.{AreTooMany, IsFault, IsOpened, Run, run_of}
 use Rattle.gomod_run.specs.QueryLaws.{AnswerAlike}
 use Rattle.gomod_run.specs.Queries.{AreFound, AreInvalidSums, AreSums, Given, Prints, QueryEnds, bad_main, bad_sums, device, faulty, no_fault, too_many}
 use Rattle.gomod_run.specs.Outcome.{Outcome}
-use Rattle.gomod_run.proofs.OneRead.{misread_or_main, misread_or_sums, one_finding, one_main, read_alike}
+use Rattle.gomod_run.proofs.OneRead.{one_finding, one_main, read_alike}
+use Rattle.gomod_laws.proofs.FilesOnce.{misread_or_main, misread_or_sums}
 use Rattle.gomod_laws.proofs.PrintedRuns.{PrintsOver}
 
 module _ (run next : Given) (first second : Main) (table : Option Sums) (found : AreFound next second table [])

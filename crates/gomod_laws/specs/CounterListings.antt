@@ -1,13 +1,14 @@
--- What the laws of gomod_run.queries conclude of `list`, `graph` and `chain` is false of outputs that contradict them.
+-- What the laws on `list`, `graph` and `chain` conclude is false of outputs that contradict them.
 use Rattle.std.specs.Prelude.{◌≡◌, ℕ, List, [], Option, None, Some, codes}
 use Rattle.gm_name.specs.ModuleVersion.{ModuleVersion}
 use Rattle.gm_file.specs.Main.{Main, IsMainFile}
 use Rattle.gm_graph.specs.Run.{IsTop, run_of}
-use Rattle.gomod_run.specs.QueryLaws.{JoinsPages, ShowOneGraph, ShowsBuildList, ShowsPart, ShowsShortestWalk}
+use Rattle.gomod_run.specs.QueryLaws.{JoinsPages, ShowsBuildList, ShowsShortestWalk}
 use Rattle.gomod_run.specs.Queries.{Given}
 use Rattle.gomod_run.specs.ListQuery.{ListEnds}
 use Rattle.gomod_run.specs.Outcome.{Outcome, text_outcome}
 use Rattle.gomod_laws.specs.Counterexamples.{a_one, chain_to_a, graph_of_a, list_of_a}
+use Rattle.gomod_laws.specs.DeterminedLaws.{ShowOneGraph, ShowsPart}
 
 abbrev pub a_two : ModuleVersion
 a_two = (codes "a.b", codes "v1.1.0")

@@ -10,7 +10,7 @@ use Rattle.gm_store.specs.Openings.{IsReadFrom, Opening, opened, refused as unop
 use Rattle.gm_store.specs.Taken.{SinkState}
 use Rattle.gm_store.specs.declared.reading.ReadFault.TheVariants.{Device, NoMemory}
 use Rattle.gomod_run.specs.Outcome.{Outcome, failure_outcome, out_of_memory, text_outcome, refusal_outcome}
-use Rattle.gomod_run.specs.Program.{FileGives, IsInput, IsProgramOutcome, IsUnread, any_input, anything, held_for, usage_error}
+use Rattle.gomod_run.specs.Program.{FileGives, IsInput, IsProgramOutcome, IsUnread, any_input, anything, file_in_memory, usage_error}
 use Rattle.gomod_run.specs.Taking.{TookAll, TookPrefix}
 use Rattle.gomod_words.specs.Usage.{unreadable_text, version_line}
 use Rattle.gomod_run.specs.Written.{EndsAsStated, IsWritten, WroteBoth, WrotePrefix}
@@ -212,10 +212,10 @@ pub record InputIsHeld : Type 0 where
   pub cut : (list : Vec ℕ) → list.items ≡ codes "m" → ¬ (IsInput (WithInput false) (Some (codes "-")) (Some list))
   pub nothing : ¬ (IsInput (WithInput false) (Some (codes "-")) None)
   pub unnamed : (list : Vec ℕ) → ¬ (IsInput (WithInput false) None (Some list))
-  pub held : (list : Vec ℕ) → held_for (Some path) (Some list) (list_file path) ≡ Some list.items
-  pub other_list : (list : Vec ℕ) → held_for (Some path) (Some list) (list_file (codes "n")) ≡ None
-  pub other_file : (list : Vec ℕ) → held_for (Some path) (Some list) (mod_file path (codes "v1.0.0")) ≡ None
-  pub empty : (list : Vec ℕ) → held_for None (Some list) (list_file path) ≡ None
+  pub held : (list : Vec ℕ) → file_in_memory (Some path) (Some list) (list_file path) ≡ Some list.items
+  pub other_list : (list : Vec ℕ) → file_in_memory (Some path) (Some list) (list_file (codes "n")) ≡ None
+  pub other_file : (list : Vec ℕ) → file_in_memory (Some path) (Some list) (mod_file path (codes "v1.0.0")) ≡ None
+  pub empty : (list : Vec ℕ) → file_in_memory None (Some list) (list_file path) ≡ None
 
 -- ---- the words
 

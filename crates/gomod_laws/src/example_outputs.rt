@@ -39,8 +39,8 @@ pub fn input_is_unread()
     ensures { InputIsUnread }
 {}
 
-/// `IsInput`, `held_for`: the store of `versions m` answers for the list of m with all bytes that were read of standard
-/// input and no others, and has no other list or file. Without the module it has none.
+/// `IsInput`, `file_in_memory`: the store of `versions m` answers for the list of m with all bytes that were read of
+/// standard input and no others, and has no other list or file. Without the module it has none.
 pub fn input_is_held()
     ensures { InputIsHeld }
 {}

@@ -8,18 +8,16 @@ use Rattle.gm_graph.specs.declared.fault.Fault.{Fault}
 use Rattle.gm_graph.specs.Run.{Run, run_of}
 use Rattle.gm_graph.proofs.RunLemmas.{Agrees, needed, settled_answers}
 use Rattle.gomod_run.specs.Queries.{AreFound, Given, Prints, QueryEnds}
-use Rattle.gomod_run.specs.ChainQuery.{PrintsChain}
-use Rattle.gomod_run.specs.GraphQuery.{PrintsGraph}
-use Rattle.gomod_run.specs.ListQuery.{PrintsList}
+use Rattle.gomod_run.specs.Private.ByCommand.{PrintsOf}
 use Rattle.gomod_run.specs.Needs.{AnsweredAll, AnswersByName, GraphNeeds}
 use Rattle.gomod_run.specs.Outcome.{OrNoMemory, Outcome, failure_outcome}
 use Rattle.gomod_run.specs.Reports.{device_line}
-use Rattle.gomod_run.proofs.OneQueryStore.{itself, stores_agree}
+use Rattle.gomod_run.proofs.StoresAgree.{itself, stores_agree}
 use Rattle.gomod_run.proofs.PrintedList.{printed_run}
-use Rattle.gomod_run.proofs.OneVersions.{none_needed, one_latest, shown_listed}
+use Rattle.gomod_run.proofs.OneVersions.{alike_itself, none_needed, one_latest, one_listed, shown_listed}
 use Rattle.gomod_run.proofs.WrittenTexts.{written_as}
 use Rattle.gomod_words.specs.declared.usage.Command.{Command}
-use Rattle.gomod_words.specs.declared.usage.Command.TheVariants.{Fmt, Edit, Versions, Graph, List as Rows, Chain}
+use Rattle.gomod_words.specs.declared.usage.Command.TheVariants.{Fmt, Edit, Versions}
 use Rattle.gm_store.specs.States.{StoreState}
 use Rattle.gomod_run.specs.Runs.{HoldsAtAnyEnd, Needs, RunEnds}
 use Rattle.gomod_run.specs.Versions.{AreShown, VersionsEnds, VersionsNeed, all_listed, bad_file, device, list_refusal, no_list, not_retracted, printed}
@@ -45,9 +43,11 @@ shown_answered : (path : List ℕ) (all : Bool) (answers : AnswersByName) (shown
 shown_answered path all answers shown are name (inl (fetchable, same)) =
     let (versions, is) = shown_listed path all answers shown are in (bytes is.list, ap answers same ∙ is.answered)
 shown_answered path all answers shown (all_listed is every) name (inr (versions, latest, same, needed)) =
-    absurd (none_needed path all answers shown versions latest is every needed)
+    let same = one_listed path all answers answers (alike_itself path all answers) needed.listed is in
+    absurd (none_needed path all answers shown versions latest same every needed)
 shown_answered path all answers shown (not_retracted versions latest reply _ _ says _ _) name (inr (others, last, same, needed)) =
-    (reply, ap answers (same ∙ ap (mod_file path) (one_latest path all answers others versions last latest needed says.chosen).1) ∙ says.answered)
+    let latest_same = one_latest path all answers answers (alike_itself path all answers) others versions last latest needed says.chosen in
+    (reply, ap answers (same ∙ ap (mod_file path) latest_same.1) ∙ says.answered)
 
 -- the report that there is no list has the status of a refusal
 pub refusal_status : (path : List ℕ) (fetchable : Bool) (answer : Option Reply) (outcome : Outcome)
@@ -80,9 +80,7 @@ pub done_answers : (command : Command) (run : Given) (outcome : Outcome) → Run
 done_answers Fmt run outcome is done = λ name need. absurd need
 done_answers (Edit operations) run outcome is done = λ name need. absurd need
 done_answers (Versions path all) run outcome is done = versions_done path all (answer_in run.answers.asked) run.answers.failed outcome is done
-done_answers Graph run outcome is done = query_done PrintsGraph run outcome is done
-done_answers (Rows after limit) run outcome is done = query_done (PrintsList after limit) run outcome is done
-done_answers (Chain path) run outcome is done = query_done (PrintsChain path) run outcome is done
+done_answers command run outcome is done = query_done (PrintsOf command) run outcome is done
 
 -- the same where memory may have run out: its report has another status
 pub done_if_memory : (command : Command) (run : Given) (outcome : Outcome) → OrNoMemory (RunEnds command run) outcome → outcome.status ≡ 0

@@ -15,7 +15,7 @@ use Rattle.gomod_run.specs.Queries.{Answers, longest}
 use Rattle.gomod_run.specs.Outcome.{OrNoMemory, Outcome, code_of, report_outcome}
 use Rattle.gomod_run.specs.declared.reports.report.Report.{Report}
 use Rattle.gomod_run.specs.declared.reports.status.Status.{Status}
-use Rattle.gomod_run.specs.Program.{AreAnswersBy, IsInput, held_for, sums_input}
+use Rattle.gomod_run.specs.Program.{AreAnswersBy, IsInput, file_in_memory, sums_input}
 use Rattle.gomod_run.specs.Runs.{is_query, answers_between}
 use Rattle.gomod_run.specs.Written.{EndsAsStated, IsWritten}
 use Rattle.gomod_run.specs.Private.Stopped.{EndsOrStops}
@@ -44,10 +44,10 @@ pub answers_allowed : {one other : Name → Option Reply → Type 0} (answers : 
 answers_allowed answers wider are = ((λ name reply k. wider name (Some reply) (are.0 name reply k)), (λ name k. wider name None (are.1 name k)))
 
 -- a store in memory answers with what it holds, and its device never fails
-pub held_allowed : (path : Option (List ℕ)) (list : Option (Vec ℕ)) (store : MemoryFiles) → ((name : Name) → held_at store name ≡ held_for path list name)
-    → (name : Name) (answer : Option Reply) → may_give store name answer → answer ≡ Some (reply_for longest (held_for path list name))
-held_allowed path list store holds name (Some reply) given = ap Some (given ∙ ap (reply_for longest) (holds name))
-held_allowed path list store holds name None given = absurd given
+pub memory_allowed : (path : Option (List ℕ)) (list : Option (Vec ℕ)) (store : MemoryFiles) → ((name : Name) → held_at store name ≡ file_in_memory path list name)
+    → (name : Name) (answer : Option Reply) → may_give store name answer → answer ≡ Some (reply_for longest (file_in_memory path list name))
+memory_allowed path list store holds name (Some reply) given = ap Some (given ∙ ap (reply_for longest) (holds name))
+memory_allowed path list store holds name None given = absurd given
 
 -- ---- a run that may have stopped before it began
 

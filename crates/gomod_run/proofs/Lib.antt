@@ -4,13 +4,11 @@ pub mod Endings
 pub mod Misread
 pub mod Operations
 pub mod Joining
-pub mod Sameness
 pub mod OneVersions
 pub mod Uniqueness
 pub mod PassedOn
 pub mod VersionsSteps
 pub mod CommandRuns
-pub mod OneStore
 pub mod Answered
 pub mod WrittenTexts
 pub mod Takings
@@ -25,12 +23,9 @@ pub mod CommandOutcomes
 pub mod Faulty
 pub mod FewOpened
 pub mod OneRead
-pub mod OneQueryStore
-pub mod OnePrinted
-pub mod OneOutcome
+pub mod StoresAgree
 pub mod PrintedList
 pub mod QueryParts
-pub mod OneGraph
 pub mod GreatestRows
 pub mod ShortestChain
 pub mod ListLines

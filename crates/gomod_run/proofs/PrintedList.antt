@@ -25,10 +25,9 @@ use Rattle.gm_graph.specs.Run.{AreRows, IsEdge, IsVertex, Run, run_of}
 use Rattle.gm_graph_select.proofs.RankedLists.{from_mapped, in_mapped}
 use Rattle.gomod_run.specs.QueryLaws.{AreGreatest, ArePrintedPages, ListIsBuildList, PrintedPagesJoin, no_row, one_page}
 use Rattle.gomod_run.specs.Queries.{AreFound, Given, Prints, QueryEnds, bad_main, bad_sums, device, faulty, no_fault, too_many}
-use Rattle.gomod_run.specs.ListQuery.{ListEnds, PrintsList, PrintsRows, no_path, path_listed, up_to, list_text}
+use Rattle.gomod_run.specs.ListQuery.{ListEnds, PrintsList, PrintsRows, no_path, path_listed, path_unlisted, up_to, list_text}
 use Rattle.gomod_run.specs.Outcome.{Outcome, failure_outcome, text_outcome, refusal_outcome}
 use Rattle.gomod_run.proofs.FewOpened.{IsFew, edges_listed}
-use Rattle.gomod_run.proofs.OnePrinted.{shown}
 
 -- ---- a run that prints
 
@@ -38,7 +37,7 @@ Printed prints run outcome = (main : Main) × (table : Option Sums) × AreFound 
 pub not_refused : (report : List ℕ) (outcome : Outcome) → outcome ≡ refusal_outcome report → outcome.status ≡ 0 → ⊥
 not_refused report outcome same is = let code = ap (λ (o : Outcome). o.status) same in omega (arith, code, is)
 
-not_failed : (report : List ℕ) (outcome : Outcome) → outcome ≡ failure_outcome report → outcome.status ≡ 0 → ⊥
+pub not_failed : (report : List ℕ) (outcome : Outcome) → outcome ≡ failure_outcome report → outcome.status ≡ 0 → ⊥
 not_failed report outcome same is = let code = ap (λ (o : Outcome). o.status) same in omega (arith, code, is)
 
 pub printed_run : (prints : Prints) (run : Given) (outcome : Outcome) → QueryEnds prints run outcome → outcome.status ≡ 0 → Printed prints run outcome
@@ -52,7 +51,9 @@ printed_run prints run outcome (no_fault main table found says) is = (main, tabl
 -- without a path all rows are printed
 pub all_rows : (main : Main) (rows : List Entry) (limit : Option ℕ) (outcome : Outcome)
     → PrintsRows main rows None limit outcome → outcome ≡ text_outcome (list_text main.path (up_to limit rows))
-all_rows main rows limit = shown main rows limit None
+all_rows main rows limit outcome (no_path none says) = says
+all_rows main rows limit outcome (path_listed path others given at says) = absurd (cc given)
+all_rows main rows limit outcome (path_unlisted path given says) = absurd (cc given)
 
 -- ---- the build list of edges that are given as a relation
 

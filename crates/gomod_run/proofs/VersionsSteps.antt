@@ -20,7 +20,7 @@ use Rattle.gomod_run.specs.Private.VersionsRuns.{AreVersionsAnswered, IsListAnsw
 use Rattle.gomod_words.specs.declared.usage.Command.TheVariants.{Versions}
 use Rattle.gomod_run.proofs.Answering.{file_answer, list_answer}
 use Rattle.gomod_run.proofs.CommandOutcomes.{broken_comes, still_comes}
-use Rattle.gomod_run.proofs.OneVersions.{shown_listed, unrefused, versions_once}
+use Rattle.gomod_run.proofs.OneVersions.{refused_first, shown_listed, unrefused}
 
 abbrev pub Pairs : Type 0
 Pairs = List (Name × Reply)
@@ -46,7 +46,7 @@ module _ (path : List ℕ) (all : Bool) (before after : Name → Option Reply �
       → ComesTo (Versions path all) main sums before after old new outcome
   versions_come (ended_run still in_turn ends) served main sums =
       still_comes (Versions path all) main sums before after old new outcome in_turn served
-      (told_first (λ other refused. versions_once path all (answer_in new.asked) outcome other ends (no_list refused refl))) still (inl ends)
+      (told_first (λ other refused. refused_first path all (answer_in new.asked) outcome other ends refused)) still (inl ends)
   versions_come (memory_run still in_turn none memory) served main sums =
       still_comes (Versions path all) main sums before after old new outcome in_turn served
       (told_first (λ other refused. absurd (none other refused))) still (inr memory)

@@ -94,9 +94,9 @@ bytes_read (Some content) = content.items
 -- ---- what its store may answer
 
 -- the file under a name in a store without proxy folders: the list of the module, if the versions of one are listed
-abbrev pub held_for : Option (List ℕ) → Option (Vec ℕ) → Name → Option (List ℕ)
-held_for (Some path) (Some list) name = if same_name name (list_file path) then Some list.items else None
-held_for _ _ name = None
+abbrev pub file_in_memory : Option (List ℕ) → Option (Vec ℕ) → Name → Option (List ℕ)
+file_in_memory (Some path) (Some list) name = if same_name name (list_file path) then Some list.items else None
+file_in_memory _ _ name = None
 
 -- the folder that a store on disk takes local folders from: that of the main file with this name; or the current one,
 -- if the versions of a module are listed, since there is no main file then
@@ -115,7 +115,7 @@ AreAnswersBy may answers = ((name : Name) (reply : Reply) → Contains answers.a
 abbrev pub MayBeAnswered : (List ℕ → Opening → Type 0) → Option (List ℕ) → List ℕ → Option (Vec ℕ) → Option ProxyList
     → Answers → Type 0
 MayBeAnswered may_open path main list None answers =
-    AreAnswersBy (λ name answer. answer ≡ Some (reply_for longest (held_for path list name))) answers
+    AreAnswersBy (λ name answer. answer ≡ Some (reply_for longest (file_in_memory path list name))) answers
 MayBeAnswered may_open path main list (Some folders) answers = (folder : List ℕ) × IsFolderFor path main folder
     × AreAnswersBy (MayAnswer may_open folder (folders_in folders) (marks_in folders)) answers
 

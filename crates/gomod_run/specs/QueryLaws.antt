@@ -1,6 +1,6 @@
 -- Laws about the outcomes of `graph`, `list` and `chain`, which follow from the definitions alone. A law that
 -- names no section of the Go Modules Reference is about a choice of this program: that the list can be printed in
--- parts and pages, and which chain is printed.
+-- pages, and which chain is printed.
 use Rattle.std.specs.Prelude.{◌≡◌, ◌≢◌, ◌<◌, ◌≤◌, ℕ, false, List, [], ◌∷◌, ◌++◌, length, map, Option, Some, None, Contains}
 use Rattle.std.specs.List.{flat_map}
 use Rattle.std.specs.Ordering.{is_gt}
@@ -9,19 +9,17 @@ use Rattle.gm_name.specs.ModuleVersion.{ModuleVersion}
 use Rattle.gm_store.specs.Asked.{Name, Reply, answer_in}
 use Rattle.gm_store_sums.specs.Sums.{Sums}
 use Rattle.gm_file.specs.Main.{Main, replacement_in}
-use Rattle.gm_graph_select.specs.declared.step.Edge.{Edge}
 use Rattle.gm_graph_select.specs.declared.step.Step.{Step}
 use Rattle.gm_graph_select.specs.declared.step.Step.TheVariants.{Main as FromMain, Of}
-use Rattle.gm_graph_select.specs.BuildList.{IsBuildList, IsEntryOf, entry_of, main_entry, path_cmp, path_of}
+use Rattle.gm_graph_select.specs.BuildList.{IsEntryOf, entry_of, main_entry, path_cmp, path_of}
 use Rattle.gm_graph.specs.Entries.{Entry}
-use Rattle.gm_graph_select.specs.Graph.{Edges, among}
+use Rattle.gm_graph_select.specs.Graph.{Edges}
 use Rattle.gm_graph_select.specs.Laws.{entries_of_pages}
 use Rattle.gm_graph_select.specs.Order.{IsAscending}
-use Rattle.gm_graph.specs.Run.{AreEdges, AreRows, IsEdge, IsVertex, Run, run_of}
+use Rattle.gm_graph.specs.Run.{AreRows, IsEdge, IsVertex, Run, run_of}
 use Rattle.gomod_run.specs.declared.reports.status.Status.TheVariants.{Done}
-use Rattle.gomod_run.specs.ChainQuery.{chain_text, ChainEnds, ShowsChain}
-use Rattle.gomod_run.specs.GraphQuery.{graph_text, GraphEnds}
-use Rattle.gomod_run.specs.ListQuery.{list_text, ListEnds, PrintsRows}
+use Rattle.gomod_run.specs.ChainQuery.{chain_text, ChainEnds}
+use Rattle.gomod_run.specs.ListQuery.{list_text, ListEnds}
 use Rattle.gomod_run.specs.Queries.{AreFound, Given}
 use Rattle.gomod_run.specs.Outcome.{Outcome, code_of, text_outcome}
 
@@ -74,22 +72,6 @@ BuildListIsListed = (run : Given) (main : Main) (table : Option Sums) (selected 
     → ListEnds None None run
     (text_outcome (list_text main.path (main_entry ∷ map (entry_of (replacement_in main)) selected)))
 
--- ---- parts of the list
-
--- The one outcome is the build list, and the other its rows: all, or those after the row of the path, cut off at the
--- limit; or it reports a path that has no row.
-abbrev pub ShowsPart : Option (List ℕ) → Option ℕ → Given → Outcome → Outcome → Type 0
-ShowsPart after limit run whole part =
-    (main : Main) × (table : Option Sums) × (rows : List Entry) × AreFound run main table []
-    × AreRows (run_of main table run.answers.asked) rows
-    × (whole ≡ text_outcome (list_text main.path rows)) × PrintsRows main rows after limit part
-
--- this holds for any path and limit when `list` prints
-abbrev pub PartsOfOneList : Type 0
-PartsOfOneList = (after : Option (List ℕ)) (limit : Option ℕ) (run : Given) (whole part : Outcome)
-    → ListEnds None None run whole → ListEnds after limit run part → whole.status ≡ code_of Done
-    → ShowsPart after limit run whole part
-
 -- ---- pages
 
 -- The pages of n rows: `list` prints the first from the beginning, and each further one after the last row of
@@ -137,35 +119,3 @@ ShowsShortestWalk path run outcome =
 abbrev pub PrintedChainIsShortest : Type 0
 PrintedChainIsShortest = (path : List ℕ) (run : Given) (outcome : Outcome) → ChainEnds path run outcome
     → outcome.status ≡ code_of Done → ShowsShortestWalk path run outcome
-
--- ---- the three commands show one graph
-
--- The rows of `list` are the build list of the edges of `graph`, and the steps of `chain` are the chain over
--- these edges to the build list's entry for the path.
-pub record AreOfOneGraph (main : Main) (edges : List Edge) (rows : List Entry)
-    (after : Option (List ℕ)) (limit : Option ℕ) (path : List ℕ) (graph list chain : Outcome) : Type 0 where
-  pub build_list : IsBuildList main.path (replacement_in main) (among edges) rows
-  pub graph_is : graph ≡ text_outcome (graph_text main.path edges)
-  pub list_is : PrintsRows main rows after limit list
-  pub chain_is : ShowsChain path main (among edges) rows chain
-
--- the same with the edges of the run
-abbrev pub ShowOneGraph : Option (List ℕ) → Option ℕ → List ℕ → Given → Outcome → Outcome → Outcome → Type 0
-ShowOneGraph after limit path run graph list chain =
-    (main : Main) × (table : Option Sums) × (edges : List Edge) × (rows : List Entry) × AreFound run main table []
-    × AreEdges (run_of main table run.answers.asked) edges
-    × AreOfOneGraph main edges rows after limit path graph list chain
-
--- this holds when `graph` prints
-abbrev pub OneGraph : Type 0
-OneGraph = (after : Option (List ℕ)) (limit : Option ℕ) (path : List ℕ) (run : Given) (graph list chain : Outcome)
-    → GraphEnds run graph → ListEnds after limit run list → ChainEnds path run chain
-    → graph.status ≡ code_of Done → ShowOneGraph after limit path run graph list chain
-
--- when `graph` does not print, the others print nothing either and report the same
-abbrev pub OneRefusal : Type 0
-OneRefusal = (after : Option (List ℕ)) (limit : Option ℕ) (path : List ℕ) (run : Given)
-    (graph list chain : Outcome)
-    → GraphEnds run graph → ListEnds after limit run list → ChainEnds path run chain
-    → graph.status ≢ code_of Done
-    → (list ≡ graph) × (chain ≡ graph)

@@ -9,7 +9,7 @@ ghost use Rattle.gm_store.specs.Memory.{held_at, pairs_of};
 ghost use Rattle.gm_store.specs.Proxies.{folders_in, marks_in};
 ghost use Rattle.gm_store.specs.Views.{asked_by, refused_by};
 ghost use Rattle.gomod_run.specs.Outcome.{OrNoMemory, report_outcome};
-ghost use Rattle.gomod_run.specs.Program.{FileGives, IsFolderFor, IsInput, IsUnread, held_for, list_input, versions_path};
+ghost use Rattle.gomod_run.specs.Program.{FileGives, IsFolderFor, IsInput, IsUnread, file_in_memory, list_input, versions_path};
 
 use crate::inputs::{STANDARD_INPUT, read_named, versions_path};
 use crate::reports::report::Report;
@@ -58,7 +58,7 @@ pub(crate) fn folders_of<S: FileSystem + Copy + Drop + Alloc<A = Global>>(
 fn store_of(alloc: Global, path: &ModPath, list: Vec<u8>) -> Result<MemoryFiles, NoMemory>
     ensures asked { IfOk result (λ files. pairs_of files ≡ []) }
     ensures held { IfOk result (λ files. (name : Name)
-        → held_at files name ≡ held_for (Some path.now) (Some list) name) }
+        → held_at files name ≡ file_in_memory (Some path.now) (Some list) name) }
 {
     let name = FileName::List(path.copy(alloc)?);
     let mut files = MemoryFiles::new(alloc);
@@ -75,7 +75,7 @@ pub(crate) fn memory_of<S: StandardInput + FileSystem + Alloc<A = Global>>(
     ensures asked { IfOk result (λ files. pairs_of files ≡ []) }
     ensures held { IfOk result (λ files. (list : Option (Vec ℕ))
         × IsInput (FileGives (S.may_open rt.now) (S.may_take rt.now)) (list_input command.now None) list
-        × ((name : Name) → held_at files name ≡ held_for (versions_path command.now) list name)) }
+        × ((name : Name) → held_at files name ≡ file_in_memory (versions_path command.now) list name)) }
     ensures unread { IfErr result (λ told. OrNoMemory (IsUnread
         (FileGives (S.may_open rt.now) (S.may_take rt.now)) (list_input command.now None)) (report_outcome told)) }
 {

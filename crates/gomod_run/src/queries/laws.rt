@@ -2,7 +2,7 @@
 //! contract is a law. A law that names no section of the Go Modules Reference is about a choice of this
 //! program.
 
-ghost use Rattle.gomod_run.specs.QueryLaws.{BuildListIsListed, ListIsBuildList, OneGraph, OneRefusal, PartsOfOneList, PrintedChainIsShortest, PrintedPagesJoin};
+ghost use Rattle.gomod_run.specs.QueryLaws.{BuildListIsListed, ListIsBuildList, PrintedChainIsShortest, PrintedPagesJoin};
 ghost use Rattle.gm_graph.specs.declared.fault.Fault.{Fault};
 ghost use Rattle.gm_graph.specs.Entries.{Entry};
 ghost use Rattle.gm_graph_select.specs.declared.step.Edge.{Edge};
@@ -25,12 +25,6 @@ pub fn list_is_build_list()
     ensures printed { BuildListIsListed }
 {}
 
-/// For any path and limit, `list` prints rows of that one list: either all rows or exactly those after the
-/// row of the path, cut off at the limit. A path that has no row is reported.
-pub fn parts_of_one_list()
-    ensures { PartsOfOneList }
-{}
-
 /// Pages of n rows, each starting after the last row of the previous page, concatenate to what `list` prints
 /// at once, for every n from 1.
 pub fn pages_join()
@@ -41,14 +35,6 @@ pub fn pages_join()
 /// the last step is the entry of the build list for the path. No sequence of this kind has fewer steps.
 pub fn chain_is_shortest()
     ensures { PrintedChainIsShortest }
-{}
-
-/// When `graph` prints edges, the rows of `list` are the build list of exactly these edges, and `chain`
-/// prints the chain over exactly these edges to the build list's entry for the path. When `graph` reports an
-/// error, the other two print nothing and report the same.
-pub fn one_graph()
-    ensures graph { OneGraph }
-    ensures refusal { OneRefusal }
 {}
 
 /// The text of a list, cut at its line feeds, is one line for each row, in order, and a line says its row: path and

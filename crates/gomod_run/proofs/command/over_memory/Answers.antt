@@ -3,7 +3,7 @@ use Rattle.gm_store.specs.Memory.{memory_files_state}
 use Rattle.gomod_run.specs.Program.{no_list, runs, versions_path}
 use Rattle.gomod_run.specs.Runs.{answers_between}
 use Rattle.gomod_run.proofs.Endings.{ends_weaken}
-use Rattle.gomod_run.proofs.CommandRuns.{are_its_own, answers_allowed, held_allowed, stopped}
+use Rattle.gomod_run.proofs.CommandRuns.{are_its_own, answers_allowed, memory_allowed, stopped}
 use Rattle.gomod_run.proofs.command.over_memory.Goals as goal
 
 pub returns-in_err-read : goal.returns-in_err-read
@@ -24,5 +24,5 @@ returns g c =
     let own = are_its_own c.in_ok-files.ensures.asked refl c.run.ensures.holds.served in
     let answers = answers_between (memory_files_state c.in_ok-files.files) (memory_files_state c.run.new.files) in
     ends_weaken (λ outcome ran. runs _ _ list answers c.in_ok-read.ensures.main c.in_ok-read.ensures.sums is
-    (answers_allowed answers (held_allowed (versions_path c.args.command.now) list c.in_ok-files.files holds) own) ran)
+    (answers_allowed answers (memory_allowed (versions_path c.args.command.now) list c.in_ok-files.files holds) own) ran)
     (rw (c.main-main.ensures, c.sums-sums.ensures) at c.run.ensures.ends)
