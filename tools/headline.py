@@ -1,8 +1,9 @@
-"""Keeps the pages that show what `gomod list` is proved to print, and the crate page, in step with the definitions and
-with docs/proof/SPEC.md.
+"""Keeps the pages that show what `gomod list` is proved to print, and the crates page and page_commands, in step with the
+definitions and with docs/proof/SPEC.md.
 
     tools/headline.sh          writes the shown definitions into the pages anew: HEADLINE, REPORTS, BYTES, DIRECTIVES,
-                               EDITS, NAMES, OTHERS; and copies of those that `list` needs into crates/page/specs
+                               EDITS, NAMES, OTHERS; and copies of those that `list` needs into crates/page/specs, and of
+                               those of the other commands into crates/page_commands/specs
     tools/headline.sh --check  changes nothing, and tells which page or copy is out of step, or too long
 
 Between the marks `<!-- show .. -->` and `<!-- end -->` of a page stands what the sources say:
@@ -15,9 +16,9 @@ Between the marks `<!-- show .. -->` and `<!-- end -->` of a page stands what th
 All other text is written by hand. A quote (a line that begins with `>`) must stand in docs/proof/SPEC.md word by word.
 A definition stands on one page only. HEADLINE shows a name before what it is made of, the other pages after that.
 
-The copies in crates/page are of all definitions that `ListEnds` reaches, but for those that the crate defines itself:
-specs/Types.antt and Files.antt, written by hand, stand in for types of the code, for what bytes say, and for the
-go.sum.
+The copies in crates/page are of all definitions that `ListEnds` reaches, and those in crates/page_commands of all that
+COPIES names, but for those that the crate defines itself: specs/Types.antt, Files.antt and Runs.antt, written by hand,
+stand in for types of the code, for packages, for what bytes say, for the go.sum, and for runs.
 
 Each definition that the contract of `run` reaches must be on one of the pages. From `ListEnds` to the leaves
 HEADLINE.md may have 45 definitions and 170 lines. A leaf is what another page defines: names, their order and answers
@@ -39,12 +40,23 @@ from collections import defaultdict
 
 import script
 import sources
-from sources import CRATES, PAGE, USE, Definition, definitions, functions, plain, scope_of
+from sources import CRATES, COPYING, USE, Definition, definitions, functions, plain, scope_of
 
 NAMES_OF_PAGES = ("HEADLINE", "REPORTS", "BYTES", "DIRECTIVES", "EDITS", "NAMES", "OTHERS")
 PAGES = [pathlib.Path("docs/proof") / f"{name}.md" for name in NAMES_OF_PAGES]
 RUNNING = CRATES / "gomod_run/src/running.rt"
 LIST = [("Rattle.gomod_run.specs.ListQuery", "ListEnds"), ("Rattle.gomod_run.specs.Written", "EndsAsStated")]
+# the crates of copies, with the definitions that reach theirs
+COPIES = {"page": LIST[:1], "page_commands": [(f"Rattle.{path}", name) for path, name in (
+    ("gomod_run.specs.Versions", "VersionsEnds"), ("gomod_run.specs.ChainQuery", "PrintsChain"),
+    ("gomod_run.specs.GraphQuery", "PrintsGraph"), ("gomod_run.specs.Fmt", "FmtEnds"),
+    ("gomod_run.specs.Edit", "EditEnds"), ("gm_store_sums.specs.Hash", "file_hash"),
+    ("gm_store_sums.specs.Sums", "SaysOfHash"), ("gm_store_sums.specs.Sums", "IsFirstInvalid"),
+    ("gm_store_sums.specs.Sums", "HasValidLines"), ("gm_store.specs.Asked", "answer_in"),
+    ("gm_store.specs.Relative", "relative_text"), ("gm_name.specs.Path", "IsPath"),
+    ("gm_syntax.specs.Lines", "lines_of"), ("gm_syntax.specs.Document", "class_of"),
+    ("gm_syntax.specs.Document", "start"), ("gm_syntax.specs.Document", "after"),
+)]}
 NAME = re.compile(r"(?<![\w.'])(?:([A-Za-z_]\w*)\.)?([A-Za-z_][\w'-]*)")
 VARIABLE = r"(?<![\w.'])[a-z_]\w*'?"
 # what binds variables, and fields
@@ -59,7 +71,7 @@ SHOWN = re.compile(r"(?ms)^<!-- show ([^\n]*?) -->\n(.*?)^<!-- end -->$")
 FILES = {
     it: scope_of(it.read_text())
     for it in sources.files("specs/*.antt")
-    if it.name not in ("Lib.antt", "Private.antt") and it.parts[1] != PAGE
+    if it.name not in ("Lib.antt", "Private.antt") and it.parts[1] not in COPYING
 }
 
 
@@ -279,45 +291,10 @@ def is_private(leaf):
     return bool(leaf.owner) and leaf.owner[1] not in offered(leaf.owner[0])
 
 
-# ---- the crate that a reader can change
+# ---- the crates that a reader can change
 
 
-BY_HAND = ("Types", "Files", "Worlds")  # its definitions that are written by hand: what they name is not copied
-
-
-@functools.cache
-def stand_ins():
-    """The names that the crate defines by hand, each with its file: those of definitions, and those of constructors."""
-    names, constructors = {}, {}
-    for base in BY_HAND[:-1]:
-        for one in definitions(CRATES / PAGE / f"specs/{base}.antt").values():
-            names[one.name] = base
-            constructors.update(dict.fromkeys(one.constructors, base))
-    return names, constructors
-
-
-def stand_in(one):
-    """The file of the crate that has a stand-in for a definition or a leaf, or None."""
-    names, constructors = stand_ins()
-    return names.get(one.name) or (constructors.get(one.name) if isinstance(one, Leaf) and one.owner else None)
-
-
-def copied():
-    """The definitions from `ListEnds` to the stand-ins, by their files."""
-    found, _ = reached_from([place(*LIST[0])], stand_in)
-    by_files = {file: [it for it in definitions(file).values() if it in found] for file in FILES}
-    return {file: ones for file, ones in by_files.items() if ones}
-
-
-def names_kept(path, listed, ones):
-    """Those of the imported names that these definitions use, each with the file of the crate that has it."""
-    code = "\n".join(one.code for one in ones)
-    words = {name for one in ones for name in used_by(one)}
-    for item in filter(None, (it.strip() for it in listed.split(","))):
-        name, _, other = item.partition(" as ")
-        is_used = (other or name) in words if NAME.fullmatch(name) else is_in(name, code)
-        if is_used:
-            yield item, stand_in(place(path, name)) if NAME.fullmatch(name) else None
+BY_HAND = ("Types", "Files", "Runs", "Worlds")  # their definitions that are written by hand: what these name is not copied
 
 
 def is_in(name, code):
@@ -326,43 +303,74 @@ def is_in(name, code):
                for it in name.split("◌") if it)
 
 
-def copy_of(file, ones):
-    """The text of the crate's file with these definitions of a source."""
-    imports = defaultdict(list)
-    for _, path, listed, short in USE.findall(file.read_text()):
-        parts = path.split(".")
-        is_own = parts[0] == "Rattle" and (CRATES / parts[1]).is_dir()
-        if short:
-            if any(re.search(rf"\b{short}\.", one.code) for one in ones):
-                imports[f"Rattle.{PAGE}.specs.Types as {short}"] = []
-            continue
-        for item, base in names_kept(path, listed, ones):
-            where = f"Rattle.{PAGE}.specs.{base or parts[-1]}" if is_own or base else path
-            imports[where].append(item)
-    for name, one in sorted({it for one in ones for it in used_by(one).items()}, key=lambda it: it[0]):
-        if isinstance(one, Definition) and one.file == file and stand_in(one):
-            imports[f"Rattle.{PAGE}.specs.{stand_in(one)}"].append(name)
-    uses = [f"use {path}" + (f".{{{', '.join(items)}}}" if items else "") for path, items in imports.items()]
-    head = f"-- A copy from {file}, which tools/headline.sh writes."
-    return "\n\n".join(["\n".join([head, *uses]), *(one.whole() for one in ones)]) + "\n"
+class Copies:
+    """A crate with copies of the definitions from these down to its stand-ins."""
 
+    def __init__(self, crate, ends):
+        self.specs, self.path = CRATES / crate / "specs", f"Rattle.{crate}.specs"
+        self.names, self.constructors = {}, {}
+        self.by_hand = [it for it in BY_HAND if (self.specs / f"{it}.antt").exists()]
+        for base in self.by_hand[:-1]:
+            for one in definitions(self.specs / f"{base}.antt").values():
+                self.names[one.name] = base
+                self.constructors.update(dict.fromkeys(one.constructors, base))
+        found, _ = reached_from([place(*it) for it in ends], self.stand_in)
+        by_files = {file: [it for it in definitions(file).values() if it in found] for file in FILES}
+        self.copied = {file: ones for file, ones in by_files.items() if ones}
 
-def copies():
-    """The files of the crate that are not written by hand, each with its text."""
-    texts = {file.name: copy_of(file, ones) for file, ones in copied().items()}
-    bases = [*(name.removesuffix(".antt") for name in texts), *BY_HAND]
-    texts["Lib.antt"] = "".join(f"pub mod {base}\n" for base in sorted(bases))
-    return {CRATES / PAGE / "specs" / name: text for name, text in texts.items()}
+    def stand_in(self, one):
+        """The module of the crate that has a stand-in for a definition or a leaf, or None."""
+        if not (isinstance(one, Leaf) and one.owner):
+            return self.names.get(one.name)
+        own = f"Types.{one.owner[1]}"
+        is_there = (self.specs / own.replace(".", "/")).with_suffix(".antt").exists()
+        return own if is_there else self.names.get(one.name) or self.constructors.get(one.name)
 
+    def base_of(self, file):
+        """The name of the copy of a file, with that of its crate if there are two."""
+        is_alone = [it.name for it in self.copied].count(file.name) == 1
+        return file.stem if is_alone else file.parts[1].title().replace("_", "") + file.stem
 
-def renew_copies(option):
-    """Writes the crate's copies, or says which is out of step."""
-    wrong, texts = 0, copies()
-    for path in (CRATES / PAGE / "specs").glob("*.antt"):
-        if path not in texts and path.stem not in BY_HAND:
-            wrong += 1
-            print(f"{path}: it is a copy of nothing that the headline reaches")
-    return wrong + sum(script.keep(path, text, bool(option), "tools/headline.sh") for path, text in texts.items())
+    def names_kept(self, path, listed, ones):
+        """Those of the imported names that these definitions use, each with the module of the crate that has it."""
+        code = "\n".join(one.code for one in ones)
+        words = {name for one in ones for name in used_by(one)}
+        for item in filter(None, (it.strip() for it in listed.split(","))):
+            name, _, other = item.partition(" as ")
+            if not NAME.fullmatch(name):
+                if is_in(name, code):
+                    yield item, None
+            elif (other or name) in words:
+                one = place(path, name)
+                yield item, self.stand_in(one) or (isinstance(one, Definition) and self.base_of(one.file))
+
+    def text_of(self, file, ones):
+        """The text of the crate's file with these definitions of a source."""
+        imports = defaultdict(list)
+        for _, path, listed, short in USE.findall(file.read_text()):
+            if short:
+                if used := [it for one in ones for name, it in used_by(one).items() if name.startswith(f"{short}.")]:
+                    imports[f"{self.path}.{self.stand_in(used[0])} as {short}"] = []
+                continue
+            for item, base in self.names_kept(path, listed, ones):
+                imports[f"{self.path}.{base}" if base else path].append(item)
+        for name, one in sorted({it for one in ones for it in used_by(one).items()}, key=lambda it: it[0]):
+            if isinstance(one, Definition) and one.file == file and self.stand_in(one):
+                imports[f"{self.path}.{self.stand_in(one)}"].append(name)
+        uses = [f"use {path}" + (f".{{{', '.join(items)}}}" if items else "") for path, items in imports.items()]
+        head = f"-- A copy from {file}, which tools/headline.sh writes."
+        return "\n\n".join(["\n".join([head, *uses]), *(one.whole() for one in ones)]) + "\n"
+
+    def renew(self, option):
+        """Writes the copies, or says which is out of step; gives how many are."""
+        texts = {self.base_of(file): self.text_of(file, ones) for file, ones in self.copied.items()}
+        texts["Lib"] = "".join(f"pub mod {base}\n" for base in sorted([*texts, *self.by_hand]))
+        strange = [it for it in self.specs.glob("*.antt") if it.stem not in texts and it.stem not in BY_HAND]
+        for path in strange:
+            print(f"{path}: it is a copy of nothing that the pages reach")
+        texts = {self.specs / f"{name}.antt": text for name, text in texts.items()}
+        wrong = [script.keep(path, text, bool(option), "tools/headline.sh") for path, text in texts.items()]
+        return len(strange) + sum(wrong)
 
 
 def miscounted(page, says):
@@ -419,7 +427,7 @@ def main(option=""):
         wrong += script.keep(page.path, text, bool(option), "tools/headline.sh")
         size = sum(it.size() for it in page.defined)
         print(f"{page.path}: {len(page.defined)} definitions, {size} lines")
-    wrong += keep_short(pages[0], pages[1:]) + renew_copies(option)
+    wrong += keep_short(pages[0], pages[1:]) + sum(Copies(*it).renew(option) for it in COPIES.items())
     wrong += counts(pages)
     return 1 if wrong else 0
 

@@ -7,8 +7,8 @@ more lemmas have which say different things, and the statements that are proved 
 A lemma restates another if their types are the same text once all variables are renamed in the order in which they
 come, and brackets and blanks are left out. So one with other premises, or over another type, isn't counted. The
 standard library's lemmas are those on the pages of the toolchain's std/lemmas, which any crate may cite. Answers to
-goals (proofs/MODULE/FUNCTION) are no lemmas, and crates/page proves copies of statements. It needs rt, python3, and two
-seconds.
+goals (proofs/MODULE/FUNCTION) are no lemmas, and crates/page and page_commands prove copies. It needs rt, python3, and
+two seconds.
 """
 
 import collections
@@ -18,7 +18,7 @@ import subprocess
 import sys
 
 import script
-from sources import PAGE, files
+from sources import COPYING, files
 
 MOST_SHARED = 20
 LEMMA = re.compile(r"(?m)^(?:pub )?([^\s:(){}]+) : (.+(?:\n[ \t]+\S.*)*)")
@@ -66,7 +66,7 @@ def main(*words):
     restated, meanings, places = [], collections.defaultdict(set), collections.defaultdict(list)
     for crate, file, name, said in own_lemmas():
         meanings[name].add(said)
-        if crate != PAGE:
+        if crate not in COPYING:
             places[said].append(f"{crate}/proofs/{file}: {name}")
         if said in known:
             restated.append(f"{crate}/proofs/{file}: {name} restates {known[said]}")

@@ -8,7 +8,7 @@ src/kind.rt and specs/Operations.antt of gm_operation. A name that one table has
 is one that stands in another file too, or twice in a table. A string is a name with or without its dashes or its `=`;
 longer texts, such as help, aren't looked at, but for help's list of operations.
 
-Aside are crates that no program or library of users is made of (cases, tests, laws, page, library_example), the tables
+Aside are crates that no program or library of users is made of (cases, tests, laws, pages, library_example), the tables
 of hints, and, by a list in tools/names.py, words that are spelled alike and are something else: the directives of a
 go.mod file.
 
@@ -41,7 +41,8 @@ HINTS = "gomod_words/src/hints.rt"
 # what stands for a word in the command that a tip shows
 PLACE = r"\b(PATH|VERSION|FOLDER|FILE|DIR|OP)\b"
 # crates that no program or library of users is made of
-ASIDE = "gm_file_edit_laws gomod_case_* gomod_laws gomod_tests library_example page run_cases".split()
+ASIDE = ("gm_file_edit_laws gomod_case_* gomod_laws gomod_tests library_example page page_commands "
+         "run_cases").split()
 DIRECTIVES = "module go require replace exclude retract"
 # files in which these words are something else, and what
 OTHERWISE = {

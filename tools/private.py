@@ -13,15 +13,15 @@ these name, and, if a type of the code has no value of its own, the types of its
 the others doesn't count.
 
 A name counts if the file imports or declares it, even if a variable has it where it stands. So a definition may count
-as reached that isn't: give the variable another name. crates/page is left out, whose definitions are copies. It needs
-python3, and takes two seconds.
+as reached that isn't: give the variable another name. crates/page and page_commands are left out, whose definitions are
+copies. It needs python3, and takes two seconds.
 """
 
 import collections
 import re
 
 import script
-from sources import CRATES, PAGE, code_of, definitions, files, items_of, paths_of, plain, scope_of
+from sources import CRATES, COPYING, code_of, definitions, files, items_of, paths_of, plain, scope_of
 
 NAME = r"[^\s(){}\[\],;.λ⟦⟧|\"]+"
 PATH = re.compile(rf"{NAME}(?:\.{NAME})*")
@@ -247,7 +247,7 @@ class Program:
         for module in self.modules.values():
             for it in module.definitions:
                 is_reached = self.is_reached(module, it)
-                if module.crate != PAGE and is_reached == module.is_private:
+                if module.crate not in COPYING and is_reached == module.is_private:
                     yield f"{module.file}:{it.line}: {it.name}: " + (
                         "a public contract reaches it" if is_reached else "no public contract reaches it")
 
@@ -255,7 +255,7 @@ class Program:
         """The public names that definitions in two or more files of specs/ have, each with the files."""
         files = collections.defaultdict(list)
         for module in self.modules.values():
-            if module.crate != PAGE:
+            if module.crate not in COPYING:
                 for name in {it.name for it in module.definitions if it.is_public}:
                     files[name].append(str(module.file))
         return {name: it for name, it in sorted(files.items()) if len(it) > 1}

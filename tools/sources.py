@@ -15,7 +15,7 @@ import pathlib
 import re
 
 CRATES = pathlib.Path("crates")
-PAGE = "page"  # the crate whose definitions are copies of others
+COPYING = "page", "page_commands"  # the crates whose definitions are copies of others
 # a `use` of either language: the words before it, the path, the names in braces, another name of a module
 USE = re.compile(r"(?m)^ *((?:unfoldable |pub |ghost )*)use ([\w.]+?)(?:\.\{([^}]*)\}| as (\w+))?;?$")
 # one of the code: its path, the names in braces, another name

@@ -1,0 +1,10 @@
+pub mod OnLiterals
+pub mod Members
+pub mod Rows
+pub mod Formats
+pub mod Edits
+pub mod Texts
+pub mod Chains
+pub mod Listable
+pub mod Versions
+pub mod Sums

@@ -1,0 +1,34 @@
+-- A copy from crates/gomod_run/specs/ChainQuery.antt, which tools/headline.sh writes.
+use Rattle.std.specs.Prelude.{◌≡◌, ◌⊎◌, ℕ, List}
+use Rattle.page_commands.specs.Main.{Main}
+use Rattle.page_commands.specs.Types.Step.{Step}
+use Rattle.page_commands.specs.BuildList.{IsEntryOf}
+use Rattle.page_commands.specs.Entries.{Entry}
+use Rattle.page_commands.specs.Chains.{IsChain}
+use Rattle.page_commands.specs.Graph.{Edges}
+use Rattle.page_commands.specs.Runs.{AreRows, IsEdge}
+use Rattle.page_commands.specs.Outcome.{Outcome, text_outcome}
+use Rattle.std.specs.List.{flat_map}
+use Rattle.page_commands.specs.LineParts.{line, step_text}
+use Rattle.page_commands.specs.Queries.{IsUnlisted, Prints}
+
+-- a step as a line
+abbrev pub step_line : List ℕ → Step → List ℕ
+step_line main step = line (step_text main step)
+
+-- each step as a line, in order
+abbrev pub chain_text : List ℕ → List Step → List ℕ
+chain_text main steps = flat_map (step_line main) steps
+
+-- the steps of the chain over these edges to the entry that these rows have for the path, or the report that there is
+-- none
+abbrev pub ShowsChain : List ℕ → Main → Edges → List Entry → Outcome → Type 0
+ShowsChain path main edges rows outcome =
+    ((s : Step) × (steps : List Step) × IsEntryOf main.path rows path s × IsChain edges s steps
+    × (outcome ≡ text_outcome (chain_text main.path steps)))
+    ⊎ IsUnlisted main rows path outcome
+
+-- what `chain` prints over the module graph and the build list
+abbrev pub PrintsChain : List ℕ → Prints
+PrintsChain path run outcome = (rows : List Entry) × AreRows run rows
+    × ShowsChain path run.main (IsEdge run) rows outcome

@@ -1,0 +1,7 @@
+-- A copy from crates/gomod_run/specs/Needs.antt, which tools/headline.sh writes.
+use Rattle.std.specs.Prelude.{Option}
+use Rattle.page_commands.specs.Asked.{Name, Reply}
+
+-- what a store answered
+abbrev pub AnswersByName : Type 0
+AnswersByName = Name → Option Reply

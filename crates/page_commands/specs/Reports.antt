@@ -1,0 +1,72 @@
+-- A copy from crates/gomod_run/specs/Reports.antt, which tools/headline.sh writes.
+use Rattle.std.specs.Prelude.{ℕ, List, ◌++◌, codes, Option, Some, None}
+use Rattle.std.specs.Fmt.{decimal}
+use Rattle.page_commands.specs.ModuleVersion.{ModuleVersion}
+use Rattle.page_commands.specs.Types.SyntaxFault.{SyntaxFault}
+use Rattle.page_commands.specs.Types.SyntaxFault as syntax
+use Rattle.page_commands.specs.Asked.{Name, mod_file, folder_file, list_file}
+use Rattle.page_commands.specs.Types.Class.{Class, Malformed}
+use Rattle.page_commands.specs.Types.Misreading.{Misreading}
+use Rattle.page_commands.specs.Types.Misreading as misreading
+use Rattle.page_commands.specs.ClassWords.{class_word}
+use Rattle.page_commands.specs.Misreading.{misreading_word}
+use Rattle.page_commands.specs.LineParts.{line, vertex_text}
+
+-- `Malformed LINE KIND`
+abbrev pub malformed_text : ℕ → Misreading → List ℕ
+malformed_text number kind = codes "Malformed " ++ decimal number ++ codes " " ++ misreading_word kind
+
+-- `CLASS`, or `Malformed LINE KIND`
+abbrev pub class_text : Class → List ℕ
+class_text (Malformed number kind) = malformed_text number kind
+class_text class = class_word class
+
+-- `PATH@VERSION: CLASS`
+abbrev pub vertex_fault_text : ModuleVersion → Class → List ℕ
+vertex_fault_text x class = vertex_text x ++ codes ": " ++ class_text class
+
+-- a module with its fault as a line
+abbrev pub fault_line : ModuleVersion → Class → List ℕ
+fault_line x class = line (vertex_fault_text x class)
+
+-- what is wrong with a file: the line, or 0 for the whole file, and the kind
+abbrev pub FaultPlace : Type 0
+FaultPlace = ℕ × Misreading
+
+-- The place and kind of what is wrong with bytes that are not a document. Memory running out is not a fault
+-- of the bytes.
+abbrev pub syntax_place : SyntaxFault → Option FaultPlace
+syntax_place syntax.NoMemory = None
+syntax_place syntax.TooMany = Some (0, misreading.TooMany)
+syntax_place syntax.NotUtf8 = Some (0, misreading.NotUtf8)
+syntax_place (syntax.Syntax number kind) = Some (number, misreading.Syntax kind)
+
+-- the prefix, a number, a colon, a space and a word
+abbrev pub numbered_line : List ℕ → ℕ → List ℕ → List ℕ
+numbered_line prefix number word = line (prefix ++ decimal number ++ codes ": " ++ word)
+
+-- `go.mod:LINE: KIND`
+abbrev pub main_line : FaultPlace → List ℕ
+main_line place = numbered_line (codes "go.mod:") place.0 (misreading_word place.1)
+
+-- `PATH: WORD`, for the list of a module, or a path that is not listed
+abbrev pub list_line : List ℕ → List ℕ → List ℕ
+list_line path kind = line (path ++ codes ": " ++ kind)
+
+-- `edit N: KIND`, for the refused operation N, counted from 1
+abbrev pub edit_line : ℕ × List ℕ → List ℕ
+edit_line refusal = numbered_line (codes "edit ") refusal.0 refusal.1
+
+-- `PATH: NotListed`
+abbrev pub not_listed_line : List ℕ → List ℕ
+not_listed_line path = list_line path (codes "NotListed")
+
+-- a file as a report names it: `PATH@VERSION`, `FOLDER` or `PATH list`
+abbrev pub name_text : Name → List ℕ
+name_text (mod_file path version) = vertex_text (path, version)
+name_text (folder_file text) = text
+name_text (list_file path) = path ++ codes " list"
+
+-- `gomod: device at NAME`
+abbrev pub device_line : Name → List ℕ
+device_line name = line (codes "gomod: device at " ++ name_text name)
