@@ -12,6 +12,7 @@ contract. So a row of tools/bodies.txt, each with its reason, stands for
               its body, and of the constants of its file that it names
     size      a size that room is asked for, unless it is a length, a small number or both, with what its names are; a
               function that asks for as much as it is told to is looked at where it is called
+    alone     a function of gm_graph that lends what a vertex requires, or appends its turn
     loop      a `while`, a `loop` or a `for` over a range without a length, with the calls in it that may refuse
 
 Any other call of std that may refuse is told, as are another name for such a value, an endless iterator, a width in a
@@ -50,6 +51,7 @@ TOLD = re.compile(r"\b(?:cycle|repeat\w*|from_fn|successors)\(|(?:(?!\w+::MAX\b)
                   r"|\.(?:extend|collect)\(")
 WIDTH = re.compile(r"\b(?:format|write|writeln)!\((?:[^\"]*)\"[^\"]*\{\w*:[^}\"]*(?:\$|\*|\d\d)")
 LOOP = re.compile(r"\b(?:while|loop)\b[^{;]*\{|\bfor [^{;]*\.\.(?![^{;]*len\(\))[^{;]*\{")
+ALONE = {"makes-a-Lent": r"\bLent(?:::at\(| \{)", "appends-a-turn": r"(?:\.|TurnHistory::)and\(", "lends": r"\blend_at\("}
 SMALL = r"\d{1,3}"
 LENGTH = rf"(?:[\w.]+\.(?:len|count|\w+_count)\(\))(?: \+ {SMALL})?|{SMALL}"
 
@@ -229,6 +231,8 @@ def rows():
     for body in bodies:
         for kind, what in [*memory_rows(body), *foreign_rows(body, own)]:
             yield kind, body.file, body.name, what
+        for what, pattern in ALONE.items() if body.crate == "gm_graph" else ():
+            yield from (("alone", body.file, body.name, what) for _ in re.findall(pattern, body.text))
     for body, kind, what in size_rows(bodies):
         yield kind, body.file, body.name, what
 

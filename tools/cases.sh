@@ -14,8 +14,8 @@
 # of crates/run_cases/data, and for the cases of the gate in crates/run_cases, `args` has the arguments, `stdout` and
 # `stderr` what the program has to write, and `status` its exit status: nothing and 0 without such a file.
 #
-# As in the gate, a program runs in a copy of the folder, as nobody if root starts it. It has 1,000 seconds, one with
-# checks 4,000. All programs and folders run side by side. What differs is printed, then how many runs passed and
+# As in the gate, a program runs in a copy of the folder, as nobody if root starts it. It has 1,000 seconds of CPU
+# time, one with checks 4,000. All programs and folders run side by side. What differs is printed, then how many runs passed and
 # failed. The status is 1 if one failed, or if a folder has a file of cases that its `args` doesn't name. .ci/run runs
 # it after the gate, and .ci/run --quick with --quick: there tools/program.sh runs the cases with sizes, each at its
 # greatest. --checked removes bin/checked.txt, and if nothing fails makes it anew for tools/release.sh: the day, the
@@ -86,10 +86,11 @@ run_on() {
   mapfile -t words < "$(run_of "$name")/args"
   (
     cd "$at/data"
+    ulimit -t "$limit"
     exec env -i PATH=/usr/local/bin:/usr/bin:/bin HOME="$PWD" TMPDIR="$PWD" LANG=C.UTF-8 \
-      timeout "$limit" "${as_user[@]}" "$work/$2.run_cases" "${words[@]}"
+      "${as_user[@]}" "$work/$2.run_cases" "${words[@]}"
   ) < /dev/null > "$at/stdout" 2> "$at/stderr" || status=$?
-  [ "$status" -ne 124 ] || echo "It had not ended after $limit seconds." >> "$at/stderr"
+  [ "$status" -lt 137 ] || echo "It was ended by a signal, or after $limit seconds of CPU time." >> "$at/stderr"
   echo "$status" > "$at/status"
   echo "$((SECONDS - begun))" > "$at/seconds"
 }

@@ -20,7 +20,7 @@ import time
 from script import read, write
 
 TOP = os.path.dirname(os.path.dirname(os.path.abspath(__file__)))
-SECONDS = 30
+SECONDS = 300
 GO_MOD = """module example.com/hello
 
 go 1.21

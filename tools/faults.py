@@ -230,20 +230,20 @@ class Trial(script.Trial):
         """The output, the report and the status of a command line with these faults, and what the library told."""
         told = os.memfd_create("told")
         try:
-            got = subprocess.run(
+            got = script.run_within(
                 ["gomod", *line.words],
+                LIMIT,
                 executable=self.program,
                 cwd=self.folder,
                 env={**self.environment, "FAULTS": " ".join(map(str, faults)), "FAULTS_TOLD": str(told)},
                 pass_fds=[told],
                 input=line.stdin,
                 capture_output=True,
-                timeout=LIMIT,
             )
             text = os.pread(told, os.fstat(told).st_size, 0).decode()
             return got.stdout, got.stderr, got.returncode, text.splitlines()
         except subprocess.TimeoutExpired:
-            return b"", f"not ended after {LIMIT} seconds".encode(), -1, ["changed 1"]
+            return b"", f"only waits, for {LIMIT} seconds".encode(), -1, ["changed 1"]
         finally:
             os.close(told)
 

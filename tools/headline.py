@@ -1,35 +1,35 @@
-"""Keeps the pages that show what `gomod list` is proved to print, and the crates page and page_commands, in step with the
+"""Keeps the pages on what `gomod list` is proved to print, and the crates page and page_commands, in step with the
 definitions and with docs/proof/SPEC.md.
 
-    tools/headline.sh          writes the shown definitions into the pages anew: HEADLINE, REPORTS, BYTES, DIRECTIVES,
-                               EDITS, NAMES, OTHERS; and copies of those that `list` needs into crates/page/specs, and of
-                               those of the other commands into crates/page_commands/specs
+    tools/headline.sh          writes anew what HEADLINE.md, REPORTS.md and DEFINITIONS.md show of the sources, and
+                               copies of the definitions that `list` needs into crates/page/specs, and of those that
+                               the other commands need into crates/page_commands/specs
     tools/headline.sh --check  changes nothing, and tells which page or copy is out of step, or too long
 
 Between the marks `<!-- show .. -->` and `<!-- end -->` of a page stands what the sources say:
 
     show FILE: NAME..           these definitions of a file below crates/, with their comments
-    show contract FILE F: C..   these clauses of the function F in a source
+    show contract FILE F: C..   these clauses of the function F in a source, or its `signature`
     show worlds                 which functions of gomod_laws/src/example_world.rt try which definition
     show names                  each name that the page uses and doesn't define, and its file
+    show files CRATE: NAME..    the files of a crate's specs/ with definitions that the contract of `run` reaches, and
+                                these, each after those that it uses: its first sentence, and how many are reached
 
 All other text is written by hand. A quote (a line that begins with `>`) must stand in docs/proof/SPEC.md word by word.
-A definition stands on one page only. HEADLINE shows a name before what it is made of, the other pages after that.
+A definition stands on one page only. HEADLINE shows a name before what it is made of, REPORTS after that. Section 2 of
+HEADLINE says what each name of the standard library is that the page has.
 
 The copies in crates/page are of all definitions that `ListEnds` reaches, and those in crates/page_commands of all that
 COPIES names, but for those that the crate defines itself: specs/Types.antt, Files.antt and Runs.antt, written by hand,
 stand in for types of the code, for packages, for what bytes say, for the go.sum, and for runs.
 
-Each definition that the contract of `run` reaches must be on one of the pages. From `ListEnds` to the leaves
-HEADLINE.md may have 45 definitions and 170 lines. A leaf is what another page defines: names, their order and answers
-(NAMES.md), what bytes and answers say (DIRECTIVES.md), texts, the limit, the rest after a path and the go.sum
-(REPORTS.md); or what the code or the standard library does.
+Each definition that the contract of `run` reaches must be on HEADLINE or REPORTS, or in a file that DEFINITIONS names.
+Those of crates that know module graphs, if `list` needs them, must be on HEADLINE or REPORTS. On HEADLINE there may be
+45 definitions with 170 lines from `ListEnds` down. No type that its crate doesn't export may be reached.
 
-The last lines count what one reads to believe the contract of `gomod_run::run`, as HEADLINE.md says. A definition is
+The last line counts what one reads to believe the contract of `gomod_run::run`, as HEADLINE.md says. A definition is
 reached if a name of it stands in a clause or in a definition that is reached, and it has as many lines as are neither
-empty nor a comment. A type of the code is private if its crate doesn't export it.
-
-The status of --check is 1 if a page or a copy is out of step.
+empty nor a comment. The status of --check is 1 if a page or a copy is out of step.
 """
 
 import functools
@@ -40,10 +40,13 @@ from collections import defaultdict
 
 import script
 import sources
-from sources import CRATES, COPYING, USE, Definition, definitions, functions, plain, scope_of
+from sources import (
+    CRATES, USE, USED, Definition, Leaf, definitions, first_sentence, functions, place, reached_from, used_by,
+    used_in_clauses,
+)
 
-NAMES_OF_PAGES = ("HEADLINE", "REPORTS", "BYTES", "DIRECTIVES", "EDITS", "NAMES", "OTHERS")
-PAGES = [pathlib.Path("docs/proof") / f"{name}.md" for name in NAMES_OF_PAGES]
+FOLDER = pathlib.Path("docs/proof")
+GRAPH = ("gm_graph_select", "gm_graph", "gomod_run")  # the crates that know module graphs
 RUNNING = CRATES / "gomod_run/src/running.rt"
 LIST = [("Rattle.gomod_run.specs.ListQuery", "ListEnds"), ("Rattle.gomod_run.specs.Written", "EndsAsStated")]
 # the crates of copies, with the definitions that reach theirs
@@ -57,119 +60,31 @@ COPIES = {"page": LIST[:1], "page_commands": [(f"Rattle.{path}", name) for path,
     ("gm_syntax.specs.Lines", "lines_of"), ("gm_syntax.specs.Document", "class_of"),
     ("gm_syntax.specs.Document", "start"), ("gm_syntax.specs.Document", "after"),
 )]}
-NAME = re.compile(r"(?<![\w.'])(?:([A-Za-z_]\w*)\.)?([A-Za-z_][\w'-]*)")
-VARIABLE = r"(?<![\w.'])[a-z_]\w*'?"
-# what binds variables, and fields
-BINDERS = [
-    r"[({]((?:[a-z_]\w*'?\s+)*[a-z_]\w*'?) :(?! Type 0 where)", r"λ ([^.:]*)[^.]*\.", r"(?m)^  pub ([a-z_]\w*) :",
-    r"\blet ([a-z_]\w*)", r"[{;]\s*([a-z_]\w*) =(?!=)", r"(?m)^  ([a-z_]\w*) = .*;$",
-]
 SHOWN = re.compile(r"(?ms)^<!-- show ([^\n]*?) -->\n(.*?)^<!-- end -->$")
-
-
-# the files of specs/, each with what it imports
-FILES = {
-    it: scope_of(it.read_text())
-    for it in sources.files("specs/*.antt")
-    if it.name not in ("Lib.antt", "Private.antt") and it.parts[1] not in COPYING
-}
-
-
-class Leaf:
-    """A name that no file in specs/ defines: one of the standard library, of another package, or of a type of the code,
-    which is then given by its crate and its own name."""
-
-    def __init__(self, name, source, owner):
-        self.name, self.source, self.owner = name, source, owner
+MOST_DEFINITIONS, MOST_LINES = 45, 170  # from `ListEnds` down, on HEADLINE
 
 
 @functools.cache
-def leaf(name, source, owner=None):
-    return Leaf(name, source, owner)
-
-
-def place(path, name):
-    """The definition of a name in a module, or the leaf that it is."""
-    parts = path.split(".")
-    if parts[0] != "Rattle" or not (CRATES / parts[1]).is_dir():
-        package = parts[1] if parts[0] == "Rattle" else parts[0]
-        return leaf(name, "the standard library" if package == "std" else f"the package {package}")
-    if parts[3] == "declared":
-        names = [it for it in parts[4:] if it != "TheVariants"]
-        of = f" of `{names[-1]}`" if parts[-1] == "TheVariants" else ""
-        owner = None if names[-1] == "TheConstants" else (parts[1], names[-1])
-        return leaf(name, f"`crates/{parts[1]}/src/{'/'.join(names[:-1])}.rt`{of}", owner)
-    file = CRATES.joinpath(*parts[1:]).with_suffix(".antt")
-    if file not in FILES:
-        return leaf(name, f"`{file}`")
-    found = own_names(file).get(name)
-    return found or sys.exit(f"headline: {file} has no {name}")
-
-
-@functools.cache
-def own_names(file):
-    """What the names that a file defines mean; that of a constructor means its definition."""
-    return {name: one for one in definitions(file).values() for name in (*one.constructors, one.name)}
-
-
-def bound_in(text, scope, own):
-    """The variables and fields of a definition."""
-    bound = {name for rule in BINDERS for group in re.findall(rule, text) for name in re.findall(VARIABLE, group)}
-    for left in re.findall(r"(?m)^[a-z_A-Z]\w*'? ([^=\n]*?) =(?!=)", text):
-        for name in re.findall(VARIABLE, left):
-            target = place(*scope[name]) if name in scope else own.get(name)
-            if not (isinstance(target, Definition) and name in target.constructors):
-                bound.add(name)
-    return bound
-
-
-def used_in(text, scope, own):
-    """What the names in a text mean, given what the names of its file do: pairs of the name as it is written and a
-    definition or a leaf."""
-    text = plain(text)
-    bound, seen = bound_in(text, scope, own), {}
-    for module, name in NAME.findall(text):
-        path, imported = scope.get(module or name, (None, None))
-        if module and path and not imported:
-            seen[f"{module}.{name}"] = place(path, name)
-            continue
-        name = module or name
-        if name not in bound and (name in own or imported):
-            seen[name] = own.get(name) or place(path, imported)
-    return seen
-
-
-@functools.cache
-def used_by(one):
-    return used_in(one.text, FILES[one.file], own_names(one.file))
-
-
-def reached_from(found, is_end=lambda one: False):
-    """All definitions that these names reach, but for those that end it, and the leaves."""
-    reached, left = {}, list(found)
-    while left:
-        one = left.pop()
-        if one not in reached and not is_end(one):
-            reached[one] = None
-            left.extend(used_by(one).values() if isinstance(one, Definition) else ())
-    return [it for it in reached if isinstance(it, Definition)], [it for it in reached if isinstance(it, Leaf)]
-
-
-# ---- contracts
+def reached_by_run():
+    """The definitions that the contract of `run` reaches, and those of them that `list` needs."""
+    every = (it for _, it in used_in_clauses(RUNNING, clauses_of(RUNNING, "run").values()))
+    return [set(reached_from(it)[0]) for it in (every, [place(*it) for it in LIST])]
 
 
 def clauses_of(file, function):
-    """The clauses of the first function of this name in a source: name to its text, with the comments before it."""
-    return next(it for it, _ in functions(file.read_text()) if it.name == function).clauses()
+    """The clauses of the first function of this name in a source: name to its text, with the comments before it; and
+    its signature."""
+    found = next(it for it, _ in functions(file.read_text()) if it.name == function)
+    return {"signature": found.signature().rstrip(), **found.clauses()}
 
 
-def used_in_clauses(file, clauses):
-    """What the names in clauses of a source mean: pairs of the name as it is written and a definition or a leaf."""
-    scope = scope_of(file.read_text())
-    return {it for clause in clauses for it in used_in(re.sub(r"(?m)^//.*$", "", clause), scope, {}).items()}
+@functools.cache
+def exported(crate):
+    root = CRATES / crate / "src/lib.rt"
+    return {it.name for it in sources.public_items(root)} | sources.exports(root).keys()
 
 
-# ---- pages
+# ---- what stands between marks
 
 
 def code(text):
@@ -201,31 +116,62 @@ def worlds():
     return f"[{file}](../../crates/{file}):\n\n" + "".join(f"- `{name}`: {what}\n" for name, what in rows)
 
 
-class Page:
-    """A page: its text, the definitions that it shows, and what these and its contracts use."""
+@functools.cache
+def files_of(crate):
+    """The files of a crate's specs/, each after those that it uses."""
+    left, found = [it for it in sources.files("specs/*.antt", crate) if it.stem not in ("Lib", "Private")], []
+    uses = {file: {it.file for one in definitions(file).values() for it in used_by(one).values()
+                   if isinstance(it, Definition)} - {file} for file in left}
+    while left:
+        found.append(next(it for it in left if not uses[it].intersection(left)))
+        left.remove(found[-1])
+    return found
 
-    def __init__(self, path):
-        self.path, self.text = path, path.read_text()
-        self.defined, self.uses = [], set()
+
+def rows_of_files(crate, also):
+    """A table of the files of a crate that have something to read."""
+    rows = ["| File | What it has | `run` | `list` |\n|---|---|---|---|\n"]
+    for file in files_of(crate):
+        counts = [len(it.intersection(definitions(file).values())) for it in reached_by_run()]
+        if counts[0] or file.stem in also:
+            link = f"[{file.relative_to(CRATES)}](../../{file})"
+            rows.append(f"| {link} | {first_sentence(file)} | {counts[0]} | {counts[1]} |\n")
+    return "".join(rows)
+
+
+class Page:
+    """A page: its text, the definitions that it shows, what these and its contracts use, and the crates whose files it
+    names."""
+
+    def __init__(self, name):
+        self.path = FOLDER / f"{name}.md"
+        self.text = self.path.read_text()
+        self.defined, self.uses, self.crates = [], set(), set()
         for order, _ in SHOWN.findall(self.text):
-            if order not in ("names", "worlds"):
+            if order.startswith("files "):
+                self.crates.add(re.split("[ :]", order)[1])
+            elif order not in ("names", "worlds"):
                 _, found, used = shown(order)
                 self.defined += found
                 self.uses |= used
 
-    def quotes(self):
-        """What the page quotes, each with one blank between words."""
+    def wrong_quotes(self, spec):
+        """What the page quotes, each with one blank between words, and the rules don't say."""
         for group in re.findall(r"(?m)(?:^>.*\n)+", self.text):
-            yield " ".join(group.replace("\n>", "\n").removeprefix(">").split())
+            quote = " ".join(group.replace("\n>", "\n").removeprefix(">").split())
+            if quote not in spec:
+                yield f"docs/proof/SPEC.md does not say: {quote}"
 
     def early(self):
         """The names of the page that it uses before it shows them, each with the definition that uses it."""
         seen = set()
         for one in self.defined:
             seen.add(one)
-            yield from ((it.name, one.name) for it in used_by(one).values() if it in self.defined and it not in seen)
+            for it in used_by(one).values():
+                if it in self.defined and it not in seen:
+                    yield f"{one.name} uses {it.name}, which is shown after it"
 
-    def names(self, others):
+    def names(self, other):
         """The names that the page uses and doesn't define."""
         groups, renamed = defaultdict(set), set()
         for name, one in self.uses:
@@ -233,68 +179,36 @@ class Page:
             if short != one.name and not (isinstance(one, Definition) and short in one.constructors):
                 renamed.add((name, one))
             if one not in self.defined:
-                page = next((it.path.name for it in others if one in it.defined), None)
-                groups[f"[{page}]({page})" if page else source_of(one)].add(one.name)
-        rows = [f"- {linked(where)}: {', '.join(f'`{name}`' for name in sorted(names))}\n"
+                where = f"[{other.path.name}]({other.path.name})" if one in other.defined else source_of(one)
+                groups[where].add(one.name)
+        rows = [f"- {where}: {', '.join(f'`{name}`' for name in sorted(names))}\n"
                 for where, names in sorted(groups.items())]
-        for name, one in sorted(renamed, key=lambda it: it[0]):
-            rows.append(f"- Written `{name}` here: `{one.name}` of {linked(source_of(one))}\n")
+        rows += [f"- Written `{name}` here: `{one.name}` of {source_of(one)}\n"
+                 for name, one in sorted(renamed, key=lambda it: it[0])]
         return "".join(rows)
 
-    def renewed(self, others):
-        """The text of the page with what the sources say, beside the other pages."""
+    def renewed(self, other):
+        """The text of the page with what the sources say, beside the other page."""
 
         def renew(found):
-            order = found[1]
-            body = self.names(others) if order == "names" else worlds() if order == "worlds" else shown(order)[0]
-            return f"<!-- show {order} -->\n{body}<!-- end -->"
+            kind, *words = re.split("[ :]+", found[1])
+            body = (self.names(other) if kind == "names" else worlds() if kind == "worlds"
+                    else rows_of_files(words[0], words[1:]) if kind == "files" else shown(found[1])[0])
+            return f"<!-- show {found[1]} -->\n{body}<!-- end -->"
 
         return SHOWN.sub(renew, self.text)
 
 
-MOST_DEFINITIONS, MOST_LINES = 45, 170  # from `ListEnds` to the leaves
-NUMBERS = "no one two three four five six seven".split()
-LEAF_PAGES = ("NAMES.md", "DIRECTIVES.md", "REPORTS.md")
-
-
-def keep_short(page, others):
-    """How many things are wrong with what one reads from `ListEnds`: it is too long, or a definition is on no page."""
-    leaves = {one for it in others if it.path.name in LEAF_PAGES for one in it.defined}
-    found, _ = reached_from([place(*LIST[0])], leaves.__contains__)
-    absent = [it for it in found if it not in page.defined]
-    for one in absent:
-        print(f"{page.path}: it has no {one.name} of {one.file}, nor does a page of leaves")
-    lines = sum(it.size() for it in found)
-    most = f"at most {MOST_DEFINITIONS} and {MOST_LINES}"
-    print(f"{page.path}, from `ListEnds`: {len(found)} definitions, {lines} lines; {most}")
-    is_miscounted = miscounted(page, [f"{len(found)}, from `ListEnds` down, on this page"])
-    return len(absent) + (len(found) > MOST_DEFINITIONS) + (lines > MOST_LINES) + is_miscounted
-
-
 def source_of(one):
-    return one.source if isinstance(one, Leaf) else f"`{one.file}`"
-
-
-def linked(source):
+    source = one.source if isinstance(one, Leaf) else f"`{one.file}`"
     return re.sub(r"`crates/([^`]+)`", r"[\1](../../crates/\1)", source)
-
-
-@functools.cache
-def offered(crate):
-    """The names that a crate exports."""
-    root = CRATES / crate / "src/lib.rt"
-    public = sources.public_items(root) if root.exists() else []
-    return {it.name for it in public if it.kind != "mod"} | (sources.exports(root).keys() if public else set())
-
-
-def is_private(leaf):
-    return bool(leaf.owner) and leaf.owner[1] not in offered(leaf.owner[0])
 
 
 # ---- the crates that a reader can change
 
 
-BY_HAND = ("Types", "Files", "Runs", "Worlds")  # their definitions that are written by hand: what these name is not copied
+# their definitions that are written by hand: what these name is not copied
+BY_HAND = ("Types", "Files", "Runs", "Worlds")
 
 
 def is_in(name, code):
@@ -315,14 +229,14 @@ class Copies:
                 self.names[one.name] = base
                 self.constructors.update(dict.fromkeys(one.constructors, base))
         found, _ = reached_from([place(*it) for it in ends], self.stand_in)
-        by_files = {file: [it for it in definitions(file).values() if it in found] for file in FILES}
-        self.copied = {file: ones for file, ones in by_files.items() if ones}
+        self.copied = {file: [it for it in definitions(file).values() if it in found]
+                       for file in sorted({it.file for it in found})}
 
     def stand_in(self, one):
         """The module of the crate that has a stand-in for a definition or a leaf, or None."""
         if not (isinstance(one, Leaf) and one.owner):
             return self.names.get(one.name)
-        own = f"Types.{one.owner[1]}"
+        own = f"Types.{one.owner[2]}"
         is_there = (self.specs / own.replace(".", "/")).with_suffix(".antt").exists()
         return own if is_there else self.names.get(one.name) or self.constructors.get(one.name)
 
@@ -337,7 +251,7 @@ class Copies:
         words = {name for one in ones for name in used_by(one)}
         for item in filter(None, (it.strip() for it in listed.split(","))):
             name, _, other = item.partition(" as ")
-            if not NAME.fullmatch(name):
+            if not USED.fullmatch(name):
                 if is_in(name, code):
                     yield item, None
             elif (other or name) in words:
@@ -373,63 +287,54 @@ class Copies:
         return len(strange) + sum(wrong)
 
 
-def miscounted(page, says):
-    """How many of these texts with a count the page doesn't have."""
-    lacks = [it for it in says if it not in page.text]
-    for it in lacks:
-        print(f"{page.path}: it should say: {it}")
-    return len(lacks)
+# ---- what is wrong
 
 
-def counts(pages):
-    """Prints how much the contract of `run` reaches, and gives how many definitions of it are on no page, and how many
-    counts HEADLINE.md has otherwise."""
-    clauses, sizes = clauses_of(RUNNING, "run"), []
-    ends, every = (
-        [it for _, it in used_in_clauses(RUNNING, of)] for of in ([clauses["ends"]], clauses.values())
-    )
-    for title, found in (("`list`", [place(*it) for it in LIST]), ("clause `ends`", ends), ("all clauses", every)):
-        reached, leaves = reached_from(found)
-        files, private = {it.file for it in reached}, {it.owner for it in leaves if is_private(it)}
-        used = [page for page in pages if any(it in page.defined for it in reached)]
-        left = [it for it in reached if not any(it in page.defined for page in used)]
-        sizes += [len(reached), sum(it.size() for it in reached), NUMBERS[len(used)]]
-        print(f"gomod_run::run, {title}: {sizes[-3]} definitions, {sizes[-2]} lines, in {len(files)} files, on "
-              f"{len(used)} pages, {len(left)} on no page; {len(private)} private types of the code")
-        for it in left:
-            print(f"  {it.name} of {it.file} is on no page")
-    says = [f"in {sizes[0]} definitions of {sizes[1]:,} lines, all on {sizes[2]} pages", f"all {sizes[1]:,} lines"]
-    return len(left) + miscounted(pages[0], [*says, f"they are {sizes[-3]}."])
+def faults_of(page, other, spec):
+    """What is wrong with HEADLINE and REPORTS, apart from what is out of step."""
+    for it in {*page.defined}.intersection(other.defined):
+        yield f"{other.path}: {it.name} of {it.file} stands on {page.path}, too"
+    yield from (f"{it.path}: {wrong}" for it in (page, other) for wrong in it.wrong_quotes(spec))
+    yield from (f"{other.path}: {wrong}" for wrong in other.early())
+
+
+def miscounts(page, other, index):
+    """What the contract of `run` reaches and no page has, and the counts that HEADLINE has otherwise."""
+    every, of_list = reached_by_run()
+    there = {*page.defined, *other.defined}
+    for it in every - there:
+        crate = it.file.parts[1]
+        if crate in GRAPH and it in of_list or crate not in index.crates:
+            yield f"{page.path}: neither it nor REPORTS.md has {it.name} of {it.file}"
+    for it in reached_from(every)[1]:
+        if it.owner and it.owner[2] not in exported(it.owner[0]):
+            yield f"the contract of `run` reaches {it.name} of {it.source}, which isn't exported"
+    legend = page.text.partition("\n## 2.")[2].partition("\n## 3.")[0]
+    for name in sorted(it.name for _, it in page.uses if isinstance(it, Leaf) and it.source == "the standard library"):
+        if not re.search(rf"\b{name}\b", legend):
+            yield f"{page.path}: section 2 doesn't say what {name} is"
+    top, _ = reached_from([place(*LIST[0])], lambda one: one not in page.defined)
+    size, lines = (sum(it.size() for it in found) for found in (top, of_list))
+    print(f"{page.path}, from `ListEnds`: {len(top)} definitions, {size} lines; in all {len(of_list)} and {lines}; "
+          f"of all commands {len(every)}")
+    if len(top) > MOST_DEFINITIONS or size > MOST_LINES:
+        yield f"{page.path}: from `ListEnds` down at most {MOST_DEFINITIONS} definitions and {MOST_LINES} lines"
+    for it in (f"{len(top)}, from `ListEnds` down, on this page", f"in {len(of_list)} definitions of {lines:,} lines",
+               f"all {lines:,} lines", f"they are {len(every)}."):
+        if it not in page.text:
+            yield f"{page.path}: it should say: {it}"
 
 
 def main(option=""):
-    """Renews or compares the pages and the copies, prints how long they are, and returns the status."""
-    wrong = 0
-    pages = [Page(path) for path in PAGES if path.exists()]
-    spec = " ".join(pathlib.Path("docs/proof/SPEC.md").read_text().split())
-    seen = {}
-    for page in pages:
-        for one in page.defined:
-            if one in seen:
-                print(f"{page.path}: {one.name} of {one.file} stands on {seen[one]}, too")
-                wrong += 1
-            seen[one] = page.path
-        for quote in page.quotes():
-            if quote not in spec:
-                print(f"{page.path}: docs/proof/SPEC.md does not say: {quote}")
-                wrong += 1
-    for page in pages[1:]:
-        for name, user in page.early():
-            print(f"{page.path}: {user} uses {name}, which is shown after it")
-            wrong += 1
-    for page in pages:
-        text = page.renewed([it for it in pages if it is not page])
-        wrong += script.keep(page.path, text, bool(option), "tools/headline.sh")
-        size = sum(it.size() for it in page.defined)
-        print(f"{page.path}: {len(page.defined)} definitions, {size} lines")
-    wrong += keep_short(pages[0], pages[1:]) + sum(Copies(*it).renew(option) for it in COPIES.items())
-    wrong += counts(pages)
-    return 1 if wrong else 0
+    """Renews or compares the pages and the copies, prints what is wrong, and returns the status."""
+    page, other, index = pages = [Page(it) for it in ("HEADLINE", "REPORTS", "DEFINITIONS")]
+    spec = " ".join((FOLDER / "SPEC.md").read_text().split())
+    wrong = [*faults_of(page, other, spec), *miscounts(page, other, index)]
+    print(*wrong, sep="\n", end="\n" if wrong else "")
+    texts = {it.path: it.renewed(other if it is page else page) for it in pages}
+    copies = [Copies(*it).renew(option) for it in COPIES.items()]
+    kept = [script.keep(path, text, bool(option), "tools/headline.sh") for path, text in texts.items()]
+    return int(bool(wrong) or any(kept) or any(copies))
 
 
 if __name__ == "__main__":

@@ -87,66 +87,45 @@ need_gomod() {
 # A folder that stands for / where the next functions read /proc and /sys: a test gives one with its own files.
 GOMOD_MACHINE=${GOMOD_MACHINE:-}
 
-# Prints the folder of this process's control group, and those of the groups above it, for a controller (memory or cpu),
-# in both versions.
-control_groups() {
-  local kinds path top tops
-  [ -r "$GOMOD_MACHINE/proc/self/cgroup" ] || return 0
-  while IFS=: read -r _ kinds path; do
-    case ,$kinds, in
-      ,,) tops=("" /unified) ;;
-      *",$1,"*) tops=("/$1") ;;
-      *) continue ;;
-    esac
-    path=${path%/}
-    # A container may see only the top of these folders, which is then its own group.
-    while true; do
-      for top in "${tops[@]}"; do
-        [ ! -d "$GOMOD_MACHINE/sys/fs/cgroup$top$path" ] || echo "$GOMOD_MACHINE/sys/fs/cgroup$top$path"
-      done
-      [ -n "$path" ] || break
-      path=${path%/*}
-    done
-  done < "$GOMOD_MACHINE/proc/self/cgroup"
+# Prints the nearest file of this name in this process's control group or those above it, which have the limits of a
+# container.
+of_control_group() {
+  local path
+  path=$(sed -n 's/^0:://p' "$GOMOD_MACHINE/proc/self/cgroup" 2> /dev/null) || return 0
+  while [ -n "$path" ]; do
+    [ ! -r "$GOMOD_MACHINE/sys/fs/cgroup$path/$1" ] || break
+    [ "$path" != / ] || return 0
+    path=${path%/*} path=${path:-/}
+  done
+  [ -z "$path" ] || echo "$GOMOD_MACHINE/sys/fs/cgroup$path/$1"
 }
 
-# How many MB the control group in a folder may still take: its limit less what it has in use, but for the pages of
-# files, which it can give back. Prints nothing if it has no limit.
+# How many MB the control group may still take: its limit less what it has in use, but for the pages of files, which it
+# can give back. Prints nothing if it has no limit.
 group_memory_mb() {
-  local limit used=$1/memory.current
-  [ -r "$used" ] || used=$1/memory.usage_in_bytes
-  for limit in "$1/memory.max" "$1/memory.high" "$1/memory.limit_in_bytes"; do
-    [ ! -r "$limit" ] || [ ! -r "$used" ] || cat "$limit" "$used" "$1/memory.stat" | awk '
-      NR == 1 { limit = $1 }
-      NR == 2 { used = $1 }
-      /^(in)?active_file / { own += $2 }
-      /^total_(in)?active_file / { total += $2 }
-      END { if (limit ~ /^[0-9]+$/) printf "%d\n", (limit - used + (total ? total : own)) / 1048576 }'
-  done
+  local limit
+  limit=$(of_control_group memory.max)
+  [ -z "$limit" ] || cat "$limit" "${limit%max}current" "${limit%max}stat" | awk '
+    NR == 1 { limit = $1 }
+    NR == 2 { used = $1 }
+    /^(in)?active_file / { files += $2 }
+    END { if (limit ~ /^[0-9]+$/) printf "%d\n", (limit - used + files) / 1048576 }'
 }
 
 system_memory_mb() { awk '/^MemAvailable:/ { print int($2 / 1024) }' "$GOMOD_MACHINE/proc/meminfo"; }
 
 # How many MB of memory can be had: what the system has available, or less if a control group leaves less.
-free_memory_mb() {
-  local group
-  {
-    system_memory_mb
-    control_groups memory | while read -r group; do group_memory_mb "$group"; done
-  } | sort -n | head -n 1
-}
+free_memory_mb() { { system_memory_mb && group_memory_mb; } | sort -n | head -n 1; }
 
 free_disk_mb() { df -Pk . | awk 'NR == 2 { print int($4 / 1024) }'; }
 
 # How many processors there are to use, at least 1: those of this process, or fewer by the quota of a control group.
 processors() {
-  local group
+  local quota
+  quota=$(of_control_group cpu.max)
   {
     nproc
-    control_groups cpu | while read -r group; do
-      cat "$group/cpu.max" 2> /dev/null ||
-        paste "$group/cpu.cfs_quota_us" "$group/cpu.cfs_period_us" 2> /dev/null || true
-    done | awk '$1 ~ /^[0-9]+$/ && $2 > 0 { print $1 < $2 ? 1 : int($1 / $2) }'
+    [ -z "$quota" ] || awk '$1 ~ /^[0-9]+$/ && $2 > 0 { print $1 < $2 ? 1 : int($1 / $2) }' "$quota"
   } | sort -n | head -n 1
 }
 
@@ -183,9 +162,10 @@ end_below() {
   done
 }
 
-# Copies the program, its man page and its completions to their usual places below a folder, and prints each.
+# Copies the program, its man page, its completions, the documents and the examples to their usual places below a
+# folder, and prints each place.
 install_files() {
-  local to=$1 mode from place
+  local to=$1 documents=$1/share/doc/gomod mode from place
   while read -r mode from place; do
     install -D -m "$mode" "$from" "$to/$place"
     echo "$to/$place"
@@ -195,5 +175,11 @@ install_files() {
 644 share/completions/gomod.bash share/bash-completion/completions/gomod
 644 share/completions/_gomod share/zsh/site-functions/_gomod
 644 share/completions/gomod.fish share/fish/vendor_completions.d/gomod.fish
+644 README.md share/doc/gomod/README.md
+644 CHANGELOG.md share/doc/gomod/CHANGELOG.md
 FILES
+  rm -rf "$documents/docs" "$documents/example"
+  cp -r docs example "$documents"
+  echo "$documents/docs"
+  echo "$documents/example"
 }

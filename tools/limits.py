@@ -86,7 +86,7 @@ class Trial(script.Trial):
     def run(self, line, stdin=LIST, **given):
         """The status, the output and the report of a command line."""
         words = [self.program, *line.split()]
-        done = subprocess.run(words, input=stdin, capture_output=True, timeout=LIMIT, check=False, **given)
+        done = script.run_within(words, LIMIT, input=stdin, capture_output=True, **given)
         return done.returncode, done.stdout, done.stderr
 
     def same(self, what, line, **given):
@@ -114,7 +114,7 @@ class Trial(script.Trial):
                     else:
                         os.dup2((files if kind == "open" else others[kind])[number].fileno(), number)
 
-            done = subprocess.run([self.program, *line.split()], preexec_fn=lay, timeout=LIMIT, check=False)
+            done = script.run_within([self.program, *line.split()], LIMIT, preexec_fn=lay)
             texts = []
             for file in files[1:]:
                 file.seek(0)
@@ -169,7 +169,7 @@ class Trial(script.Trial):
         status, out, _ = self.plain[line]
         with holding(b"") as file:
             child = self.start(line, stdin=PIPE, stdout=file, preexec_fn=small)
-            child.communicate(LIST, LIMIT)
+            script.finish(child, LIST, LIMIT)
             file.seek(0)
             text = file.read()
         right = child.returncode == (3 if out else status) and out.startswith(text) and len(text) <= room
@@ -188,7 +188,7 @@ class Trial(script.Trial):
                 got = child.stdout.read(take)
                 child.stdout.close()
                 report = child.stderr.read()
-                status = child.wait(LIMIT)
+                status = self.end(child)
                 child.stderr.close()
             right = status == 3 and not report and wanted.startswith(got)
             self.judge(f"a reader that takes {take} bytes: gomod {READS}", (status, report), right)
@@ -198,7 +198,7 @@ class Trial(script.Trial):
             while piece := os.read(child.stdout.fileno(), 3001):
                 got += piece
                 time.sleep(0.0005)
-            right = child.wait(LIMIT) == 0 and got == wanted
+            right = self.end(child) == 0 and got == wanted
             self.judge(f"a slow reader: gomod {READS}", len(got), right)
 
     def try_stops(self):
@@ -209,14 +209,20 @@ class Trial(script.Trial):
             child.stdin.write(self.many[:7])
             child.stdin.flush()
             self.stop(child)
-            got, report = child.communicate(self.many[7:], timeout=LIMIT)
+            got, report = script.finish(child, self.many[7:], LIMIT)
             self.judge(f"stopped: gomod {READS}", (child.returncode, report), (child.returncode, got) == (0, wanted))
             child = self.start(READS, stdin=PIPE, stdout=PIPE)
             child.stdin.write(self.many)
             child.stdin.close()
             self.stop(child)
             got = child.stdout.read()
-            self.judge(f"stopped as it writes: gomod {READS}", len(got), (child.wait(LIMIT), got) == (0, wanted))
+            self.judge(f"stopped as it writes: gomod {READS}", len(got), (self.end(child), got) == (0, wanted))
+
+    @staticmethod
+    def end(child):
+        """Its status, once it has ended."""
+        script.finish(child, None, LIMIT)
+        return child.returncode
 
     @staticmethod
     def stop(child):
@@ -240,7 +246,7 @@ class Trial(script.Trial):
                     got += piece
             os.close(ours)
             status, out, report = self.plain[line]
-            right = child.wait(LIMIT) == status and got.replace(b"\r\n", b"\n") == out + report
+            right = self.end(child) == status and got.replace(b"\r\n", b"\n") == out + report
             self.judge(f"a terminal: gomod {line}", got, right)
 
 

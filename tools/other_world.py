@@ -34,7 +34,7 @@ from typing import NamedTuple
 import opened
 import script
 from case_files import case_of, laid, shown
-from script import AT_ONCE, holding, write
+from script import AT_ONCE, holding, ticks_of, write
 
 NOBODY = 65534
 LIMIT = 100
@@ -163,6 +163,7 @@ def start_commands(number):
                 preexec_fn=limit if memory else None,
                 **streams,
             )
+            resource.prlimit(process.pid, resource.RLIMIT_CPU, (LIMIT, LIMIT))
             for descriptor in [*given, *numbers]:
                 os.close(descriptor)
             worker.sendall(struct.pack("q", process.pid))
@@ -240,7 +241,7 @@ class Worker:
                 os.close(end)
             texts = read_all([end for end, _ in pairs], process)
             if texts is None:
-                raise Unended(f"program: line {run.line} has not ended after {LIMIT} seconds: $ {run.text.decode()}")
+                raise Unended(f"program: line {run.line} only waits, for {LIMIT} seconds: $ {run.text.decode()}")
             return when, (*texts, self.starter.number())
 
     def judge(self, number):
@@ -261,17 +262,20 @@ class Worker:
 
 
 def read_all(ends, process):
-    """What comes from each of these ends until nobody writes to them. If that takes too long, None, and the process is
-    ended."""
-    texts, deadline = {end: [] for end in ends}, time.monotonic() + LIMIT
+    """What comes from each of these ends until nobody writes to them. If the process only waits for too long, None, and
+    it is ended."""
+    texts, before = {end: [] for end in ends}, -1
     with selectors.DefaultSelector() as selector:
         for end in ends:
             selector.register(end, selectors.EVENT_READ)
         while selector.get_map():
-            ready = selector.select(deadline - time.monotonic())
+            ready = selector.select(LIMIT / 2)
             if not ready:
-                os.kill(process, signal.SIGKILL)
-                return None
+                used = ticks_of(process)
+                if used == before:
+                    os.kill(process, signal.SIGKILL)
+                    return None
+                before = used
             for key, _ in ready:
                 try:
                     piece = os.read(key.fd, 1 << 16)

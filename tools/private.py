@@ -1,8 +1,9 @@
 """Checks that definitions which no public contract reaches stand apart, in specs/Private of their crate, so that who
 opens specs/ finds what the promises of a crate mean.
 
-    tools/private.sh              prints each definition that stands in the wrong folder, and each name that
-                                  definitions in two files of specs/ have; the status is 1 if there is one
+    tools/private.sh              prints each definition that stands in the wrong folder, each name that definitions in
+                                  two files of specs/ have, and each file of src/ or specs/ that doesn't begin with a
+                                  comment; the status is 1 if there is one
     tools/private.sh --why NAME   prints how a public contract reaches the definitions of this name, each after what
                                   reaches it
 
@@ -10,21 +11,18 @@ Public contracts are those of the functions, traits and types that a crate offer
 laws among them. The model of such a type counts, and what it implements, unless the trait is private; and so do types
 that a signature names but that the crate doesn't offer by name. A contract reaches the definitions that it names, what
 these name, and, if a type of the code has no value of its own, the types of its fields. What a ghost field demands of
-the others doesn't count.
-
-A name counts if the file imports or declares it, even if a variable has it where it stands. So a definition may count
-as reached that isn't: give the variable another name. crates/page and page_commands are left out, whose definitions are
-copies. It needs python3, and takes two seconds.
+the others doesn't count. crates/page is left out, whose definitions are copies.
 """
 
 import collections
 import re
 
 import script
-from sources import CRATES, COPYING, code_of, definitions, files, items_of, paths_of, plain, scope_of
+from sources import (
+    CRATES, COPYING, Definition, code_of, definitions, files, first_sentence, items_of, paths_of, plain, scope_of, used_by,
+    used_in,
+)
 
-NAME = r"[^\s(){}\[\],;.λ⟦⟧|\"]+"
-PATH = re.compile(rf"{NAME}(?:\.{NAME})*")
 # forms that the rest of this file doesn't follow, which nothing uses
 UNREAD = {
     "a `use` of all names": r"^ *(?:pub |ghost )*use [^;\n]*[.:]\*",
@@ -32,21 +30,6 @@ UNREAD = {
     "a public module without a file": r"^ *pub mod \w+ \{",
     "a definition by its whole path": r"^(?! *(?:pub |ghost )*use )[^\n]*\bRattle\.\w+\.specs\.",
 }
-
-
-class Module:
-    """A file of specs/."""
-
-    def __init__(self, file):
-        self.file = file
-        self.crate = file.parts[1]
-        self.path = ".".join(["Rattle", self.crate, *file.parts[2:]]).removesuffix(".antt")
-        self.text = file.read_text(encoding="utf-8")
-        self.definitions = definitions(file).values()
-        self.own = {name: it for it in self.definitions for name in [it.name, *it.constructors]}
-        self.scope = scope_of(self.text) | {name: (self.path, name) for name in self.own}
-        self.passed_on = scope_of(self.text, "pub ")
-        self.is_private = "Private" in file.parts
 
 
 class Source:
@@ -68,8 +51,7 @@ class Program:
     """All crates: their definitions, and what the public contracts reach."""
 
     def __init__(self):
-        self.crates = sorted(it.parent.name for it in CRATES.glob("*/src"))
-        self.modules = {it.path: it for it in map(Module, files("specs/**/*.antt"))}
+        self.crates = sorted(it.parent.name for it in CRATES.glob("*/src") if it.parent.name not in COPYING)
         self.sources = {}
         for crate in self.crates:
             root = next(it for it in map((CRATES / crate / "src").joinpath, ["lib.rt", "main.rt"]) if it.exists())
@@ -78,9 +60,16 @@ class Program:
         for source in self.sources.values():
             for item in (it for it in source.items if it.kind == "impl"):
                 self.blocks[self.resolve(source, tuple(item.name.split("::")))].append((source, item))
-        self.parents = {}
-        self.offered = set()
-        self.follow()
+        # what is reached, each definition, leaf or type with what reaches it, and what is still to be followed
+        self.parents, self.left, self.offered = {}, [], set()
+        for crate in self.crates:
+            self.offer_module(crate, ())
+        while self.left:
+            now = self.left.pop()
+            if isinstance(now, Definition):
+                self.note(used_by(now).values(), now)
+            else:
+                self.follow_type(now, now)
 
     def read_sources(self, crate, path, file):
         """Reads a module of the code and those below it."""
@@ -118,38 +107,16 @@ class Program:
             return crate, module, rest[0]
         return self.resolve(source, rest) if rest[0] in source.uses else None
 
-    def definition(self, path, name):
-        """What a name of a module is: a definition, or a type of the code."""
-        parts = path.split(".")
-        if parts[2:4] == ["specs", "declared"]:
-            inner = [it for it in parts[4:] if it != "TheVariants"]
-            return ("type", parts[1], tuple(inner[:-1]), inner[-1]) if inner else None
-        module = self.modules.get(path)
-        if module and name in module.own:
-            return "definition", path, module.own[name].name
-        if module and name in module.passed_on:
-            return self.definition(*module.passed_on[name])
-        return None
-
-    def mentioned(self, text, scope):
-        """The definitions and types that a text mentions."""
-        for found in PATH.finditer(text):
-            names = found[0].split(".")
-            path, name = scope.get(names[0], (None, None))
-            if path and name is None and len(names) > 1:
-                name = names[1]
-            if path and name and (known := self.definition(path, name)):
-                yield known
-
-    def note(self, reached, reason):
-        """Notes that something is reached, for the first time or again."""
-        if reached not in self.parents:
-            self.parents[reached] = reason
-            self.left.append(reached)
+    def note(self, found, reason):
+        """Notes that definitions and types of the code are reached, for the first time or again."""
+        for it in found:
+            it = it if isinstance(it, (Definition, tuple)) else it.owner
+            if it and it not in self.parents:
+                self.parents[it] = reason
+                self.left.append(it)
 
     def note_text(self, text, scope, reason):
-        for reached in self.mentioned(text, scope):
-            self.note(reached, reason)
+        self.note(used_in(text, scope, {}).values(), reason)
 
     def offer(self, place):
         """Notes what an item that a crate offers promises."""
@@ -163,7 +130,7 @@ class Program:
             self.offer_types(source, item.signature() if item.kind == "fn" else self.public_fields(item))
             self.note_text(item.contract, source.scope, reason)
             if item.kind in ("struct", "enum"):
-                self.note(("type", *place), reason)
+                self.note([place], reason)
             if item.kind == "trait":
                 self.offer_block(source, item, reason, True)
         for of, block in self.blocks.get(place, []):
@@ -212,20 +179,7 @@ class Program:
             for found in re.finditer(r"[A-Z]\w*", item.text if item.kind in ("struct", "enum") else ""):
                 of = self.resolve(source, (found[0],))
                 if of and of != place:
-                    self.note(("type", *of), reason)
-
-    def follow(self):
-        """Finds all that the public contracts reach."""
-        self.left = []
-        for crate in self.crates:
-            self.offer_module(crate, ())
-        while self.left:
-            now = self.left.pop()
-            if now[0] == "type":
-                self.follow_type(now[1:], now)
-            else:
-                module = self.modules[now[1]]
-                self.note_text(module.own[now[2]].code, module.scope, now)
+                    self.note([of], reason)
 
     def offer_module(self, crate, path):
         """Offers the public items of a module, and of the public ones below it."""
@@ -239,41 +193,40 @@ class Program:
             elif item.visibility == "pub" or item.name == "main" and source.file.name == "main.rt":
                 self.offer((crate, path, item.name))
 
-    def is_reached(self, module, definition):
-        return ("definition", module.path, definition.name) in self.parents
-
     def misplaced(self):
         """The definitions that stand in the wrong folder."""
-        for module in self.modules.values():
-            for it in module.definitions:
-                is_reached = self.is_reached(module, it)
-                if module.crate not in COPYING and is_reached == module.is_private:
-                    yield f"{module.file}:{it.line}: {it.name}: " + (
-                        "a public contract reaches it" if is_reached else "no public contract reaches it")
-
-    def shared(self):
-        """The public names that definitions in two or more files of specs/ have, each with the files."""
-        files = collections.defaultdict(list)
-        for module in self.modules.values():
-            if module.crate not in COPYING:
-                for name in {it.name for it in module.definitions if it.is_public}:
-                    files[name].append(str(module.file))
-        return {name: it for name, it in sorted(files.items()) if len(it) > 1}
+        for it in (one for file in own_files() for one in definitions(file).values()):
+            if (it in self.parents) == ("Private" in it.file.parts):
+                yield f"{it.file}:{it.line}: {it.name}: " + (
+                    "a public contract reaches it" if it in self.parents else "no public contract reaches it")
 
     def unread(self):
         texts = [(it.file, it.text) for it in self.sources.values()]
-        texts += [(it.file, plain(it.text)) for it in self.modules.values()]
+        texts += [(it, plain(it.read_text(encoding="utf-8"))) for it in own_files()]
         for file, text in texts:
             for form, found in ((form, it) for form, rule in UNREAD.items() for it in re.finditer(f"(?m){rule}", text)):
                 yield f"{file}:{text.count(chr(10), 0, found.start()) + 1}: {form}"
 
     def why(self, name):
         """How a public contract reaches the definitions of this name, a line for each step."""
-        for now in [it for it in self.parents if it[0] == "definition" and it[2] == name]:
-            while isinstance(now, tuple):
-                yield " ".join(map(str, now))
+        for now in [it for it in self.parents if isinstance(it, Definition) and it.name == name]:
+            while now in self.parents:
+                yield f"{now.file} {now.name}" if isinstance(now, Definition) else f"the type {now[2]} of {now[0]}"
                 now = self.parents[now]
             yield now
+
+
+def own_files():
+    return [it for it in files("specs/**/*.antt") if it.parts[1] not in COPYING]
+
+
+def shared():
+    """The public names that definitions in two or more files of specs/ have, each with the files."""
+    found = collections.defaultdict(list)
+    for file in own_files():
+        for name in {it.name for it in definitions(file).values() if it.is_public}:
+            found[name].append(str(file))
+    return [f"{name} stands in {' and '.join(it)}" for name, it in sorted(found.items()) if len(it) > 1]
 
 
 def main(*words):
@@ -283,14 +236,12 @@ def main(*words):
         lines = list(program.why(words[1]))
         print(*lines or [f"no public contract reaches {words[1]}"], sep="\n")
         return 0 if lines else 1
-    misplaced, shared = list(program.misplaced()), program.shared()
-    new = [f"{name} stands in {' and '.join(files)}" for name, files in shared.items()]
-    unread = list(program.unread())
-    for line in [*misplaced, *new, *unread]:
-        print(line)
-    count = sum(len(it.definitions) for it in program.modules.values())
-    print(f"{count} definitions, {len(misplaced)} in the wrong folder; {len(shared)} names stand in two files")
-    return 1 if misplaced or new or unread else 0
+    wrong = [*program.misplaced(), *shared(), *program.unread()]
+    read = [*(it.file for it in program.sources.values()), *own_files()]
+    wrong += [f"{it}: no comment at its head says what it has" for it in read
+              if it.stem not in ("Lib", "Private") and not first_sentence(it)]
+    print(*wrong, f"{sum(len(definitions(it)) for it in own_files())} definitions, {len(wrong)} wrong", sep="\n")
+    return 1 if wrong else 0
 
 
 if __name__ == "__main__":

@@ -126,10 +126,9 @@ class Commands:
                 )
             with command:
                 try:
-                    out, report = command.communicate(text, LIMIT)
+                    out, report = script.finish(command, text, LIMIT)
                 except subprocess.TimeoutExpired:
-                    command.kill()
-                    sys.exit(f"program: line {run.line} has not ended after {LIMIT} seconds: $ {run.text.decode()}")
+                    sys.exit(f"program: line {run.line} only waits, for {LIMIT} seconds: $ {run.text.decode()}")
         return out or b"", report or b"", command.returncode
 
     def refused(self, run, case, folder, stdin):
@@ -208,7 +207,7 @@ def reads_each_input(program):
     good = True
     printed, unread = (b"module example.com/m\n", b"", 0), (b"", b"gomod: cannot read -\n", 3)
     for kind, given, is_readable in standard_inputs(b"module   example.com/m\n"):
-        done = subprocess.run([program, "fmt", "-"], capture_output=True, timeout=LIMIT, **given)
+        done = script.run_within([program, "fmt", "-"], LIMIT, capture_output=True, **given)
         got, wanted = (done.stdout, done.stderr, done.returncode), printed if is_readable else unread
         if got != wanted:
             good = False

@@ -111,7 +111,7 @@ class Race(Trial):
     @staticmethod
     def end_of(child):
         """The status, the output and the report of a child."""
-        out, report = child.communicate(timeout=LIMIT)
+        out, report = script.finish(child, None, LIMIT)
         return child.returncode, out, report
 
     def is_right(self, line, got):

@@ -39,7 +39,7 @@ import tempfile
 
 import script
 from completions import HOSTILE
-from script import Tally, read, write
+from script import Tally, read, run_within, write
 
 SECONDS = 300
 OPTIONAL = ("bwrap", "curl", "dot", "git", "jq", "vim")
@@ -92,8 +92,8 @@ def is_set_up(commands):
 def absent(commands):
     """The optional commands that these, or scripts which they run, call and that aren't there."""
     words = set(re.findall(r"[\w./-]+", "\n".join(commands)))
-    for script in [it for it in words if it.endswith(".sh") and os.path.isfile(it)]:
-        words |= set(re.findall(r"[\w./-]+", re.sub(r"(?m)^\s*#.*", "", read(script))))
+    for file in [it for it in words if it.endswith(".sh") and os.path.isfile(it)]:
+        words |= set(re.findall(r"[\w./-]+", re.sub(r"(?m)^\s*#.*", "", read(file))))
     there = [it for it in OPTIONAL if shutil.which(it) and (it != "bwrap" or makes_sandboxes())]
     return [it for it in OPTIONAL if it in words and it not in there]
 
@@ -157,11 +157,10 @@ def lay_stranger(room):
 
 def printed(commands, shell, program, folder):
     """What each command prints, in one shell, with the folder of the program on its PATH."""
-    script = "".join(f"ended=$?; printf '\\036'; (exit $ended)\n{it}\n" for it in commands)
+    text = "".join(f"ended=$?; printf '\\036'; (exit $ended)\n{it}\n" for it in commands)
     path = f"{program}:{os.environ['PATH']}"
-    ran = subprocess.run([*shell, script], cwd=f"{folder}/top", stdin=subprocess.DEVNULL, stdout=subprocess.PIPE,
-                         stderr=subprocess.STDOUT, timeout=SECONDS,
-                         env={**os.environ, "PATH": path, "TMPDIR": f"{folder}/tmp"})
+    ran = run_within([*shell, text], SECONDS, cwd=f"{folder}/top", stdin=subprocess.DEVNULL, stdout=subprocess.PIPE,
+                     stderr=subprocess.STDOUT, env={**os.environ, "PATH": path, "TMPDIR": f"{folder}/tmp"})
     return ran.stdout.decode("utf-8", "replace").split("\036")[1:]
 
 

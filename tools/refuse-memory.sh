@@ -70,7 +70,8 @@ refuse_each() {
   for ((n = 1; n <= MOST; n++)); do
     status=0
     (
-      cd "$work" && FAULTS=memory:$n:0:12:-1 LD_PRELOAD=$work/faults.so timeout 60 "$binary" "$test" >out 2>err
+      ulimit -t 60
+      cd "$work" && FAULTS=memory:$n:0:12:-1 LD_PRELOAD=$work/faults.so "$binary" "$test" >out 2>err
     ) 2>/dev/null || status=$?
     runs=$((runs + 1))
     if [ "$status" -ne 0 ] && ! says_no_memory "$status"; then

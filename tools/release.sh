@@ -16,7 +16,8 @@
 # the one that the program needs.
 #
 # It refuses an archive that fails this check and, without --unproved, a program whose version doesn't say that it is
-# proved. Unless --check is given, it also refuses a program that isn't the one that the last proof left at
+# proved. Unless --check is given, it also refuses a version that isn't the first one in CHANGELOG.md with its day, or
+# whose tag (as v1.2.0) is at another commit, a program that isn't the one that the last proof left at
 # crates/gomod/out/gomod, a gate that failed or ran with another program, changes that aren't committed, and a program
 # for which tools/refuse-memory.sh, tools/program.sh (where strace is) and `tools/cases.sh --checked` didn't leave
 # bin/refused.txt, bin/opened.txt and bin/checked.txt, nor `tools/compare-go.sh --check` with go 1.19.8 bin/texts.txt,
@@ -52,12 +53,20 @@ record_of() {
   echo "$line"
 }
 
+# Refuses a version that CHANGELOG.md doesn't begin with, and date, or that is tagged at another commit.
+refuse_version() {
+  local first tagged
+  first=$(grep -m 1 '^## ' CHANGELOG.md) || true
+  [[ $first =~ ^"## $1 ("[0-9]{4}-[0-9]{2}-[0-9]{2}\)$ ]] ||
+    refuse "CHANGELOG.md begins with '${first#\#\# }', and not with '$1' and its day in brackets"
+  tagged=$(git rev-parse --verify --quiet "v$1^{commit}") || return 0
+  [ "$tagged" = "$(git rev-parse HEAD)" ] || refuse "the tag v$1 is at another commit, $tagged"
+}
+
 # Lays the files of a release below a folder: its version, and the records of what it rests on.
 lay_release() {
   local to=$1 documents=$1/share/doc/gomod glibc
   install_files "$to" > /dev/null
-  install -D -m 644 -t "$documents" README.md CHANGELOG.md
-  cp -r docs example "$documents"
   glibc=$(least_glibc bin/gomod) || refuse "bin/gomod names no version of glibc"
   python3 -B tools/release.py "$documents" "Release ${2%% *}, for x86-64 Linux with glibc $glibc or later." "$name"
   {
@@ -123,6 +132,7 @@ texts beside go: ${texts:-none}"
 version=$(bin/gomod --version)
 [[ -n $unproved || $version =~ $PROVED_MARK$ ]] || refuse "bin/gomod isn't proved: its version is '$version'"
 version=${version#gomod }
+[ -n "$check" ] || refuse_version "${version%% *}"
 name=gomod-${version%% *}-x86_64-linux
 work=$(mktemp -d)
 trap 'rm -rf "$work"' EXIT

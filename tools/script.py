@@ -9,6 +9,7 @@ import itertools
 import os
 import pathlib
 import re
+import resource
 import shutil
 import subprocess
 import sys
@@ -92,6 +93,40 @@ def keep(path, text, is_checked, writer):
             print(f"{path}:{number}: it has: {old}\n{path}:{number}: {writer} writes: {new}")
             return 1
     return 0
+
+
+def ticks_of(pid):
+    """How much a process has used the processor, with what it began and waited for."""
+    with open(f"/proc/{pid}/stat", encoding="utf-8", errors="replace") as file:
+        return sum(map(int, file.read().rpartition(")")[2].split()[11:15]))
+
+
+def finish(command, text=None, seconds=100):
+    """What a command that was started writes. A signal ends it after so much CPU time. If for so long it only waits, it
+    is killed, and the fault is subprocess.TimeoutExpired."""
+    resource.prlimit(command.pid, resource.RLIMIT_CPU, (seconds, seconds))
+    before = -1
+    while True:
+        try:
+            return command.communicate(text, seconds / 2)
+        except subprocess.TimeoutExpired:
+            used, text = ticks_of(command.pid), None
+            if used == before:
+                command.kill()
+                raise
+            before = used
+
+
+def run_within(words, seconds=100, **given):
+    """Runs a command like subprocess.run, within such a time; `input` and `capture_output` are as there."""
+    text = given.pop("input", None)
+    if text is not None:
+        given["stdin"] = subprocess.PIPE
+    if given.pop("capture_output", False):
+        given |= {"stdout": subprocess.PIPE, "stderr": subprocess.PIPE}
+    with subprocess.Popen(words, **given) as command:
+        out, report = finish(command, text, seconds)
+    return subprocess.CompletedProcess(words, command.returncode, out, report)
 
 
 class Tally(collections.Counter):

@@ -1,10 +1,10 @@
 """Keeps sentences of README.md and docs/proof/PROVED.md bound to the laws that state them, for tools/documents.sh.
 
-Beside a sentence that names a law, in PROVED.md's "What you can rely on", and beside each of README.md's "What is
-verified", stands a comment: the laws' names, a checksum of the sentence and one of what the laws state. A law states
-the clauses of its function, and all definitions in specs/ of any crate that these reach, as tools/headline.py follows
-them, each with its file. Comments of sources and blanks don't count. If a definition isn't as it was when the comment
-was written, which git tells, the check names it.
+Beside a sentence that names a law, in PROVED.md's "What you can rely on", stands a comment: the laws' names, a checksum
+of the sentence and one of what the laws state. For README.md's "What is verified" tools/readme_sentences.txt has the
+same, a line for each sentence. A law states the clauses of its function, and all definitions in specs/ of any crate
+that these reach (tools/sources.py), each with its file. Comments of sources and blanks don't count. If a definition
+isn't as it was when the checksums were written, which git tells, the check names it.
 """
 import collections
 import dataclasses
@@ -13,13 +13,13 @@ import pathlib
 import re
 import sys
 
-import headline
 import script
 from script import checksum, git
-from sources import definitions_in, files, items_of
+from sources import definitions_in, files, items_of, reached_from, used_in_clauses
 
 SECTIONS = {"README.md": "What is verified", "docs/proof/PROVED.md": "What you can rely on"}
-BOUND = re.compile(r"^\s*<!-- bound to ([\w:, ]+): (\w*) (\w*) -->$")
+ASIDE = {"README.md": "tools/readme_sentences.txt"}  # where the checksums are that don't stand beside the sentences
+BOUND = re.compile(r"(?:\s*<!-- bound to )?([\w:, ]+): (\w*) (\w*)(?: -->)?")
 BULLET = re.compile(r"\s*- ")
 WHOLE = "gomod_laws"  # the crate whose definitions are followed from file to file
 FIRST = [WHOLE, "gomod_run"]  # if crates have laws of one name, a name alone is that of the first of these
@@ -29,14 +29,14 @@ CHECKS = "checks"  # stands for a law: what the check of a crate says of each of
 
 @dataclasses.dataclass
 class Sentence:
-    """A sentence, where it stands, its laws, and the checksums beside it, or none."""
+    """A sentence, where it stands, its laws, and the checksums, or none, with the file and the line that has them."""
 
     file: str
     number: int
     text: str
     laws: list
-    sums: tuple = ("", "")
-    at: int | None = None
+    sums: tuple
+    at: tuple | None
 
     def now(self):
         return checksum(self.text), checksum("\n".join(map(statement, self.laws)))
@@ -78,7 +78,7 @@ def reached(name):
     if name == CHECKS:
         return []
     _, file, contract = law(name)
-    found, _ = headline.reached_from(one for _, one in headline.used_in_clauses(file, [contract]))
+    found, _ = reached_from(one for _, one in used_in_clauses(file, [contract]))
     return sorted(found, key=lambda it: (str(it.file), it.line))
 
 
@@ -92,7 +92,7 @@ def statement(name):
 
 def changed(one):
     """The definitions that the laws of a sentence reach and that aren't as they were when its comment was written."""
-    commit = git("log", "-1", "--format=%H", f"-S{' '.join(one.sums)}", "--", one.file) or "HEAD"
+    commit = git("log", "-1", "--format=%H", f"-S{' '.join(one.sums)}", "--", one.at[0]) or "HEAD"
     before = functools.cache(lambda file: definitions_in(file, git("show", f"{commit}:{file}") + "\n"))
     for it in dict.fromkeys(it for name in one.laws for it in reached(name)):
         old = before(it.file).get(it.name)
@@ -111,28 +111,31 @@ def named_in(text):
     return [it for it in dict.fromkeys(re.findall(r"`((?:\w+::)*[a-z]\w+)`", text)) if law(it)]
 
 
+def lines_of(file):
+    return pathlib.Path(file).read_text().split("\n")
+
+
 def sentences(file):
-    """The sentences of a document that are or should be bound, with the lines of the document."""
-    lines = pathlib.Path(file).read_text().split("\n")
-    found, is_inside = [], False
-    for at, line in enumerate(lines):
+    """The sentences of a document that are or should be bound."""
+    lines, is_inside, aside = lines_of(file), False, ASIDE.get(file)
+    place = (aside, iter(enumerate(lines_of(aside)))) if aside else (file, None)
+    for number, line in enumerate(lines, 1):
         if line.startswith("## "):
             is_inside = line == f"## {SECTIONS[file]}"
         elif is_inside and BULLET.match(line):
-            text, laws = line.split("- ", 1)[1], []
-            bound = BOUND.match(lines[at + 1]) if at + 1 < len(lines) else None
-            laws = re.split(r",? +", bound[1]) if bound else []
-            laws = named_in(text) if file != "README.md" else laws
-            if laws or bound or file == "README.md":
-                found.append(Sentence(file, at + 1, text, laws, (bound[2], bound[3]) if bound else ("", ""),
-                                      at + 1 if bound else None))
-    return found, lines
+            text = line.split("- ", 1)[1]
+            at, comment = next(place[1], (0, "")) if aside else (number, "".join(lines[number: number + 1]))
+            bound = BOUND.fullmatch(comment)
+            laws = (not aside and named_in(text)) or (re.split(r",? +", bound[1]) if bound else [])
+            if laws or aside:
+                yield Sentence(file, number, text, laws, bound.groups()[1:] if bound else ("", ""),
+                               (place[0], at) if bound else None)
 
 
 def compare():
     """Prints each sentence whose checksums are no longer right, and gives the status."""
     tally = script.Tally()
-    for one in (it for file in SECTIONS for it in sentences(file)[0]):
+    for one in (it for file in SECTIONS for it in sentences(file)):
         tally.tell("sentences and laws", *judged(one))
     return tally.status()
 
@@ -154,18 +157,19 @@ def judged(one):
 def accept(names):
     """Writes the checksums anew of the sentences that are bound to these laws, and gives whether a name is of none."""
     used = set()
-    for file in SECTIONS:
-        found, lines = sentences(file)
-        for one in reversed(found):
-            mine = {it.split("::")[-1] for it in one.laws} & {it.split("::")[-1] for it in names}
-            if not one.laws or not (mine or names == ("all",)):
-                continue
-            used |= mine
-            blanks = " " * (len(lines[one.number - 1]) - len(lines[one.number - 1].lstrip()) + 2)
-            comment = f"{blanks}<!-- bound to {', '.join(one.laws)}: {' '.join(one.now())} -->"
-            lines[one.number: one.number + (one.at is not None)] = [comment]
-            print(f"{file}:{one.number}: {one.text[:100]}")
+    for one in reversed([it for file in SECTIONS for it in sentences(file)]):
+        mine = {it.split("::")[-1] for it in one.laws} & {it.split("::")[-1] for it in names}
+        if not one.laws or not (mine or names == ("all",)):
+            continue
+        used |= mine
+        file, at = one.at or (one.file, one.number)
+        lines, row = lines_of(file), f"{', '.join(one.laws)}: {' '.join(one.now())}"
+        if file == one.file:
+            margin = re.match(" *", lines[one.number - 1])[0]
+            row = f"{margin}  <!-- bound to {row} -->"
+        lines[at: at + (one.at is not None)] = [row]
         pathlib.Path(file).write_text("\n".join(lines))
+        print(f"{one.file}:{one.number}: {one.text[:100]}")
     unknown = {it.split("::")[-1] for it in names} - used - {"all"}
     for name in sorted(unknown):
         print(f"documents: no sentence is bound to {name}", file=sys.stderr)

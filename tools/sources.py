@@ -5,14 +5,17 @@
     definitions, plain           what an .antt file declares; its text without comments and strings
     items_of, functions, code_of    the items of a .rt file and its functions; its text without comments
     public_items, exports        its public items, and what it exports of other modules
+    place, used_by, reached_from    the graph of definitions: what a name means, what a definition names and reaches
 
 It relies on the layout of `rt fmt`: an item ends with the first line at its margin that ends with `}` or `;`, or before
 the next item; a definition ends before a blank line that no indented line follows, with comments directly above it.
 """
 import dataclasses
 import functools
+import itertools
 import pathlib
 import re
+import sys
 
 CRATES = pathlib.Path("crates")
 COPYING = "page", "page_commands"  # the crates whose definitions are copies of others
@@ -34,6 +37,14 @@ CLAUSE = re.compile(r"(?m)^(?://.*\n)*(?:requires|ensures)\*? (?:(\w+) )?\{.*(?:
 def files(pattern, crate="*"):
     """The files of all crates, or of one, that are like a pattern."""
     return sorted(CRATES.glob(f"{crate}/{pattern}"))
+
+
+def first_sentence(path):
+    """The first sentence of the comment at the head of a file, or nothing."""
+    mark = "//!" if path.suffix == ".rt" else "--"
+    head = itertools.takewhile(lambda line: line.startswith(mark), path.read_text().split("\n"))
+    text = " ".join(itertools.takewhile(bool, (line.removeprefix(mark).strip() for line in head)))
+    return re.match(r"(?:.*?[.!?][\"')]*(?= |$)|.*)", text)[0].replace("|", "\\|")
 
 
 @functools.cache
@@ -201,3 +212,106 @@ def functions(text):
             yield one, None
         elif one.kind in ("impl", "trait"):
             yield from ((it, one) for it in one.inner() if it.kind == "fn")
+
+
+# ---- the graph of definitions
+
+# a name, perhaps after that of a module; a variable; what binds variables, and fields
+USED = re.compile(r"(?<![\w.'])(?:([A-Za-z_]\w*)\.)?([A-Za-z_][\w'-]*)")
+VARIABLE = r"(?<![\w.'])[a-z_]\w*'?"
+BINDERS = [
+    r"[({]((?:[a-z_]\w*'?\s+)*[a-z_]\w*'?) :(?! Type 0 where)", r"λ ([^.:]*)[^.]*\.", r"(?m)^  pub ([a-z_]\w*) :",
+    r"\blet ([a-z_]\w*)", r"[{;]\s*([a-z_]\w*) =(?!=)", r"(?m)^  ([a-z_]\w*) = .*;$",
+]
+
+
+@dataclasses.dataclass(frozen=True)
+class Leaf:
+    """A name that no file of specs/ defines: one of the standard library, of another package, or of a type of the code,
+    which is then given by its crate, its module and its own name."""
+
+    name: str
+    source: str
+    owner: tuple | None = None
+
+
+@functools.cache
+def scope_in(file):
+    """What each name means that a file of specs/ imports."""
+    return scope_of(file.read_text(encoding="utf-8"))
+
+
+@functools.cache
+def own_names(file):
+    """What the names that a file defines or passes on mean; that of a constructor means its definition."""
+    passed = scope_of(file.read_text(encoding="utf-8"), "pub ")
+    own = {name: one for one in definitions(file).values() for name in (*one.constructors, one.name)}
+    return {name: place(*it) for name, it in passed.items() if it[1]} | own
+
+
+@functools.cache
+def place(path, name):
+    """The definition of a name in a module, or the leaf that it is."""
+    package, *inner = path.split(".")
+    if package == "Rattle":
+        package, *inner = inner
+    if not (CRATES / package).is_dir():
+        return Leaf(name, "the standard library" if package == "std" else f"the package {package}")
+    if inner[1:2] == ["declared"]:
+        *module, kind = names = [it for it in inner[2:] if it != "TheVariants"]
+        of = f" of `{kind}`" if len(names) < len(inner) - 2 else ""
+        owner = None if kind == "TheConstants" else (package, tuple(module), kind)
+        return Leaf(name, f"`crates/{package}/src/{'/'.join(module)}.rt`{of}", owner)
+    file = CRATES.joinpath(package, *inner).with_suffix(".antt")
+    if not file.exists():
+        return Leaf(name, f"`{file}`")
+    return own_names(file).get(name) or sys.exit(f"{file} has no {name}")
+
+
+def bound_in(text, scope, own):
+    """The variables and fields of a definition."""
+    bound = {name for rule in BINDERS for group in re.findall(rule, text) for name in re.findall(VARIABLE, group)}
+    for left in re.findall(r"(?m)^[a-z_A-Z]\w*'? ([^=\n]*?) =(?!=)", text):
+        for name in re.findall(VARIABLE, left):
+            target = place(*scope[name]) if name in scope else own.get(name)
+            if not (isinstance(target, Definition) and name in target.constructors):
+                bound.add(name)
+    return bound
+
+
+def used_in(text, scope, own):
+    """What the names in a text mean, given what the names of its file do: a definition or a leaf, by the name as it is
+    written."""
+    text = plain(text)
+    bound, seen = bound_in(text, scope, own), {}
+    for module, name in USED.findall(text):
+        path, imported = scope.get(module or name, (None, None))
+        if module and path and not imported:
+            seen[f"{module}.{name}"] = place(path, name)
+            continue
+        name = module or name
+        if name not in bound and (name in own or imported):
+            seen[name] = own.get(name) or place(path, imported)
+    return seen
+
+
+@functools.cache
+def used_by(one):
+    return used_in(one.text, scope_in(one.file), own_names(one.file))
+
+
+def used_in_clauses(file, clauses):
+    """What the names in clauses of a source mean: pairs of the name as it is written and a definition or a leaf."""
+    scope = scope_of(file.read_text())
+    return {it for clause in clauses for it in used_in(re.sub(r"(?m)^//.*$", "", clause), scope, {}).items()}
+
+
+def reached_from(found, is_end=lambda one: False):
+    """All definitions that these reach, but for those that end it, and the leaves."""
+    reached, left = {}, list(found)
+    while left:
+        one = left.pop()
+        if one not in reached and not is_end(one):
+            reached[one] = None
+            left.extend(used_by(one).values() if isinstance(one, Definition) else ())
+    return [it for it in reached if isinstance(it, Definition)], [it for it in reached if isinstance(it, Leaf)]

@@ -122,7 +122,7 @@ AreRefused words =
 
 -- what `gomod --version` prints
 abbrev pub version_line : List ℕ
-version_line = codes "gomod 1.1.0 (Rattle, logic dac8208d650f15bf)\n"
+version_line = codes "gomod 1.2.0 (Rattle, logic dac8208d650f15bf)\n"
 
 -- The words ask for this command with these places: they have no operation with a dash in front, the parser accepts
 -- them, and its entries for them have this meaning.

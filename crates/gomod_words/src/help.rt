@@ -4,7 +4,7 @@
 //! The lines of help are at most 100 characters wide.
 
 /// The version of the program, and the kit that it is proved with.
-pub(crate) const VERSION: &str = "1.1.0 (Rattle, logic dac8208d650f15bf)";
+pub(crate) const VERSION: &str = "1.2.0 (Rattle, logic dac8208d650f15bf)";
 
 /// The usage line of the program.
 pub(crate) const GOMOD_USAGE: &str = "gomod <COMMAND>";

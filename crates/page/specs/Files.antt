@@ -1,4 +1,4 @@
--- The files of the worlds and what they say, a stand-in for docs/proof/DIRECTIVES.md.
+-- The files of the worlds and what they say, a stand-in for the definitions of gm_file.
 use Rattle.std.specs.Prelude.{◌≡◌, ◌++◌, ℕ, if◌then◌else◌, List, [], ◌∷◌, Option, Some, None, Result, Ok, Err, codes}
 use Rattle.std.specs.Str.{bytes_eq}
 use Rattle.page.specs.Asked.{Name, mod_file}
