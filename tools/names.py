@@ -118,9 +118,9 @@ def wrong_help(operations):
 
 def hints():
     """The names of each row of the tables of hints, and the strings of its text."""
-    tables = (CRATES / HINTS).read_text(encoding="utf-8").partition("const HINTS")[2].rpartition("\n];")[0]
+    tables = (CRATES / HINTS).read_text(encoding="utf-8").partition("\nconst ")[2].rpartition("\n];")[0]
     for row in tables.split("hint!(")[1:]:
-        names, _, text = row.partition(",")
+        names, _, text = row.partition(";")
         yield re.findall(r'"([^"]*)"', names), [it.replace("\\n", "\n") for it in re.findall(r'"([^"]*)"', text)]
 
 

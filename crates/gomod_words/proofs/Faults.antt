@@ -1,6 +1,6 @@
 -- What is known about the words at each fault.
-use Rattle.std.proofs.Common.{◌≡◌, ◌≢◌, ◌∙◌, List, [], Option, None, Result, Ok, Err, IfErr, IfOk, true, sym, subst, inl, inr, refl}
-use Rattle.clap.specs.Walk.{Row, Text}
+use Rattle.std.proofs.Common.{◌≡◌, ◌≢◌, ◌∙◌, List, Option, None, Result, Ok, Err, IfErr, IfOk, ap, true, sym, subst, inl, inr, refl}
+use Rattle.clap.specs.Walk.{Text}
 use Rattle.clap.specs.Simple.{App, HasMatchesOf, is_simple, subcommand_of, subcommand_rows_of}
 use Rattle.clap.specs.Faults.{fault_of, is_simple_and_free}
 use Rattle.clap.specs.Kinds.{HasKind, IsAmong}
@@ -12,49 +12,39 @@ use Rattle.clap.specs.declared.error.kind.ErrorKind.{ErrorKind}
 use Rattle.clap.specs.declared.error.kind.ErrorKind.TheVariants.{DisplayHelp, DisplayVersion, OutOfMemory}
 use Rattle.gomod_words.specs.Dashed.{dashed_in}
 use Rattle.gomod_words.specs.Table.{gomod_app}
-use Rattle.gomod_words.specs.Usage.{AreRecognized, AreAccepted, AskFor, HasBadPath, HasBadProxy, IsFaultBy, IsFaultOf, IsMeant, IsReadFault, ShowsLine, ShowsUsage}
+use Rattle.gomod_words.specs.Usage.{AreAccepted, AskFor, IsFaultBy, IsFaultOf, IsMeant, IsReadFault, ShowsLine, ShowsUsage, entered}
 use Rattle.gomod_words.specs.Private.Usage.{IsEntriesFault, IsParserFault}
 use Rattle.gomod_words.specs.declared.usage.Command.{Command}
 use Rattle.gomod_words.specs.declared.usage.Places.{Places}
 use Rattle.gomod_words.specs.declared.usage.UsageFault.{UsageFault}
 use Rattle.gomod_words.specs.declared.usage.UsageFault.TheVariants.{NoMemory, Help, Version, Line, BadPath, BadProxy}
-use Rattle.std.specs.String.{string_bytes}
 use Rattle.gomod_words.proofs.UsageLines.{shows_usage}
 
 -- if no operation has a dash, a fault of the words as the parser reads them is their fault
 pub read_fault : (words : List Text) (fault : UsageFault) → dashed_in words ≡ None → IsReadFault words fault → ShowsUsage words fault → IsFaultOf words fault
 read_fault words fault undashed known shows = subst (λ (o : Option Text). IsFaultBy o words fault) (sym undashed) (known, shows)
 
--- the same of a result that may be a fault
-pub read_result : {T : Type 0} (words : List Text) (result : Result T UsageFault) → dashed_in words ≡ None → IfErr result (IsReadFault words)
-    → IfErr result (ShowsLine words) → IfErr result (IsFaultOf words)
-read_result words (Ok value) undashed known shows = tt
-read_result words (Err fault) undashed known shows = read_fault words fault undashed known (shows_usage words fault shows)
-
 -- a fault of the entries is a fault of the words
-entries_fault : (words : List Text) (entered : Option (Text × List Row)) (fault : UsageFault) → AreAccepted words
-    → entered ≡ subcommand_of gomod_app words → IsEntriesFault entered fault → IsReadFault words fault
-entries_fault words entered NoMemory taken same known = tt
-entries_fault words entered (Help text) taken same known = absurd known
-entries_fault words entered (Version text) taken same known = absurd known
-entries_fault words entered (Line text) taken same known = inr (taken, λ meant. known (subst AreRecognized (sym same) meant))
-entries_fault words entered (BadPath text) taken same known =
-    let P : Option (Text × List Row) → Type 0 = λ o. HasBadPath o (string_bytes text) in (taken, subst P same known)
-entries_fault words entered (BadProxy text) taken same known =
-    let P : Option (Text × List Row) → Type 0 = λ o. HasBadProxy o (string_bytes text) in (taken, subst P same known)
+entries_fault : (words : List Text) (fault : UsageFault) → AreAccepted words → IsEntriesFault (entered (subcommand_of gomod_app words)) fault
+    → IsReadFault words fault
+entries_fault words NoMemory taken known = tt
+entries_fault words (Help text) taken known = absurd known
+entries_fault words (Version text) taken known = absurd known
+entries_fault words (Line text) taken known = inr (taken, known)
+entries_fault words (BadPath text) taken known = (taken, known)
+entries_fault words (BadProxy text) taken known = (taken, known)
 
-pub entries_result : {T : Type 0} (words : List Text) (entered : Option (Text × List Row)) (result : Result T UsageFault) → AreAccepted words
-    → entered ≡ subcommand_of gomod_app words → IfErr result (IsEntriesFault entered) → IfErr result (IsReadFault words)
-entries_result words entered (Ok value) taken same known = tt
-entries_result words entered (Err fault) taken same known = entries_fault words entered fault taken same known
+pub entries_faults : {T : Type 0} (words : List Text) (result : Result T UsageFault) → dashed_in words ≡ None → AreAccepted words
+    → IfErr result (IsEntriesFault (entered (subcommand_of gomod_app words))) → IfErr result (ShowsLine words) → IfErr result (IsFaultOf words)
+entries_faults words (Ok value) undashed taken known shows = tt
+entries_faults words (Err fault) undashed taken known shows =
+    read_fault words fault undashed (entries_fault words fault taken known) (shows_usage words fault shows)
 
 -- the words ask for what the entries mean
-pub entries_read : (words : List Text) (entered : Option (Text × List Row))
-    (result : Result (Command × Places) UsageFault) → dashed_in words ≡ None → AreAccepted words
-    → entered ≡ subcommand_of gomod_app words → IfOk result (λ read. IsMeant entered read.0 read.1) → IfOk result (λ read. AskFor words read.0 read.1)
-entries_read words entered (Ok read) undashed taken same known =
-    let P : Option (Text × List Row) → Type 0 = λ o. IsMeant o read.0 read.1 in record { undashed = undashed; taken = taken; meant = subst P same known }
-entries_read words entered (Err fault) undashed taken same known = tt
+pub entries_read : (words : List Text) (result : Result (Command × Places) UsageFault) → dashed_in words ≡ None → AreAccepted words
+    → IfOk result (λ read. IsMeant (entered (subcommand_of gomod_app words)) read.0 read.1) → IfOk result (λ read. AskFor words read.0 read.1)
+entries_read words (Ok read) undashed taken known = record { undashed = undashed; taken = taken; meant = known }
+entries_read words (Err fault) undashed taken known = tt
 
 -- an error whose kind is not that memory ran out has a kind that applies to the words
 kind_among : (words : List Text) (error : Error) → HasKind (fault_of gomod_app words) error → kind_of error ≢ OutOfMemory
@@ -66,8 +56,7 @@ kind_among words error (inr among) enough = among
 asked_among : (words : List Text) (error : Error) (kind : ErrorKind) → HasKind (fault_of gomod_app words) error → kind_of error ≡ kind → kind ≢ OutOfMemory
     → IsAmong kind (fault_of gomod_app words)
 asked_among words error kind kinds asked other =
-    let P : ErrorKind → Type 0 = λ k. IsAmong k (fault_of gomod_app words) in
-    subst P asked (kind_among words error kinds (λ memory. other (sym asked ∙ memory)))
+    subst (λ (k : ErrorKind). IsAmong k (fault_of gomod_app words)) asked (kind_among words error kinds (λ memory. other (sym asked ∙ memory)))
 
 -- a fault of the parser is a fault of the words
 pub parser_fault : (words : List Text) (error : Error) (fault : UsageFault) → HasKind (fault_of gomod_app words) error
@@ -82,32 +71,17 @@ parser_fault words error (Line text) kinds passes known =
 parser_fault words error (BadPath text) kinds passes known = absurd known
 parser_fault words error (BadProxy text) kinds passes known = absurd known
 
-is_simple-gomod_app : is_simple gomod_app ≡ true
-is_simple-gomod_app = refl
-
 is_simple_and_free-gomod_app : is_simple_and_free gomod_app ≡ true
 is_simple_and_free-gomod_app = refl
+
+-- a clause of the parser on a simple program, of this one
+pub of_gomod : (app : App) (P : App → Type 0) → app ≡ gomod_app → (is_simple_and_free app ≡ true → P app) → P gomod_app
+of_gomod app P same known = subst P same (known (ap is_simple_and_free same ∙ is_simple_and_free-gomod_app))
+
+is_simple-gomod_app : is_simple gomod_app ≡ true
+is_simple-gomod_app = refl
 
 -- a parse gives the entries of the words
 pub entries_known : (app : App) (words : List Text) (matches : ArgMatches) → app ≡ gomod_app → HasMatchesOf app words matches
     → subcommand_rows_of matches ≡ subcommand_of gomod_app words
-entries_known app words matches same known =
-    let P : App → Type 0 = λ a. HasMatchesOf a words matches in (subst P same known is_simple-gomod_app).1
-
--- a parse that gives matches finds no fault
-pub accepted_known : (app : App) (words : List Text) → app ≡ gomod_app → (is_simple_and_free app ≡ true → fault_of app words ≡ []) → AreAccepted words
-accepted_known app words same known =
-    let P : App → Type 0 = λ a. is_simple_and_free a ≡ true → fault_of a words ≡ [] in
-    subst P same known is_simple_and_free-gomod_app
-
--- a parse fails with a kind that applies to the words
-pub kinds_known : (app : App) (words : List Text) (error : Error) → app ≡ gomod_app
-    → (is_simple_and_free app ≡ true → HasKind (fault_of app words) error) → HasKind (fault_of gomod_app words) error
-kinds_known app words error same known =
-    let P : App → Type 0 = λ a. is_simple_and_free a ≡ true → HasKind (fault_of a words) error in
-    subst P same known is_simple_and_free-gomod_app
-
-pub passes_known : (app : App) (words : List Text) (error : Error) → app ≡ gomod_app
-    → (takes app words ≡ true → kind_of error ≡ OutOfMemory) → takes gomod_app words ≡ true → kind_of error ≡ OutOfMemory
-passes_known app words error same known =
-    let P : App → Type 0 = λ a. takes a words ≡ true → kind_of error ≡ OutOfMemory in subst P same known
+entries_known app words matches same known = (subst (λ (a : App). HasMatchesOf a words matches) same known is_simple-gomod_app).1

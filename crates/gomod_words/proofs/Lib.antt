@@ -6,5 +6,4 @@ mod Faults
 pub mod GivenWords
 mod HintWords
 mod Limits
-mod Queries
 mod UsageLines

@@ -8,6 +8,7 @@ use Rattle.clap.specs.Walk.{Row, Text}
 use Rattle.gomod_words.specs.Hints.{texts_of}
 use Rattle.gomod_words.specs.Usage.{HasHintOf, HasNoTip, IsInAWord, IsLineOn, ShowsLine, ShowsUsage, is_line_or_memory, usage_of, usage_text}
 use Rattle.gomod_words.specs.Private.Usage.{IsEntriesFault, IsLineOf}
+use Rattle.gomod_words.specs.declared.table.CommandName.{CommandName}
 use Rattle.gomod_words.specs.declared.usage.UsageFault.{UsageFault}
 use Rattle.gomod_words.specs.declared.usage.UsageFault.TheVariants.{NoMemory, Help, Version, Line, BadPath, BadProxy}
 use Rattle.gomod_words.proofs.HintWords.{map_at}
@@ -22,7 +23,7 @@ line_shows words message (BadPath text) is bare = tt
 line_shows words message (BadProxy text) is bare = tt
 
 -- a fault with a message says of the entries what another one with a message does
-pub line_fault : (entered : Option (Text × List Row)) (text : String Global) (fault : UsageFault) → is_line_or_memory fault ≡ true
+pub line_fault : (entered : Option (CommandName × List Row)) (text : String Global) (fault : UsageFault) → is_line_or_memory fault ≡ true
     → IsEntriesFault entered (Line text) → IsEntriesFault entered fault
 line_fault entered text NoMemory kind known = tt
 line_fault entered text (Line _) kind known = known

@@ -14,28 +14,19 @@ abbrev pub begins_with_dash : Text → Bool
 begins_with_dash (first ∷ second ∷ rest) = first == 45
 begins_with_dash _ = false
 
--- the word without one dash or two in front
-abbrev pub without_dashes : Text → Text
-without_dashes word = without_minus (without_minus word)
-
--- the name of an operation
-abbrev pub names_operation : Text → Bool
-names_operation name = is_some (operation_named name)
-
 -- the text is the name of an operation, `=` (61) and what follows
 abbrev pub is_operation : Text → Bool
-is_operation text = option_map_or (λ parts. names_operation parts.0) (split_at_byte 61 text) false
+is_operation text = option_map_or (λ parts. is_some (operation_named parts.0)) (split_at_byte 61 text) false
 
 -- the operation that a word is, with one dash or two in front or with none
 abbrev pub operation_in : Text → Option Text
-operation_in word = if is_operation (without_dashes word) then Some (without_dashes word) else None
+operation_in word =
+    let text = without_minus (without_minus word) in
+    if is_operation text then Some text else None
 
--- The operation with a dash in front that the words after `edit` have, if any. The first word with a dash decides.
-abbrev pub dashed_among : List Text → Option Text
-dashed_among words = option_and_then operation_in (find begins_with_dash words)
-
--- The operation with a dash in front that the words of a command line have, if any. The first word is the program's
--- name.
+-- The operation with a dash in front that the words of a command line have, if any: after `edit` the first word with a
+-- dash decides. The first word of all is the program's name.
 abbrev pub dashed_in : List Text → Option Text
-dashed_in (program ∷ name ∷ words) = if bytes_eq name (name_in Edit) then dashed_among words else None
+dashed_in (program ∷ name ∷ words) =
+    if bytes_eq name (name_in Edit) then option_and_then operation_in (find begins_with_dash words) else None
 dashed_in _ = None

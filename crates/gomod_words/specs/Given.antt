@@ -1,5 +1,4 @@
--- The words that a program was given, and the error if one is not UTF-8. Where they may be unknown, `given` is None if
--- they are.
+-- The words that a program was given, if they are known, and the error if one is not UTF-8.
 use Rattle.std.specs.Prelude.{◌≡◌, ◌<◌, ℕ, IfSome, List, Option, Some, None, Result, Ok, Err, find, length, not, take}
 use Rattle.std.specs.Str.{is_utf8}
 use Rattle.std.specs.String.{string_bytes}

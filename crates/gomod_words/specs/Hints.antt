@@ -1,5 +1,4 @@
--- What is said of a word that a command does not take: the tables of hints, which are the constants HINTS and
--- OTHER_HINTS.
+-- What is said of a word that a command does not take: the tables of hints, which are constants.
 use Rattle.std.specs.Prelude.{◌≡◌, ◌⊎◌, ◌==◌, ◌++◌, ◌&&◌, ◌<◌, ◌≤◌, nat_lt, if◌then◌else◌, Bool, List, codes, length, map, true, false}
 use Rattle.std.specs.Borrow.{Bor}
 use Rattle.std.specs.Char.{to_ascii_lowercase}
@@ -16,17 +15,13 @@ use Rattle.gomod_words.specs.declared.hints.TheConstants.{HINTS, OTHER_HINTS}
 abbrev pub Rows : Type 0
 Rows = List (List Text × Text)
 
--- the table of hints, for the commands and options of gomod
+-- the first table of hints
 unfoldable pub hints : Rows
 hints = map (λ row. (map (λ name. name.now) row.0.now, row.1.now)) HINTS
 
--- the table of other hints
+-- the other table
 unfoldable pub other_hints : Rows
 other_hints = map (λ row. (map (λ name. name.now) row.0.now, row.1.now)) OTHER_HINTS
-
--- a row for the name says this
-abbrev pub IsSaidOf : Rows → Text → Text → Type 0
-IsSaidOf rows name hint = (names : List Text) × Contains rows (names, hint) × Contains names name
 
 -- what stands before the first `=` (61)
 abbrev pub name_before : Text → Text
@@ -37,13 +32,12 @@ abbrev pub without_second_dash : Text → Text
 without_second_dash word =
     if begins_with_dash word && begins_with_dash (without_minus word) then without_minus word else word
 
--- a name in lowercase, unless it is one letter
-abbrev pub lowered : Text → Text
-lowered name = if nat_lt (length (without_minus name)) 2 then name else map to_ascii_lowercase name
-
--- the name that the table has a word by: what stands before its first `=`, with one dash for two, in lowercase
+-- the name that the table has a word by: what stands before its first `=`, with one dash for two, and in lowercase unless
+-- it is one letter
 abbrev pub key_of : Text → Text
-key_of word = lowered (without_second_dash (name_before word))
+key_of word =
+    let name = without_second_dash (name_before word) in
+    if nat_lt (length (without_minus name)) 2 then name else map to_ascii_lowercase name
 
 -- the names have four letters or more, and differ by one letter at most, or by two neighbours that are swapped
 abbrev pub IsNear : Text → Text → Type 0
@@ -55,9 +49,10 @@ abbrev pub IsAlike : Bool → Text → Text → Type 0
 IsAlike false key name = key ≡ name
 IsAlike true key name = IsNear key name
 
--- a row says this that has a name like the key, without the `=` that ends the name of an operation
+-- a row says this that has a name like the key, aside from an operation's `=`
 abbrev pub HasSaidIn : Rows → Bool → Text → Text → Type 0
-HasSaidIn rows is_near key hint = (name : Text) × IsSaidOf rows name hint × IsAlike is_near key (name_before name)
+HasSaidIn rows is_near key hint = (names : List Text) × (name : Text) × Contains rows (names, hint) × Contains names name
+    × IsAlike is_near key (name_before name)
 
 -- one of the tables says this
 abbrev pub HasSaid : Bool → Text → Text → Type 0
@@ -67,19 +62,16 @@ HasSaid is_near key hint = HasSaidIn hints is_near key hint ⊎ HasSaidIn other_
 abbrev pub IsForm : Text → Text → Type 0
 IsForm word form = (part : Text) × HasSubslice word part × (form ≡ codes "*" ++ part ++ codes "*")
 
--- the tables say this of a word with this key: by the key, by the form of the word, or by a name that is near
-abbrev pub IsHintBy : Text → Text → Text → Type 0
-IsHintBy word key hint =
-    HasSaid false key hint ⊎ ((form : Text) × IsForm word form × HasSaid false form hint) ⊎ HasSaid true key hint
-
--- the table says this of a word
+-- the tables say this of a word: by its key, by its form, or by a name that is near to the key
 abbrev pub IsHintFor : Text → Text → Type 0
-IsHintFor word hint = IsHintBy word (key_of word) hint
+IsHintFor word hint = HasSaid false (key_of word) hint
+    ⊎ ((form : Text) × IsForm word form × HasSaid false form hint)
+    ⊎ HasSaid true (key_of word) hint
 
 -- the words of a command line
 abbrev pub texts_of : List (Bor Text) → List Text
 texts_of words = map (λ word. word.now) words
 
--- the table says this of one of these words
+-- the tables say this of one of these words
 abbrev pub IsHintOf : List Text → Text → Type 0
 IsHintOf words hint = (word : Text) × Contains words word × IsHintFor word hint

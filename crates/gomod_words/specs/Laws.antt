@@ -7,17 +7,18 @@ use Rattle.gomod_words.specs.declared.usage.Places.{Places}
 use Rattle.gomod_words.specs.declared.usage.UsageFault.{UsageFault}
 use Rattle.gomod_words.specs.declared.usage.UsageFault.TheVariants.{NoMemory}
 
+-- the words ask for no command, and have such faults alone
+abbrev pub HaveOnly : (UsageFault → Type 0) → List Text → Type 0
+HaveOnly is words = ((command : Command) (places : Places) → ¬ (AskFor words command places))
+    × ((fault : UsageFault) → IsFaultOf words fault → is fault)
+
 -- the words ask for the version and for nothing else
 abbrev pub AskForVersion : List Text → Type 0
-AskForVersion words =
-    ((command : Command) (places : Places) → ¬ (AskFor words command places))
-    × ((fault : UsageFault) → IsFaultOf words fault → IsVersionLine fault)
+AskForVersion = HaveOnly IsVersionLine
 
 -- the words are a usage error
 abbrev pub AreUsageError : List Text → Type 0
-AreUsageError words =
-    ((command : Command) (places : Places) → ¬ (AskFor words command places))
-    × ((fault : UsageFault) → IsFaultOf words fault → is_line_or_memory fault ≡ true)
+AreUsageError = HaveOnly (λ fault. is_line_or_memory fault ≡ true)
 
 -- `gomod --version` and `gomod -V`, whatever the program's name
 abbrev pub VersionIsAsked : Type 0

@@ -45,24 +45,13 @@ usage_for n.List = codes "gomod list [OPTIONS] --proxy <DIR>[,DIR|DIR..]"
 usage_for n.Chain = codes "gomod chain [OPTIONS] --proxy <DIR>[,DIR|DIR..] <PATH>"
 usage_for n.Versions = codes "gomod versions [OPTIONS] <PATH>"
 
--- ---- what the parser is given
-
 -- a positional argument of this name, which must be given
 abbrev pub positional_rule : Text → Rule
 positional_rule name = record (new_rule name) { required = true; value_names = 1 }
 
--- a positional argument of this name, which must be given once or more
-abbrev pub repeated_positional_rule : Text → Rule
-repeated_positional_rule name =
-    record (positional_rule name) { range = Some (record { start_inclusive = 1; end_inclusive = usize_max }) }
-
 -- an option `--NAME VALUE`, which may be left out
 abbrev pub option_rule : Text → Rule
 option_rule name = record (new_rule name) { long = Some name; value_names = 1 }
-
--- an option `--NAME VALUE`, which must be given
-abbrev pub required_option_rule : Text → Rule
-required_option_rule name = record (option_rule name) { required = true }
 
 -- an option `--NAME VALUE`, which has this value if it is left out
 abbrev pub default_option_rule : Text → Text → Rule
@@ -76,10 +65,12 @@ flag_rule name = record (new_rule name) { long = Some name; action = Some SetTru
 abbrev pub rule_for : Argument → Rule
 rule_for a.FmtFile = positional_rule (codes "file")
 rule_for a.EditFile = positional_rule (codes "file")
-rule_for a.Operations = repeated_positional_rule (codes "op")
+rule_for a.Operations = record (positional_rule (codes "op")) {
+  range = Some (record { start_inclusive = 1; end_inclusive = usize_max });
+}
 rule_for a.Path = positional_rule (codes "path")
 rule_for a.Proxy = option_rule (codes "proxy")
-rule_for a.RequiredProxy = required_option_rule (codes "proxy")
+rule_for a.RequiredProxy = record (option_rule (codes "proxy")) { required = true }
 rule_for a.Mod = default_option_rule (codes "mod") (codes "go.mod")
 rule_for a.Sum = option_rule (codes "sum")
 rule_for a.After = option_rule (codes "after")

@@ -1,9 +1,8 @@
--- What the words of a command line mean: the command that the parser's entries stand for, and the faults of words that
--- have no meaning.
+-- What the words of a command line mean, and the faults of words that have no meaning.
 use Rattle.std.specs.Prelude.{◌≡◌, ◌≢◌, ◌⊎◌, ◌&&◌, ◌||◌, ◌∷◌, ◌++◌, not, ℕ, Bool, IfSome, List, [], Option, Some, None, true, false, codes, encode_utf8_all, flat_map, is_some, map, option_map, unwrap_or, if◌then◌else◌, String}
 use Rattle.std.specs.Char.Escape.{escape_ascii}
 use Rattle.std.specs.List.{Contains, list_all}
-use Rattle.std.specs.Option.{option_map_or}
+use Rattle.std.specs.Option.{IsSomeAnd, option_and_then, option_map_or}
 use Rattle.std.specs.Str.{bytes_eq}
 use Rattle.std.specs.Str.Iter.{HasSubslice}
 use Rattle.std.specs.Global.{Global, Vec}
@@ -21,10 +20,11 @@ use Rattle.gm_store.specs.declared.fallback.proxy_list.ProxyList.{ProxyList}
 use Rattle.gomod_words.specs.Dashed.{dashed_in}
 use Rattle.gomod_words.specs.Hints.{IsHintOf}
 use Rattle.gomod_words.specs.Limits.{limit_of}
-use Rattle.gomod_words.specs.Table.{command_named, gomod_app, name_in, argument_name, usage_for}
+use Rattle.gomod_words.specs.Table.{command_named, gomod_app, argument_name, usage_for}
+use Rattle.gomod_words.specs.declared.table.CommandName.{CommandName}
 use Rattle.gomod_words.specs.declared.table.CommandName.TheVariants as n
 use Rattle.gomod_words.specs.declared.table.Argument.{Argument}
-use Rattle.gomod_words.specs.declared.table.Argument.TheVariants.{Proxy, Mod, Sum, After, Limit, Retracted}
+use Rattle.gomod_words.specs.declared.table.Argument.TheVariants.{FmtFile, EditFile, Operations, Path, Proxy, Mod, Sum, After, Limit, Retracted}
 use Rattle.gomod_words.specs.declared.usage.Command.{Command}
 use Rattle.gomod_words.specs.declared.usage.Command.TheVariants.{Versions, Fmt, Edit, Graph, List as Rows, Chain}
 use Rattle.gomod_words.specs.declared.usage.Places.{Places}
@@ -35,9 +35,9 @@ use Rattle.gomod_words.specs.declared.usage.UsageFault.TheVariants.{NoMemory, He
 abbrev pub given : Argument → List Row → Option Text
 given argument rows = first_of (argument_name argument) rows
 
--- whether a flag is given
-abbrev pub is_given : Argument → List Row → Bool
-is_given flag rows = option_map_or (λ value. bytes_eq value (codes "true")) (given flag rows) false
+-- Whether the first value of an argument is this text. That of a flag which is given is `true`.
+abbrev pub has_value : Argument → Text → List Row → Bool
+has_value argument text rows = option_map_or (λ value. bytes_eq value text) (given argument rows) false
 
 -- the text is a valid list of proxy folders
 abbrev pub is_proxy : Text → Bool
@@ -45,34 +45,21 @@ is_proxy value = list_all is_folder (folders_of value)
 
 -- the folders and marks that the value of `--proxy` names, or `None` if it is not given
 abbrev pub IsProxy : Option Text → Option ProxyList → Type 0
-IsProxy None None = Unit {0}
-IsProxy None (Some list) = ⊥
-IsProxy (Some value) None = ⊥
-IsProxy (Some value) (Some list) =
-    (is_proxy value ≡ true) × (folders_in list ≡ folders_of value) × (marks_in list ≡ marks_of value)
-
--- whether a value is the name of standard input
-abbrev pub is_input : Option Text → Bool
-is_input value = option_map_or (λ name. bytes_eq name (codes "-")) value false
+IsProxy value proxy = (option_map_or is_proxy value true ≡ true)
+    × (option_map folders_in proxy ≡ option_map folders_of value)
+    × (option_map marks_in proxy ≡ option_map marks_of value)
 
 -- whether standard input is both the main file and the go.sum
 abbrev pub is_input_twice : List Row → Bool
-is_input_twice rows = is_input (given Mod rows) && is_input (given Sum rows)
+is_input_twice rows = has_value Mod (codes "-") rows && has_value Sum (codes "-") rows
 
--- The places of a command over a module graph: the proxy folders, which must be given; the main file, which
--- is `go.mod` if `--mod` is not given; and the go.sum, which is `None` if `--sum` is not given. Standard input is at
--- most one of the two files.
+-- The places of a command over a module graph: proxy folders, which must be given; the main file, `go.mod` without
+-- `--mod`; and the go.sum, if `--sum` is given. Standard input is at most one of the two files.
 abbrev pub ArePlaces : List Row → Places → Type 0
-ArePlaces rows places =
-    IsProxy (given Proxy rows) places.proxy × (is_some places.proxy ≡ true)
+ArePlaces rows places = (is_some places.proxy ≡ true)
     × (string_bytes places.main ≡ unwrap_or (given Mod rows) (codes "go.mod"))
     × (option_map string_bytes places.sums ≡ given Sum rows)
     × (is_input_twice rows ≡ false)
-
--- the number of rows that the value of `--limit` stands for, or `None` if it is not given
-abbrev pub IsLimit : Option Text → Option ℕ → Type 0
-IsLimit None limit = limit ≡ None
-IsLimit (Some text) limit = (limit_of text ≡ limit) × (is_some limit ≡ true)
 
 -- the value of `--limit` is a valid number of rows, or is not given
 abbrev pub has_limit : Option Text → Bool
@@ -82,32 +69,57 @@ has_limit value = option_map_or (λ text. is_some (limit_of text)) value true
 abbrev pub texts_in : Vec (String Global) → List Text
 texts_in texts = map string_bytes texts.items
 
--- The command and the places that a command's name and its entries stand for. All versions are asked for if
--- `--retracted` is given or if there is no proxy. PATH and the value of `--after` must be paths.
--- The type doesn't say so here: in a definition a `ModPath` is its text.
-abbrev pub Means : Text → List Row → Command → Places → Type 0
-Means name rows (Versions path all) places =
-    (name ≡ name_in n.Versions) × (first_of (codes "path") rows ≡ Some path) × IsPath path
-    × IsProxy (given Proxy rows) places.proxy
-    × (all ≡ (is_given Retracted rows || not (is_some places.proxy)))
-    × (string_bytes places.main ≡ codes "go.mod") × (places.sums ≡ None)
-Means name rows Fmt places =
-    (name ≡ name_in n.Fmt) × (first_of (codes "file") rows ≡ Some (string_bytes places.main))
-    × (places.proxy ≡ None) × (places.sums ≡ None)
-Means name rows (Edit operations) places =
-    (name ≡ name_in n.Edit) × (first_of (codes "file") rows ≡ Some (string_bytes places.main))
-    × (all_of (codes "op") rows ≡ Some (texts_in operations)) × (places.proxy ≡ None) × (places.sums ≡ None)
-Means name rows Graph places = (name ≡ name_in n.Graph) × ArePlaces rows places
-Means name rows (Rows after limit) places =
-    (name ≡ name_in n.List) × (given After rows ≡ after) × IfSome after IsPath
-    × IsLimit (given Limit rows) limit × ArePlaces rows places
-Means name rows (Chain path) places =
-    (name ≡ name_in n.Chain) × (first_of (codes "path") rows ≡ Some path) × IsPath path × ArePlaces rows places
+-- The command that a command's name and its entries stand for. All versions are asked for if `--retracted` is given or
+-- if there is no proxy. In a definition a `ModPath` is its text.
+abbrev pub IsCommand : CommandName → List Row → Command → Type 0
+IsCommand n.Fmt rows command = Fmt ≡ command
+IsCommand n.Edit rows command = (operations : Vec (String Global)) × (Edit operations ≡ command)
+    × (all_of (argument_name Operations) rows ≡ Some (texts_in operations))
+IsCommand n.Graph rows command = Graph ≡ command
+IsCommand n.List rows command = (has_limit (given Limit rows) ≡ true)
+    × (Rows (given After rows) (option_and_then limit_of (given Limit rows)) ≡ command)
+IsCommand n.Chain rows command = option_map (λ path. Chain path) (given Path rows) ≡ Some command
+IsCommand n.Versions rows command = option_map
+    (λ path. Versions path (has_value Retracted (codes "true") rows || not (is_some (given Proxy rows))))
+    (given Path rows) ≡ Some command
 
--- what the parser's entries stand for, if there is a command
-abbrev pub IsMeant : Option (Text × List Row) → Command → Places → Type 0
-IsMeant None command places = ⊥
-IsMeant (Some entered) command places = Means entered.0 entered.1 command places
+-- The text in a position that requires a path: PATH of `versions` and of `chain`, and the value of `--after`
+-- of `list`, whose `--limit` is checked first.
+abbrev pub path_text : CommandName → List Row → Option Text
+path_text n.Versions rows = given Path rows
+path_text n.Chain rows = given Path rows
+path_text n.List rows = if has_limit (given Limit rows) then given After rows else None
+path_text name rows = None
+
+-- the value of `--proxy` of a command that has this option
+abbrev pub proxy_text : CommandName → List Row → Option Text
+proxy_text n.Fmt rows = None
+proxy_text n.Edit rows = None
+proxy_text name rows = given Proxy rows
+
+-- the main file is this one, and there is no go.sum
+abbrev pub IsOneFile : Option Text → Places → Type 0
+IsOneFile file places = (file ≡ Some (string_bytes places.main)) × (places.sums ≡ None)
+
+-- the files of a command
+abbrev pub HasFiles : CommandName → List Row → Places → Type 0
+HasFiles n.Fmt rows places = IsOneFile (given FmtFile rows) places
+HasFiles n.Edit rows places = IsOneFile (given EditFile rows) places
+HasFiles n.Versions rows places = IsOneFile (Some (codes "go.mod")) places
+HasFiles name rows places = ArePlaces rows places
+
+-- the command and the places that a command's name and its entries stand for
+abbrev pub Means : CommandName → List Row → Command → Places → Type 0
+Means name rows command places = IsCommand name rows command × IfSome (path_text name rows) IsPath
+    × IsProxy (proxy_text name rows) places.proxy × HasFiles name rows places
+
+-- the command that the parser's entries are for, and these
+abbrev pub entered : Option (Text × List Row) → Option (CommandName × List Row)
+entered found = option_and_then (λ entry. option_map (λ name. (name, entry.1)) (command_named entry.0)) found
+
+-- what the entries stand for, if there is a command
+abbrev pub IsMeant : Option (CommandName × List Row) → Command → Places → Type 0
+IsMeant entry command places = IsSomeAnd entry (λ e. Means e.0 e.1 command places)
 
 -- the parser finds nothing wrong with the words
 abbrev pub AreAccepted : List Text → Type 0
@@ -116,7 +128,7 @@ AreAccepted words = fault_of gomod_app words ≡ []
 -- the parser finds something wrong with the words, other than that help or the version is asked for
 abbrev pub AreRefused : List Text → Type 0
 AreRefused words =
-    (takes gomod_app words ≡ true → ⊥)
+    ¬ (takes gomod_app words ≡ true)
     × (kind : ErrorKind) × (kind ≢ DisplayHelp) × (kind ≢ DisplayVersion)
     × IsAmong kind (fault_of gomod_app words)
 
@@ -129,54 +141,46 @@ version_line = codes "gomod 1.2.0 (Rattle, logic dac8208d650f15bf)\n"
 pub record AskFor (words : List Text) (command : Command) (places : Places) : Type 0 where
   pub undashed : dashed_in words ≡ None
   pub taken : AreAccepted words
-  pub meant : IsMeant (subcommand_of gomod_app words) command places
+  pub meant : IsMeant (entered (subcommand_of gomod_app words)) command places
 
--- The text in a position that requires a path: PATH of `versions` and of `chain`, and the value of `--after`
--- of `list`, whose `--limit` is checked first.
-abbrev pub IsPathText : Text → List Row → Text → Type 0
-IsPathText name rows text =
-    (((name ≡ name_in n.Versions) ⊎ (name ≡ name_in n.Chain)) × (first_of (codes "path") rows ≡ Some text))
-    ⊎ ((name ≡ name_in n.List) × (has_limit (given Limit rows) ≡ true)
-    × (given After rows ≡ Some text))
+-- the text is this value, and is no path
+abbrev pub IsBadPath : Option Text → Text → Type 0
+IsBadPath value text = (value ≡ Some text) × ¬ (IsPath text)
 
--- everything that is checked before the value of `--proxy` is valid
-abbrev pub IsValidBeforeProxy : Text → List Row → Type 0
-IsValidBeforeProxy name rows =
-    ((path : Text) × IsPathText name rows path × IsPath path)
-    ⊎ (name ≡ name_in n.Graph)
-    ⊎ ((name ≡ name_in n.List) × (has_limit (given Limit rows) ≡ true)
-    × (given After rows ≡ None))
+-- the text is this value, and is no valid list of folders
+abbrev pub IsBadProxy : Option Text → Text → Type 0
+IsBadProxy value text = (value ≡ Some text) × (is_proxy text ≡ false)
 
 -- the text in a position that requires a path is not a path
-abbrev pub HasBadPath : Option (Text × List Row) → Text → Type 0
-HasBadPath None text = ⊥
-HasBadPath (Some entered) text = IsPathText entered.0 entered.1 text × ¬ (IsPath text)
+abbrev pub HasBadPath : Option (CommandName × List Row) → Text → Type 0
+HasBadPath entry text = IsSomeAnd entry (λ e. IsBadPath (path_text e.0 e.1) text)
 
 -- everything that is checked before it is valid, but the value of `--proxy` is not a valid list of folders
-abbrev pub HasBadProxy : Option (Text × List Row) → Text → Type 0
-HasBadProxy None text = ⊥
-HasBadProxy (Some entered) text = IsValidBeforeProxy entered.0 entered.1
-    × (given Proxy entered.1 ≡ Some text) × (is_proxy text ≡ false)
+abbrev pub HasBadProxy : Option (CommandName × List Row) → Text → Type 0
+HasBadProxy entry text =
+    IsSomeAnd entry (λ e. IfSome (path_text e.0 e.1) IsPath × ((command : Command) × IsCommand e.0 e.1 command)
+    × IsBadProxy (proxy_text e.0 e.1) text)
 
--- The entries stand for a command and its places, or they have an invalid path or an invalid value of
--- `--proxy`.
-abbrev pub AreRecognized : Option (Text × List Row) → Type 0
-AreRecognized entered = ((command : Command) × (places : Places) × IsMeant entered command places)
-    ⊎ ((text : Text) × HasBadPath entered text) ⊎ ((text : Text) × HasBadProxy entered text)
+-- the entries stand for a command and its places, or have an invalid path or value of `--proxy`
+abbrev pub AreRecognized : Option (CommandName × List Row) → Type 0
+AreRecognized entry = ((command : Command) × (places : Places) × IsMeant entry command places)
+    ⊎ ((text : Text) × HasBadPath entry text) ⊎ ((text : Text) × HasBadProxy entry text)
 
 -- What a fault says about words that the parser reads: help is asked for; or the version is, which is this one; or the
--- parser refuses them for another reason; or it accepts them, but its entries stand for no command, the path is
--- invalid, or the value of `--proxy` is invalid.
+-- parser refuses them for another reason; or it accepts them, but its entries stand for no command, or the path or the
+-- value of `--proxy` is invalid.
 abbrev pub IsReadFault : List Text → UsageFault → Type 0
 IsReadFault words NoMemory = Unit {0}
-IsReadFault words (Help text) = IsAmong DisplayHelp (fault_of gomod_app words) × (takes gomod_app words ≡ true → ⊥)
+IsReadFault words (Help text) = IsAmong DisplayHelp (fault_of gomod_app words) × ¬ (takes gomod_app words ≡ true)
 IsReadFault words (Version text) =
-    IsAmong DisplayVersion (fault_of gomod_app words) × (takes gomod_app words ≡ true → ⊥)
+    IsAmong DisplayVersion (fault_of gomod_app words) × ¬ (takes gomod_app words ≡ true)
     × (string_bytes text ≡ version_line)
 IsReadFault words (Line text) =
-    AreRefused words ⊎ (AreAccepted words × ¬ (AreRecognized (subcommand_of gomod_app words)))
-IsReadFault words (BadPath text) = AreAccepted words × HasBadPath (subcommand_of gomod_app words) (string_bytes text)
-IsReadFault words (BadProxy text) = AreAccepted words × HasBadProxy (subcommand_of gomod_app words) (string_bytes text)
+    AreRefused words ⊎ (AreAccepted words × ¬ (AreRecognized (entered (subcommand_of gomod_app words))))
+IsReadFault words (BadPath text) =
+    AreAccepted words × HasBadPath (entered (subcommand_of gomod_app words)) (string_bytes text)
+IsReadFault words (BadProxy text) =
+    AreAccepted words × HasBadProxy (entered (subcommand_of gomod_app words)) (string_bytes text)
 
 -- the usage line of the command with this name, or that of the program if there is no such command
 abbrev pub usage_line : Text → List ℕ
@@ -199,17 +203,12 @@ usage_text message usage =
 abbrev pub tip_mark : List ℕ
 tip_mark = codes "\n\n  tip: "
 
--- the message with this hint after it, or with none
-abbrev pub with_tip : List ℕ → Option Text → List ℕ
-with_tip message None = message
-with_tip message (Some hint) = message ++ (tip_mark ++ hint)
-
 -- the text is this message, and what the table of hints says of a word among these, if anything
 abbrev pub HasHintOf : List Text → List ℕ → List ℕ → Type 0
-HasHintOf words message text = (hint : Option Text) × IfSome hint (IsHintOf words) × (text ≡ with_tip message hint)
+HasHintOf words message text = (hint : Option Text) × IfSome hint (IsHintOf words)
+    × (text ≡ option_map_or (λ h. message ++ (tip_mark ++ h)) hint message)
 
--- The text is this message, at most one hint, which the table has for a word among these, their usage line, and how to
--- get help.
+-- the text is this message, at most one hint, which a table has for a word among these, and their usage line
 abbrev pub IsUsageText : List Text → List ℕ → List ℕ → Type 0
 IsUsageText words message text =
     (shown : List ℕ) × HasHintOf words message shown × (text ≡ usage_text shown (usage_of words))
@@ -248,8 +247,7 @@ abbrev pub IsFaultBy : Option Text → List Text → UsageFault → Type 0
 IsFaultBy (Some operation) words fault = IsLineOn words (dashed_message operation) fault
 IsFaultBy None words fault = IsReadFault words fault × ShowsUsage words fault
 
--- What a fault says about the words: an operation of `edit` has a dash in front; or none has, and the parser reads the
--- words. A usage error shows the usage line of the command that the words name.
+-- what a fault says about the words: an operation of `edit` has a dash in front; or none has, and the parser reads them
 abbrev pub IsFaultOf : List Text → UsageFault → Type 0
 IsFaultOf words fault = IsFaultBy (dashed_in words) words fault
 

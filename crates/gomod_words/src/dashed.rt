@@ -6,7 +6,7 @@ ghost use Rattle.std.specs.List.{find};
 ghost use Rattle.std.specs.Option.{option_copied};
 ghost use Rattle.clap.specs.Lexer.{without_minus};
 ghost use Rattle.gomod_words.specs.Hints.{texts_of};
-ghost use Rattle.gomod_words.specs.Dashed.{begins_with_dash, dashed_in, is_operation, names_operation, operation_in, without_dashes};
+ghost use Rattle.gomod_words.specs.Dashed.{begins_with_dash, dashed_in, is_operation, operation_in};
 
 use crate::table::EDIT;
 use gm_operation::OperationKind;
@@ -22,24 +22,7 @@ pub(crate) fn begins_with_dash(word: &str) -> bool
 pub(crate) fn without_dash(word: &str) -> &str
     ensures { result.now ≡ without_minus word.now }
 {
-    match word.strip_prefix('-') {
-        Some(rest) => rest,
-        None => word,
-    }
-}
-
-/// The word without one dash or two in front.
-fn without_dashes(word: &str) -> &str
-    ensures { result.now ≡ without_dashes word.now }
-{
-    without_dash(without_dash(word))
-}
-
-/// Whether this is the name of an operation.
-fn names_operation(name: &str) -> bool
-    ensures { result ≡ names_operation name.now }
-{
-    OperationKind::named(name).is_some()
+    word.strip_prefix('-').unwrap_or(word)
 }
 
 /// Whether a text begins with the name of an operation and `=`.
@@ -47,7 +30,7 @@ fn is_operation(text: &str) -> bool
     ensures { result ≡ is_operation text.now }
 {
     match text.split_once('=') {
-        Some((name, _)) => names_operation(name),
+        Some((name, _)) => OperationKind::named(name).is_some(),
         None => false,
     }
 }
@@ -56,7 +39,7 @@ fn is_operation(text: &str) -> bool
 fn operation_in(word: &str) -> Option<&str>
     ensures { option_copied result ≡ operation_in word.now }
 {
-    let text = without_dashes(word);
+    let text = without_dash(without_dash(word));
     if is_operation(text) { Some(text) } else { None }
 }
 

@@ -16,7 +16,7 @@ const FIRST_ROOM: usize = 256;
 
 /// What has the words of a command line.
 ///
-/// They are read only through this trait, so that a contract can say what follows from them.
+/// They are read through it alone, so that a contract can say what follows from them.
 pub trait Words {
     ghost use Rattle.std.specs.Prelude.{IfSome, List, ℕ, Option, slice_get};
     ghost use Rattle.std.specs.Io.{WritesAtMost};

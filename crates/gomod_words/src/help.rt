@@ -1,4 +1,4 @@
-//! The texts of help, and the usage lines.
+//! The texts of help.
 //!
 //! `-h` shows the short texts and the examples. `--help` shows the long ones, and the errors that a command reports.
 //! The lines of help are at most 100 characters wide.
@@ -8,24 +8,6 @@ pub(crate) const VERSION: &str = "1.2.0 (Rattle, logic dac8208d650f15bf)";
 
 /// The usage line of the program.
 pub(crate) const GOMOD_USAGE: &str = "gomod <COMMAND>";
-
-/// The usage line of `fmt`.
-pub(crate) const FMT_USAGE: &str = "gomod fmt <FILE>";
-
-/// The usage line of `edit`.
-pub(crate) const EDIT_USAGE: &str = "gomod edit <FILE> <OP>...";
-
-/// The usage line of `graph`.
-pub(crate) const GRAPH_USAGE: &str = "gomod graph [OPTIONS] --proxy <DIR>[,DIR|DIR..]";
-
-/// The usage line of `list`.
-pub(crate) const LIST_USAGE: &str = "gomod list [OPTIONS] --proxy <DIR>[,DIR|DIR..]";
-
-/// The usage line of `chain`.
-pub(crate) const CHAIN_USAGE: &str = "gomod chain [OPTIONS] --proxy <DIR>[,DIR|DIR..] <PATH>";
-
-/// The usage line of `versions`.
-pub(crate) const VERSIONS_USAGE: &str = "gomod versions [OPTIONS] <PATH>";
 
 /// How a usage error ends.
 pub(crate) const TRY_HELP: &str = "\n\nFor more information, try '--help'.\n";
@@ -51,7 +33,7 @@ Exit status:
 After an error standard error says what is wrong, unless it is a failed write.
 'gomod <COMMAND> --help' explains the errors of each command.";
 
-/// What help says of a command or of an argument.
+/// What help says of a command or of an argument, or ends with: examples, and if it is long the errors.
 #[derive(Clone, Copy)]
 pub(crate) struct Help {
     /// What short help says.
@@ -207,19 +189,10 @@ pub(crate) const LIMIT: Help = alike!("Print at most N rows, from 1 to 429496729
 /// The help of `--retracted`.
 pub(crate) const RETRACTED: Help = alike!("Print retracted versions too");
 
-/// What the help of a command ends with.
-#[derive(Clone, Copy)]
-pub(crate) struct End {
-    /// The examples, with which short help ends.
-    pub(crate) short: &'static str,
-    /// The examples and the errors, with which long help ends.
-    pub(crate) long: &'static str,
-}
-
 /// The end of help with these examples and these lines of errors. Each of the latter begins with a line feed.
 macro_rules! end {
     ($examples:literal $(, $errors:literal)*) => {
-        End {
+        Help {
             short: $examples,
             long: concat!(
                 $examples,
@@ -254,7 +227,7 @@ macro_rules! file_end {
 }
 
 /// The end of the help of `fmt`.
-pub(crate) const FMT_END: End = file_end!(
+pub(crate) const FMT_END: Help = file_end!(
     "\
 Examples:
   gomod fmt go.mod
@@ -263,7 +236,7 @@ Examples:
 );
 
 /// The end of the help of `edit`.
-pub(crate) const EDIT_END: End = file_end!(
+pub(crate) const EDIT_END: Help = file_end!(
     "\
 Examples:
   gomod edit go.mod require=example.com/p@v1.2.0
@@ -315,7 +288,7 @@ macro_rules! query_end {
 }
 
 /// The end of the help of `graph`.
-pub(crate) const GRAPH_END: End = query_end!(
+pub(crate) const GRAPH_END: Help = query_end!(
     "\
 Examples:
   gomod graph --proxy ~/go/pkg/mod/cache/download
@@ -324,7 +297,7 @@ Examples:
 );
 
 /// The end of the help of `list`.
-pub(crate) const LIST_END: End = query_end!(
+pub(crate) const LIST_END: Help = query_end!(
     "\
 Examples:
   gomod list --proxy ~/go/pkg/mod/cache/download
@@ -335,7 +308,7 @@ Examples:
 );
 
 /// The end of the help of `chain`.
-pub(crate) const CHAIN_END: End = query_end!(
+pub(crate) const CHAIN_END: Help = query_end!(
     "\
 Examples:
   gomod chain example.com/p --proxy ~/go/pkg/mod/cache/download
@@ -346,7 +319,7 @@ Examples:
 );
 
 /// The end of the help of `versions`.
-pub(crate) const VERSIONS_END: End = end!(
+pub(crate) const VERSIONS_END: Help = end!(
     "\
 Examples:
   printf 'v1.10.0\\nv1.9.0\\n' | gomod versions example.com/p

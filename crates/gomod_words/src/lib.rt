@@ -1,14 +1,12 @@
 //! What the arguments of a command line ask for.
 //!
-//! A parser of command lines splits the words into options and values. This crate gives the parser its table
-//! of commands and turns what it finds into a `Command` and the `Places` that it works on. Module paths,
-//! proxy folders and limits are checked here; the operations of `edit` stay texts and are parsed where they
-//! are applied. Words that ask for nothing that the program does, and requests for help, come back as a
-//! `UsageFault`.
+//! A parser of command lines splits the words into options and values. This crate gives it a table of commands
+//! and turns what it finds into a `Command` and the `Places` that it works on, or a `UsageFault`. The operations of
+//! `edit` stay texts and are parsed where they are applied.
 //!
 //! For example, `gomod list --after a.io --limit 10 --proxy vendored,mirror` asks for `Command::List` with
 //! the path `a.io` and the limit 10, over the main file `go.mod`, the proxy folders `vendored` and `mirror`,
-//! and no go.sum. With `--limit 0` it is a `UsageFault::Line`.
+//! and no go.sum.
 #![tactic(auto)]
 
 mod command;

@@ -1,17 +1,18 @@
 //! The meaning of the words of `graph`, `list` and `chain`. The three share the options that say where the
 //! module graph comes from, so these are read in one place.
 
-ghost use Rattle.std.specs.Prelude.{◌≡◌, IfErr, IfOk, IfSome, Some, codes, option_map, true, unwrap_or};
-ghost use Rattle.std.specs.Option.{option_copied};
+ghost use Rattle.std.specs.Prelude.{◌≡◌, IfErr, IfOk, IfSome, None, codes, false, option_map, true, unwrap_or};
+ghost use Rattle.std.specs.Option.{option_and_then};
 ghost use Rattle.std.specs.String.{string_bytes};
 ghost use Rattle.gm_name.specs.Path.{IsPath};
 ghost use Rattle.gomod_words.specs.Limits.{limit_of};
-ghost use Rattle.gomod_words.specs.Usage.{ArePlaces, IsLimit, IsProxy, given, is_input, is_input_twice, is_line_or_memory};
-ghost use Rattle.gomod_words.specs.Private.Usage.{IsAfterFault, IsFaultIn, IsLimitFault, IsPlacesFault, IsReadOf, entries};
+ghost use Rattle.gomod_words.specs.Usage.{ArePlaces, IsBadPath, IsBadProxy, IsProxy, given, has_limit, is_input_twice};
+ghost use Rattle.gomod_words.specs.Private.Usage.{IsFaultIn, IsFaultWith, IsReadOf, LacksPlaces, entries, none};
 
-use crate::table::Argument;
+use crate::table::{Argument, CommandName};
 use crate::usage::{
-    Command, Places, UsageFault, missing, read_path, read_proxy, refused, value_of,
+    Command, Places, Read, UsageFault, has_value, incomplete, path_given, proxy_given, read_path,
+    refused, value_of,
 };
 use clap::ArgMatches;
 use gm_name::{ModPath, has_only_digits};
@@ -36,36 +37,31 @@ pub(crate) fn limit_in(text: &str) -> Option<u32>
 /// How the message on an invalid value of `--limit` begins.
 pub(crate) const BAD_VALUE: &str = "error: invalid value '";
 
-/// The fault for a value of `--limit` that is not a valid number of rows.
-fn bad_limit(alloc: Global, text: &str) -> UsageFault
-    ensures { is_line_or_memory result ≡ true }
-{
-    refused(format!(in alloc;
-        "{BAD_VALUE}{text}' for '--limit <N>': not a number from 1 to 4294967295"
-    ))
-}
-
 /// The number of rows that `--limit` asks for, or `None` if the option is not given. An invalid number is
 /// refused with `Line`.
-fn limit_given<'a>(alloc: Global, found: &ArgMatches<'a>) -> Result<Option<u32>, UsageFault>
-    ensures limit { IfOk result (IsLimit (given Argument.Limit (entries found.now))) }
-    ensures fault { IfErr result (IsLimitFault (given Argument.Limit (entries found.now))) }
+fn limit_given(alloc: Global, found: &ArgMatches) -> Result<Option<u32>, UsageFault>
+    ensures limit { IfOk result (λ limit. (has_limit (given Argument.Limit (entries found.now)) ≡ true)
+        × (option_and_then limit_of (given Argument.Limit (entries found.now)) ≡ limit)) }
+    ensures fault { IfErr result
+        (IsFaultWith (has_limit (given Argument.Limit (entries found.now)) ≡ false) none none) }
 {
     let Some(text) = value_of(found, Argument::Limit) else {
         return Ok(None);
     };
     match limit_in(text) {
         Some(limit) => Ok(Some(limit)),
-        None => Err(bad_limit(alloc, text)),
+        None => Err(refused(format!(in alloc;
+            "{BAD_VALUE}{text}' for '--limit <N>': not a number from 1 to 4294967295"
+        ))),
     }
 }
 
 /// The path that `--after` names, or `None` if the option is not given. An invalid path is refused with
 /// `BadPath`.
-fn after_given<'a>(alloc: Global, found: &ArgMatches<'a>) -> Result<Option<ModPath>, UsageFault>
+fn after_given(alloc: Global, found: &ArgMatches) -> Result<Option<ModPath>, UsageFault>
     ensures after { IfOk result (λ after. (given Argument.After (entries found.now) ≡ after)
         × IfSome after IsPath) }
-    ensures fault { IfErr result (IsAfterFault (given Argument.After (entries found.now))) }
+    ensures fault { IfErr result (IsFaultWith ⊥ (IsBadPath (given Argument.After (entries found.now))) none) }
 {
     match value_of(found, Argument::After) {
         Some(text) => Ok(Some(read_path(alloc, text)?)),
@@ -73,32 +69,16 @@ fn after_given<'a>(alloc: Global, found: &ArgMatches<'a>) -> Result<Option<ModPa
     }
 }
 
-/// The proxy folders, which must be given. Their absence is refused with `Line`, which has the usage line of the
-/// command, and an invalid value with `BadProxy`.
-fn proxy_given<'a>(alloc: Global, found: &ArgMatches<'a>) -> Result<ProxyList, UsageFault>
-    ensures proxy { IfOk result (λ list.
-        IsProxy (given Argument.Proxy (entries found.now)) (Some list)) }
-    ensures fault { IfErr result (IsPlacesFault (entries found.now)) }
-{
-    match value_of(found, Argument::Proxy) {
-        Some(value) => read_proxy(alloc, value),
-        None => Err(missing(alloc, Argument::Proxy)),
-    }
-}
-
 /// The name of the main file: that of `--mod`, or `go.mod`.
-fn main_given<'a>(alloc: Global, found: &ArgMatches<'a>) -> Result<String, AllocError>
+fn main_given(alloc: Global, found: &ArgMatches) -> Result<String, AllocError>
     ensures { IfOk result (λ main. string_bytes main
         ≡ unwrap_or (given Argument.Mod (entries found.now)) (codes "go.mod")) }
 {
-    match value_of(found, Argument::Mod) {
-        Some(name) => String::from_str(alloc, name),
-        None => String::from_str(alloc, "go.mod"),
-    }
+    String::from_str(alloc, value_of(found, Argument::Mod).unwrap_or("go.mod"))
 }
 
 /// The name of the go.sum, or `None` if `--sum` is not given.
-fn sums_given<'a>(alloc: Global, found: &ArgMatches<'a>) -> Result<Option<String>, AllocError>
+fn sums_given(alloc: Global, found: &ArgMatches) -> Result<Option<String>, AllocError>
     ensures { IfOk result (λ sums. option_map string_bytes sums
         ≡ given Argument.Sum (entries found.now)) }
 {
@@ -108,30 +88,25 @@ fn sums_given<'a>(alloc: Global, found: &ArgMatches<'a>) -> Result<Option<String
     }
 }
 
-/// Whether a name that is given is that of standard input.
-fn is_input(name: Option<&str>) -> bool
-    ensures { result ≡ is_input (option_copied name.entry) }
-{
-    match name {
-        Some(name) => name == "-",
-        None => false,
-    }
-}
-
 /// Whether standard input is named twice, as the main file and as the go.sum.
-fn is_input_twice<'a>(found: &ArgMatches<'a>) -> bool
+fn is_input_twice(found: &ArgMatches) -> bool
     ensures { result ≡ is_input_twice (entries found.now) }
 {
-    is_input(value_of(found, Argument::Mod)) && is_input(value_of(found, Argument::Sum))
+    has_value(found, Argument::Mod, "-") && has_value(found, Argument::Sum, "-")
 }
 
-/// The files and folders of a command over a module graph. That standard input is both files is refused with `Line`,
-/// after what is wrong with the folders.
-fn read_places<'a>(alloc: Global, found: &ArgMatches<'a>) -> Result<Places, UsageFault>
-    ensures places { IfOk result (ArePlaces (entries found.now)) }
-    ensures fault { IfErr result (IsPlacesFault (entries found.now)) }
+/// The files and folders of a command over a module graph. That there are no folders is refused with `Line`, and so is,
+/// after what is wrong with them, that standard input is both files.
+fn read_places(alloc: Global, found: &ArgMatches) -> Result<Places, UsageFault>
+    ensures places { IfOk result (λ places. IsProxy (given Argument.Proxy (entries found.now)) places.proxy
+        × ArePlaces (entries found.now) places) }
+    ensures fault { IfErr result (IsFaultWith (LacksPlaces (entries found.now)) none
+        (IsBadProxy (given Argument.Proxy (entries found.now)))) }
 {
     let proxy = proxy_given(alloc, found)?;
+    if proxy.is_none() {
+        return Err(incomplete(alloc));
+    }
     if is_input_twice(found) {
         return Err(refused(String::from_str(
             alloc,
@@ -140,34 +115,23 @@ fn read_places<'a>(alloc: Global, found: &ArgMatches<'a>) -> Result<Places, Usag
     }
     let main = main_given(alloc, found)?;
     let sums = sums_given(alloc, found)?;
-    Ok(Places {
-        main,
-        proxy: Some(proxy),
-        sums,
-    })
+    Ok(Places { main, proxy, sums })
 }
 
-/// The command and the places that the words of `graph` stand for.
-pub(crate) fn read_graph<'a>(
-    alloc: Global,
-    found: &ArgMatches<'a>,
-) -> Result<(Command, Places), UsageFault>
-    ensures read { IfOk result (IsReadOf (codes "graph") found.now) }
-    ensures fault { IfErr result (IsFaultIn (codes "graph") found.now) }
+/// What the words of `graph` stand for.
+pub(crate) fn read_graph(alloc: Global, found: &ArgMatches) -> Read
+    ensures read { IfOk result (IsReadOf CommandName.Graph found.now) }
+    ensures fault { IfErr result (IsFaultIn CommandName.Graph found.now) }
 {
     let places = read_places(alloc, found)?;
     Ok((Command::Graph, places))
 }
 
-/// The command and the places that the words of `list` stand for. `--limit` is checked first, then `--after`,
+/// What the words of `list` stand for. `--limit` is checked first, then `--after`,
 /// then `--proxy`.
-#[tactic(auto, using(crate::proofs::Queries::list_places_fault))]
-pub(crate) fn read_list<'a>(
-    alloc: Global,
-    found: &ArgMatches<'a>,
-) -> Result<(Command, Places), UsageFault>
-    ensures read { IfOk result (IsReadOf (codes "list") found.now) }
-    ensures fault { IfErr result (IsFaultIn (codes "list") found.now) }
+pub(crate) fn read_list(alloc: Global, found: &ArgMatches) -> Read
+    ensures read { IfOk result (IsReadOf CommandName.List found.now) }
+    ensures fault { IfErr result (IsFaultIn CommandName.List found.now) }
 {
     let limit = limit_given(alloc, found)?;
     let after = after_given(alloc, found)?;
@@ -175,18 +139,12 @@ pub(crate) fn read_list<'a>(
     Ok((Command::List { after, limit }, places))
 }
 
-/// The command and the places that the words of `chain` stand for. PATH is checked first, then `--proxy`.
-pub(crate) fn read_chain<'a>(
-    alloc: Global,
-    found: &ArgMatches<'a>,
-) -> Result<(Command, Places), UsageFault>
-    ensures read { IfOk result (IsReadOf (codes "chain") found.now) }
-    ensures fault { IfErr result (IsFaultIn (codes "chain") found.now) }
+/// What the words of `chain` stand for. PATH is checked first, then `--proxy`.
+pub(crate) fn read_chain(alloc: Global, found: &ArgMatches) -> Read
+    ensures read { IfOk result (IsReadOf CommandName.Chain found.now) }
+    ensures fault { IfErr result (IsFaultIn CommandName.Chain found.now) }
 {
-    let Some(text) = value_of(found, Argument::Path) else {
-        return Err(missing(alloc, Argument::Path));
-    };
-    let path = read_path(alloc, text)?;
+    let path = path_given(alloc, found)?;
     let places = read_places(alloc, found)?;
     Ok((Command::Chain(path), places))
 }

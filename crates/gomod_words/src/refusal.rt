@@ -16,8 +16,7 @@ pub(crate) const TIP: &str = "\n\n  tip: ";
 /// What stands between a message and its usage line.
 const USAGE: &str = "\n\nUsage: ";
 
-/// What is wrong with these words, in the parser's text on them: all before its tips and its usage line, which
-/// `usage_of` says.
+/// What is wrong with these words, in the parser's text on them: all before its tips and its usage line.
 pub(crate) fn message_in<'t>(kind: ErrorKind, text: &'t str, words: &[&str]) -> &'t str {
     let front = before_usage(text, usage_of(words));
     match kind {
@@ -73,10 +72,7 @@ fn before_usage<'t>(text: &'t str, usage: &str) -> &'t str {
 
 /// The text without this at its end.
 fn without_suffix<'t>(text: &'t str, suffix: &str) -> &'t str {
-    match text.strip_suffix(suffix) {
-        Some(front) => front,
-        None => text,
-    }
+    text.strip_suffix(suffix).unwrap_or(text)
 }
 
 /// The message before its tips, where this mark ends the one and begins the others. If a word has the mark in it, nothing

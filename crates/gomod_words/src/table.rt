@@ -7,7 +7,7 @@ ghost use Rattle.gomod_words.specs.Private.Made.{rule_in};
 ghost use Rattle.gomod_words.specs.Table.{arguments_in, command_named, name_in, rule_for, usage_for};
 ghost use Rattle.gomod_words.specs.Usage.{usage_line, usage_of};
 
-use crate::help::{self, End, Help};
+use crate::help::{self, Help};
 
 /// A command of the program.
 #[derive(Clone, Copy)]
@@ -37,22 +37,22 @@ pub(crate) const COMMANDS: [CommandName; 6] = [
 ];
 
 /// The name of `fmt`.
-pub(crate) const FMT: &str = "fmt";
+const FMT: &str = "fmt";
 
 /// The name of `edit`.
 pub(crate) const EDIT: &str = "edit";
 
 /// The name of `graph`.
-pub(crate) const GRAPH: &str = "graph";
+const GRAPH: &str = "graph";
 
 /// The name of `list`.
-pub(crate) const LIST: &str = "list";
+const LIST: &str = "list";
 
 /// The name of `chain`.
-pub(crate) const CHAIN: &str = "chain";
+const CHAIN: &str = "chain";
 
 /// The name of `versions`.
-pub(crate) const VERSIONS: &str = "versions";
+const VERSIONS: &str = "versions";
 
 /// The command with this name.
 #[tactic(auto, unfolding(crate::specs::Table::command_named))]
@@ -145,7 +145,7 @@ pub(crate) struct CommandRow {
     /// Its usage line.
     pub(crate) usage: &'static str,
     /// What its help ends with.
-    pub(crate) end: End,
+    pub(crate) end: Help,
     /// The arguments that it takes.
     pub(crate) arguments: &'static [Argument],
 }
@@ -182,6 +182,19 @@ pub(crate) fn argument_row(argument: Argument) -> ArgumentRow
     }
 }
 
+/// The row of a command.
+macro_rules! command {
+    ($name:expr, $usage:literal, $about:expr, $end:expr; $($argument:ident)*) => {
+        CommandRow {
+            name: $name,
+            about: $about,
+            usage: $usage,
+            end: $end,
+            arguments: &[$(Argument::$argument),*],
+        }
+    };
+}
+
 /// What the parser is told of a command.
 pub(crate) fn command_row(command: CommandName) -> CommandRow
     ensures name { result.name.now ≡ name_in command }
@@ -189,59 +202,19 @@ pub(crate) fn command_row(command: CommandName) -> CommandRow
     ensures arguments { result.arguments.now ≡ arguments_in command }
 {
     match command {
-        CommandName::Fmt => CommandRow {
-            name: FMT,
-            about: help::FMT_ABOUT,
-            usage: help::FMT_USAGE,
-            end: help::FMT_END,
-            arguments: &[Argument::FmtFile],
-        },
-        CommandName::Edit => CommandRow {
-            name: EDIT,
-            about: help::EDIT_ABOUT,
-            usage: help::EDIT_USAGE,
-            end: help::EDIT_END,
-            arguments: &[Argument::EditFile, Argument::Operations],
-        },
-        CommandName::Graph => CommandRow {
-            name: GRAPH,
-            about: help::GRAPH_ABOUT,
-            usage: help::GRAPH_USAGE,
-            end: help::GRAPH_END,
-            arguments: &[Argument::RequiredProxy, Argument::Mod, Argument::Sum],
-        },
-        CommandName::List => CommandRow {
-            name: LIST,
-            about: help::LIST_ABOUT,
-            usage: help::LIST_USAGE,
-            end: help::LIST_END,
-            arguments: &[
-                Argument::RequiredProxy,
-                Argument::Mod,
-                Argument::Sum,
-                Argument::After,
-                Argument::Limit,
-            ],
-        },
-        CommandName::Chain => CommandRow {
-            name: CHAIN,
-            about: help::CHAIN_ABOUT,
-            usage: help::CHAIN_USAGE,
-            end: help::CHAIN_END,
-            arguments: &[
-                Argument::RequiredProxy,
-                Argument::Mod,
-                Argument::Sum,
-                Argument::Path,
-            ],
-        },
-        CommandName::Versions => CommandRow {
-            name: VERSIONS,
-            about: help::VERSIONS_ABOUT,
-            usage: help::VERSIONS_USAGE,
-            end: help::VERSIONS_END,
-            arguments: &[Argument::Path, Argument::Proxy, Argument::Retracted],
-        },
+        CommandName::Fmt =>
+            command!(FMT, "gomod fmt <FILE>", help::FMT_ABOUT, help::FMT_END; FmtFile),
+        CommandName::Edit => command!(
+            EDIT, "gomod edit <FILE> <OP>...", help::EDIT_ABOUT, help::EDIT_END; EditFile Operations),
+        CommandName::Graph => command!(GRAPH, "gomod graph [OPTIONS] --proxy <DIR>[,DIR|DIR..]",
+            help::GRAPH_ABOUT, help::GRAPH_END; RequiredProxy Mod Sum),
+        CommandName::List => command!(LIST, "gomod list [OPTIONS] --proxy <DIR>[,DIR|DIR..]",
+            help::LIST_ABOUT, help::LIST_END; RequiredProxy Mod Sum After Limit),
+        CommandName::Chain =>
+            command!(CHAIN, "gomod chain [OPTIONS] --proxy <DIR>[,DIR|DIR..] <PATH>",
+            help::CHAIN_ABOUT, help::CHAIN_END; RequiredProxy Mod Sum Path),
+        CommandName::Versions => command!(VERSIONS, "gomod versions [OPTIONS] <PATH>",
+            help::VERSIONS_ABOUT, help::VERSIONS_END; Path Proxy Retracted),
     }
 }
 

@@ -1,13 +1,13 @@
 //! What the words of a command line may ask for, and the faults of words that ask for nothing.
 
-ghost use Rattle.std.specs.Prelude.{◌≡◌, ◌++◌, IfErr, IfOk, OnOk, Some, codes, encode_utf8_all, map, true};
+ghost use Rattle.std.specs.Prelude.{◌≡◌, ◌++◌, IfErr, IfOk, None, OnOk, Some, codes, encode_utf8_all, map, true};
 ghost use Rattle.std.specs.Option.{option_copied, option_map};
 ghost use Rattle.clap.specs.Words.{all_of, found_of};
 ghost use Rattle.std.specs.Char.Escape.{escape_ascii};
 ghost use Rattle.std.specs.String.{string_bytes};
-ghost use Rattle.gomod_words.specs.Usage.{HasHintOf, HasNoTip, IsLineOn, IsProxy, IsVersionLine, ShowsLine, dashed_message, given, is_given, is_line_or_memory, shown_bytes, texts_in, unreadable_text, usage_text};
+ghost use Rattle.gomod_words.specs.Usage.{HasHintOf, HasNoTip, IsBadPath, IsBadProxy, IsLineOn, IsOneFile, IsProxy, IsVersionLine, ShowsLine, dashed_message, given, has_value, is_line_or_memory, shown_bytes, texts_in, unreadable_text, usage_text};
 ghost use Rattle.gomod_words.specs.Hints.{texts_of};
-ghost use Rattle.gomod_words.specs.Private.Usage.{IsFaultIn, IsLineOf, IsPathFault, IsProxyFault, IsReadOf, entries};
+ghost use Rattle.gomod_words.specs.Private.Usage.{IsFaultIn, IsFaultWith, IsLineOf, IsReadOf, entries, none};
 ghost use Rattle.gomod_words.specs.Table.{argument_name};
 ghost use Rattle.gm_name.specs.Path.{IsPath};
 ghost use Rattle.gomod_words.specs.declared.usage.UsageFault.TheVariants.{NoMemory};
@@ -15,12 +15,15 @@ ghost use Rattle.gomod_words.specs.declared.usage.UsageFault.TheVariants.{NoMemo
 use crate::help::{GOMOD_USAGE, TRY_HELP, VERSION};
 use crate::hints::hint_for;
 use crate::refusal::{TIP, is_within};
-use crate::table::{Argument, argument_row, usage_of};
+use crate::table::{Argument, CommandName, argument_row, usage_of};
 use clap::ArgMatches;
 use gm_name::{ModPath, PathFault};
 use gm_store::{ProxyFault, ProxyList};
 use std::alloc::{AllocError, Global};
 use thiserror::Error;
+
+/// What a command line asks for, or its fault.
+pub(crate) type Read = Result<(Command, Places), UsageFault>;
 
 /// What the program is asked to do.
 #[derive(Debug, Drop)]
@@ -116,19 +119,12 @@ pub(crate) fn refused(message: Result<String, AllocError>) -> UsageFault
     }
 }
 
-/// What is wrong with words without a command.
-pub(crate) fn no_command(alloc: Global) -> UsageFault
+/// What is wrong with words without a command, or without an argument that must be given. The parser accepts none of
+/// those, but its types can't say so.
+pub(crate) fn incomplete(alloc: Global) -> UsageFault
     ensures { is_line_or_memory result ≡ true }
 {
-    refused(String::from_str(alloc, "error: no command given"))
-}
-
-/// What is wrong with words without an argument that must be given. The parser accepts none of those.
-pub(crate) fn missing(alloc: Global, argument: Argument) -> UsageFault
-    ensures { is_line_or_memory result ≡ true }
-{
-    let shown = argument_row(argument).shown;
-    refused(format!(in alloc; "error: no {shown} given"))
+    refused(String::from_str(alloc, "error: an argument is missing"))
 }
 
 /// The first value of an argument, or `None` if the argument is not given.
@@ -146,12 +142,12 @@ fn values_of<'a, 'f>(found: &'f ArgMatches<'a>, argument: Argument) -> Option<&'
     found.get_strs(argument_row(argument).name)
 }
 
-/// Whether a flag is given. The parser represents a flag by the value `true` or `false`.
-fn is_given<'a>(found: &ArgMatches<'a>, flag: Argument) -> bool
-    ensures { result ≡ is_given flag (entries found.now) }
+/// Whether the first value of an argument is this text. That of a flag is `true` or `false`.
+pub(crate) fn has_value(found: &ArgMatches, argument: Argument, text: &str) -> bool
+    ensures { result ≡ has_value argument text.now (entries found.now) }
 {
-    match value_of(found, flag) {
-        Some(value) => value == "true",
+    match value_of(found, argument) {
+        Some(value) => value == text,
         None => false,
     }
 }
@@ -159,7 +155,7 @@ fn is_given<'a>(found: &ArgMatches<'a>, flag: Argument) -> bool
 /// The module path that a word is. An invalid path is refused with `BadPath`.
 pub(crate) fn read_path(alloc: Global, text: &str) -> Result<ModPath, UsageFault>
     ensures path { IfOk result (λ path. (path ≡ text.now) × IsPath text.now) }
-    ensures fault { IfErr result (IsPathFault text.now) }
+    ensures fault { IfErr result (IsFaultWith ⊥ (IsBadPath (Some text.now)) none) }
 {
     match ModPath::parse(alloc, text) {
         Ok(path) => Ok(path),
@@ -168,46 +164,59 @@ pub(crate) fn read_path(alloc: Global, text: &str) -> Result<ModPath, UsageFault
     }
 }
 
-/// The proxy folders that a value names. An invalid value is refused with `BadProxy`.
-pub(crate) fn read_proxy(alloc: Global, value: &str) -> Result<ProxyList, UsageFault>
-    ensures proxy { IfOk result (λ list. IsProxy (Some value.now) (Some list)) }
-    ensures fault { IfErr result (IsProxyFault (Some value.now)) }
+/// The proxy folders that `--proxy` names, or `None` if the option is not given. An invalid value is refused
+/// with `BadProxy`.
+pub(crate) fn proxy_given(
+    alloc: Global,
+    found: &ArgMatches,
+) -> Result<Option<ProxyList>, UsageFault>
+    ensures proxy { IfOk result (IsProxy (given Argument.Proxy (entries found.now))) }
+    ensures fault { IfErr result (IsFaultWith ⊥ none (IsBadProxy (given Argument.Proxy (entries found.now)))) }
 {
+    let Some(value) = value_of(found, Argument::Proxy) else {
+        return Ok(None);
+    };
     match ProxyList::read(alloc, value) {
-        Ok(list) => Ok(list),
+        Ok(list) => Ok(Some(list)),
         Err(ProxyFault::BadProxy) => Err(UsageFault::BadProxy(String::from_str(alloc, value)?)),
         Err(ProxyFault::NoMemory) => Err(UsageFault::NoMemory),
     }
 }
 
-/// The proxy folders that `--proxy` names, or `None` if the option is not given. An invalid value is refused
-/// with `BadProxy`.
-fn proxy_of<'a>(alloc: Global, found: &ArgMatches<'a>) -> Result<Option<ProxyList>, UsageFault>
-    ensures proxy { IfOk result (IsProxy (given Argument.Proxy (entries found.now))) }
-    ensures fault { IfErr result (IsProxyFault (given Argument.Proxy (entries found.now))) }
+/// PATH, which must be given. An invalid path is refused with `BadPath`.
+pub(crate) fn path_given(alloc: Global, found: &ArgMatches) -> Result<ModPath, UsageFault>
+    ensures path { IfOk result (λ path. (given Argument.Path (entries found.now) ≡ Some path) × IsPath path) }
+    ensures fault { IfErr result (IsFaultWith (given Argument.Path (entries found.now) ≡ None)
+        (IsBadPath (given Argument.Path (entries found.now))) none) }
 {
-    match value_of(found, Argument::Proxy) {
-        Some(value) => Ok(Some(read_proxy(alloc, value)?)),
-        None => Ok(None),
+    match value_of(found, Argument::Path) {
+        Some(text) => read_path(alloc, text),
+        None => Err(incomplete(alloc)),
     }
 }
 
-/// The command and the places that the words of `fmt` stand for.
-pub(crate) fn read_fmt<'a>(
-    alloc: Global,
-    found: &ArgMatches<'a>,
-) -> Result<(Command, Places), UsageFault>
-    ensures read { IfOk result (IsReadOf (codes "fmt") found.now) }
-    ensures fault { IfErr result (IsFaultIn (codes "fmt") found.now) }
+/// The place of a command over the file alone that this argument names.
+fn file_given(alloc: Global, found: &ArgMatches, argument: Argument) -> Result<Places, UsageFault>
+    ensures places { IfOk result (λ places. IsOneFile (given argument (entries found.now)) places
+        × (places.proxy ≡ None)) }
+    ensures fault { IfErr result (IsFaultWith (given argument (entries found.now) ≡ None) none none) }
 {
-    let Some(file) = value_of(found, Argument::FmtFile) else {
-        return Err(missing(alloc, Argument::FmtFile));
+    let Some(file) = value_of(found, argument) else {
+        return Err(incomplete(alloc));
     };
-    let places = Places {
+    Ok(Places {
         main: String::from_str(alloc, file)?,
         proxy: None,
         sums: None,
-    };
+    })
+}
+
+/// What the words of `fmt` stand for.
+pub(crate) fn read_fmt(alloc: Global, found: &ArgMatches) -> Read
+    ensures read { IfOk result (IsReadOf CommandName.Fmt found.now) }
+    ensures fault { IfErr result (IsFaultIn CommandName.Fmt found.now) }
+{
+    let places = file_given(alloc, found, Argument::FmtFile)?;
     Ok((Command::Fmt, places))
 }
 
@@ -222,45 +231,28 @@ fn copied(alloc: Global, words: &[&str]) -> Result<Vec<String>, AllocError>
     Ok(texts)
 }
 
-/// The command and the places that the words of `edit` stand for. The operations are not parsed here.
-pub(crate) fn read_edit<'a>(
-    alloc: Global,
-    found: &ArgMatches<'a>,
-) -> Result<(Command, Places), UsageFault>
-    ensures read { IfOk result (IsReadOf (codes "edit") found.now) }
-    ensures fault { IfErr result (IsFaultIn (codes "edit") found.now) }
+/// What the words of `edit` stand for. The operations are not parsed here.
+pub(crate) fn read_edit(alloc: Global, found: &ArgMatches) -> Read
+    ensures read { IfOk result (IsReadOf CommandName.Edit found.now) }
+    ensures fault { IfErr result (IsFaultIn CommandName.Edit found.now) }
 {
-    let Some(file) = value_of(found, Argument::EditFile) else {
-        return Err(missing(alloc, Argument::EditFile));
-    };
     let Some(operations) = values_of(found, Argument::Operations) else {
-        return Err(missing(alloc, Argument::Operations));
+        return Err(incomplete(alloc));
     };
     let operations = copied(alloc, operations)?;
-    let main = String::from_str(alloc, file)?;
-    let places = Places {
-        main,
-        proxy: None,
-        sums: None,
-    };
+    let places = file_given(alloc, found, Argument::EditFile)?;
     Ok((Command::Edit(operations), places))
 }
 
-/// The command and the places that the words of `versions` stand for. Without `--proxy` all versions are
-/// asked for: there is no file that could retract any.
-pub(crate) fn read_versions<'a>(
-    alloc: Global,
-    found: &ArgMatches<'a>,
-) -> Result<(Command, Places), UsageFault>
-    ensures read { IfOk result (IsReadOf (codes "versions") found.now) }
-    ensures fault { IfErr result (IsFaultIn (codes "versions") found.now) }
+/// What the words of `versions` stand for. Without `--proxy` all versions are asked for: there is no file that
+/// could retract any.
+pub(crate) fn read_versions(alloc: Global, found: &ArgMatches) -> Read
+    ensures read { IfOk result (IsReadOf CommandName.Versions found.now) }
+    ensures fault { IfErr result (IsFaultIn CommandName.Versions found.now) }
 {
-    let Some(text) = value_of(found, Argument::Path) else {
-        return Err(missing(alloc, Argument::Path));
-    };
-    let path = read_path(alloc, text)?;
-    let proxy = proxy_of(alloc, found)?;
-    let all = is_given(found, Argument::Retracted) || proxy.is_none();
+    let path = path_given(alloc, found)?;
+    let proxy = proxy_given(alloc, found)?;
+    let all = has_value(found, Argument::Retracted, "true") || proxy.is_none();
     let places = Places {
         main: String::from_str(alloc, "go.mod")?,
         proxy,

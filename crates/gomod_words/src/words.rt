@@ -5,16 +5,16 @@ ghost use Rattle.std.specs.Prelude.{◌≡◌, IfErr, IfOk, true};
 ghost use Rattle.clap.specs.Words.{subcommand_rows_of};
 ghost use Rattle.gomod_words.specs.Hints.{texts_of};
 ghost use Rattle.gomod_words.specs.Private.Usage.{IsEntriesFault, IsFaultIn, IsParserFault, IsReadOf};
-ghost use Rattle.gomod_words.specs.Usage.{AskFor, IsFaultOf, IsMeant, ShowsLine, ShowsUsage};
+ghost use Rattle.gomod_words.specs.Usage.{AskFor, IsFaultOf, IsMeant, ShowsLine, ShowsUsage, entered};
 
 use crate::command::gomod_command;
 use crate::dashed::{dashed_in, first_with_dash};
 use crate::query::{BAD_VALUE, read_chain, read_graph, read_list};
 use crate::refusal::{message_in, subject_in};
-use crate::table::{CHAIN, EDIT, FMT, GRAPH, LIST, VERSIONS};
+use crate::table::{CommandName, command_named};
 use crate::usage::{
-    Command, Places, UsageFault, dashed, line, no_command, read_edit, read_fmt, read_versions,
-    version,
+    Command, Places, Read, UsageFault, dashed, incomplete, line, read_edit, read_fmt,
+    read_versions, version,
 };
 use clap::ArgMatches;
 use clap::error::ErrorKind;
@@ -30,12 +30,11 @@ use std::alloc::Global;
 /// - `Version` if the version is asked for, by `-V` or `--version` as the first word. It holds the line that says
 ///   it, and the kit that the program is proved with.
 /// - `Line` if the words do not match any command, or a command has too few or too many words. It holds the
-///   parser's message, and the usage line of the command that the words name, first or after `help`, or otherwise
-///   that of the program. It also comes if the value of `--limit` is not one or more ASCII digits that form a
-///   number from 1 to 4,294,967,295. Without a word after the program's name it holds the help. It comes before
-///   anything else if the first word after `edit` that begins with a dash and is more than that is an operation
-///   after one dash or two, which has none: the name of one, `=` and more.
-///   The text has one tip at most, which the table of hints has for the word that is wrong, or for what is missing.
+///   parser's message, at most one tip, and the usage line of the command that the words name, first or after
+///   `help`, or otherwise that of the program. It also comes if the value of `--limit` is not one or more ASCII
+///   digits that form a number from 1 to 4,294,967,295. Without a word after the program's name it holds the help.
+///   It comes before anything else if the first word after `edit` that begins with a dash and is more than that is
+///   an operation after one dash or two.
 /// - `BadPath` if all of that is valid, but PATH of `versions` or `chain`, or the value of `--after` of
 ///   `list`, is not a module path. It holds that text.
 /// - `BadProxy` if all of that is valid, but the value of `--proxy` has an empty piece between its `,` and
@@ -88,13 +87,9 @@ fn fault_of(alloc: Global, error: &clap::Error, words: &[&str]) -> UsageFault
 
 /// What the matches of a parse mean. A usage error shows all that one of these words must.
 #[tactic(auto, using(crate::proofs::UsageLines::line_fault))]
-fn read_shown<'a>(
-    alloc: Global,
-    matches: &ArgMatches<'a>,
-    words: &[&str],
-) -> Result<(Command, Places), UsageFault>
-    ensures read { IfOk result (λ read. IsMeant (subcommand_rows_of matches.now) read.0 read.1) }
-    ensures fault { IfErr result (IsEntriesFault (subcommand_rows_of matches.now)) }
+fn read_shown(alloc: Global, matches: &ArgMatches, words: &[&str]) -> Read
+    ensures read { IfOk result (λ read. IsMeant (entered (subcommand_rows_of matches.now)) read.0 read.1) }
+    ensures fault { IfErr result (IsEntriesFault (entered (subcommand_rows_of matches.now))) }
     ensures usage { IfErr result (ShowsLine (texts_of words.now)) }
 {
     match read_matches(alloc, matches) {
@@ -113,44 +108,34 @@ fn read_shown<'a>(
 
 /// What this message is about, which the matches of a parse gave.
 fn subject_of(message: &str) -> Option<&'static str> {
-    if message.starts_with(BAD_VALUE) {
-        Some("--limit")
-    } else {
-        None
+    message.starts_with(BAD_VALUE).then_some("--limit")
+}
+
+/// What the matches of a parse mean. A fault with a message has that alone, here and below.
+fn read_matches(alloc: Global, matches: &ArgMatches) -> Read
+    ensures read { IfOk result (λ read. IsMeant (entered (subcommand_rows_of matches.now)) read.0 read.1) }
+    ensures fault { IfErr result (IsEntriesFault (entered (subcommand_rows_of matches.now))) }
+{
+    let Some((name, found)) = matches.subcommand() else {
+        return Err(incomplete(alloc));
+    };
+    match command_named(name) {
+        Some(command) => read_command(alloc, command, found),
+        None => Err(incomplete(alloc)),
     }
 }
 
-/// What the matches of a parse mean. The parser accepts no words without a command, but its types can't say so, and
-/// therefore these are refused with `Line`. Such a fault has the message alone, here and below.
-fn read_matches<'a>(
-    alloc: Global,
-    matches: &ArgMatches<'a>,
-) -> Result<(Command, Places), UsageFault>
-    ensures read { IfOk result (λ read. IsMeant (subcommand_rows_of matches.now) read.0 read.1) }
-    ensures fault { IfErr result (IsEntriesFault (subcommand_rows_of matches.now)) }
+/// What the words of this command mean.
+fn read_command(alloc: Global, command: CommandName, found: &ArgMatches) -> Read
+    ensures read { IfOk result (IsReadOf command found.now) }
+    ensures fault { IfErr result (IsFaultIn command found.now) }
 {
-    match matches.subcommand() {
-        Some((name, found)) => read_command(alloc, name, found),
-        None => Err(no_command(alloc)),
-    }
-}
-
-/// What the words of the command with this name mean. Another name than the parser knows is refused with `Line`.
-fn read_command<'a>(
-    alloc: Global,
-    name: &str,
-    found: &ArgMatches<'a>,
-) -> Result<(Command, Places), UsageFault>
-    ensures read { IfOk result (IsReadOf name.now found.now) }
-    ensures fault { IfErr result (IsFaultIn name.now found.now) }
-{
-    match name {
-        FMT => read_fmt(alloc, found),
-        EDIT => read_edit(alloc, found),
-        VERSIONS => read_versions(alloc, found),
-        GRAPH => read_graph(alloc, found),
-        LIST => read_list(alloc, found),
-        CHAIN => read_chain(alloc, found),
-        _ => Err(no_command(alloc)),
+    match command {
+        CommandName::Fmt => read_fmt(alloc, found),
+        CommandName::Edit => read_edit(alloc, found),
+        CommandName::Versions => read_versions(alloc, found),
+        CommandName::Graph => read_graph(alloc, found),
+        CommandName::List => read_list(alloc, found),
+        CommandName::Chain => read_chain(alloc, found),
     }
 }

@@ -12,3 +12,6 @@ returns-then-has_text-3 c = (codes "@", c.has_text-else-has_text-2.ensures c.if-
 
 pub returns-then-has_text-4 : goal.returns-then-has_text-4
 returns-then-has_text-4 c = (codes ".", c.has_text-else-has_text-3.ensures c.if-has_text-4.true, refl)
+
+pub returns-then-has_text-5 : goal.returns-then-has_text-5
+returns-then-has_text-5 c = (codes "/", c.has_text-else-has_text-4.ensures c.if-has_text-5.true, refl)

@@ -1,6 +1,0 @@
-use Rattle.gomod_words.specs.Hints.{other_hints}
-use Rattle.gomod_words.proofs.hints.other_hints_say.Goals as goal
-
-pub returns : goal.returns
-unfolding other_hints
-returns c = c.said.ensures
