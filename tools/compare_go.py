@@ -22,9 +22,9 @@ docs/use/GO.md; a result can differ in several. The status is 1 if there is a di
 --rows asks both in worlds made by hand. The status is 1 unless each row of the table has a world, each world has a
 difference of its row and of no other, and both programs say what tools/go_rows.py has of them.
 
---texts asks both of the texts from SEED on, and of one more for each predicate that holds of none of these. The status
-is 1 if they differ and no predicate holds, if one holds and they don't differ, or answer what it doesn't say, or if
-there is no text for one. The predicates are of go 1.19.8.
+--texts asks both of the texts from SEED on. tools/go_texts.py reads each as go and as gomod, and says which rows it
+shows; of each row that none of these shows there is one text more. The status is 1 if the two differ and no row is
+shown, if one is shown and they don't differ, or answer another way, or if no text shows one. It is of go 1.19.8.
 
 --check compares a tidy module with the cache that `go mod download` filled, example/go.mod, example/tidy.mod, and the
 worlds of --rows, with the answers of go 1.19.8 in tools/go_answers.json (tools/recorded_go.py). If there is a go
@@ -51,7 +51,8 @@ import go_rows
 import go_texts
 import script
 from go_worlds import (
-    UNFETCHABLE, World, escaped, fits, lay_tidy_world, lay_version, operations, order_of, unescaped
+    UNFETCHABLE, World, escaped, fits, is_import_path, latest_of, lay_tidy_world, lay_version,
+    operations, unescaped
 )
 from script import read, write
 
@@ -141,7 +142,7 @@ class Commands:
         self.environment = {
             "PATH": os.path.dirname(go) + ":/usr/bin:/bin", "HOME": room, "GOPATH": f"{room}/gopath",
             "GOMODCACHE": self.cache, "GOCACHE": f"{room}/build", "GOENV": "off", "GOWORK": "off",
-            "GOPROXY": f"file://{proxy}", "GOSUMDB": "off", "GONOSUMDB": "*", "GOPRIVATE": "", "GONOPROXY": "none",
+            "GOPROXY": f"file://{proxy}", "GOSUMDB": "off", "GONOSUMDB": "*", "GOPRIVATE": "", "GONOPROXY": "",
             "GOTOOLCHAIN": "local", "GOVCS": "*:off", "GO111MODULE": "on", "GOTELEMETRY": "off",
         }
 
@@ -484,11 +485,6 @@ def is_rewritten(path, operations):
     return any(re.match(rf"(drop)?replace={re.escape(path)}(?![-\w/.])", it) for it in operations[at + 1:])
 
 
-def latest_of(versions):
-    releases = [it for it in versions if "-" not in it]
-    return max(releases or versions, key=order_of, default="")
-
-
 def lost_by_go(text):
     """The comment lines that go loses as it formats: of a block that it drops or makes a line, and of repetitions."""
     lost, block, before, inside, comments = collections.Counter(), None, [], [], []
@@ -608,6 +604,7 @@ def compare_row_world(go, row, room, found):
     at = Comparison(f"the world of '{row.name}', {row.ask}", commands, seen)
     command, *words = shlex.split(row.ask.replace("{proxy}", proxy).replace("\\", "\\\\"))
     if row.words:
+        commands.environment["GOPROXY"] = row.goproxy.replace("{proxy}", f"file://{proxy}")
         wanted = commands.ask_go(f"{main}/{row.folder}", *shlex.split(row.words), flags=row.flags)
         came = commands.ask(f"{main}/{row.folder}", command, *words)
         seen.count(command, row.name if came.text() != wanted.text() else SAME)
@@ -632,45 +629,91 @@ def compare_row_world(go, row, room, found):
         print(it, flush=True)
 
 
+def lay_text(it, proxy, main):
+    """Writes the world of a text, with all that one of the two reads of it."""
+    texts = {name: it.text if go_texts.OTHERS.get(it.place) == name else text for name, text in go_texts.FILES.items()}
+    known = [(f"example.com/{name}", version) for name in texts for version in go_texts.SHOWN]
+    for reader in go_texts.Reader(it, True), go_texts.Reader(it, False):
+        for path, version in known + reader.pairs:
+            if is_import_path(path):
+                text = texts.get(path.removeprefix("example.com/"), f"module {path}\n")
+                lay_version(proxy, path, version, text)
+        for folder in ["r", *reader.folders]:
+            place = os.path.normpath(f"{main}/{folder}/go.mod")
+            if place.startswith(os.path.dirname(main)) and folder[0] != "/":
+                write(place, texts["r"])
+    write(f"{proxy}/example.com/p/@v/list", it.text if it.place == "list" else "v1.0.0\nv1.1.0\n")
+    write(f"{main}/go.mod", it.text if it.place == "main" else go_texts.MAIN)
+    if it.place == "sum":
+        write(f"{main}/go.sum", it.text)
+
+
+def questions(it, proxy):
+    """What go and gomod are asked, and the GOFLAGS."""
+    if it.place == "operation":
+        return ["mod", "edit", "-print", f"-{it.text}", "go.mod"], ["edit", "go.mod", it.text], ""
+    is_list = it.place in ("latest", "list")
+    go = ["list", "-m", "-versions", "example.com/p"] if is_list else ["list", "-m", "all"]
+    words = ["versions", "example.com/p"] if is_list else ["list", *["--sum", "go.sum"] * (it.place == "sum")]
+    return go, [*words, "--proxy", proxy], "-mod=readonly" if it.place == "sum" else "-mod=mod"
+
+
+def answer(ran):
+    """What a program answers, whatever the layout."""
+    if ran.status:
+        return "refused: " + ran.err
+    verb, found = "", []
+    for line in ran.out.split("\n"):
+        words = " ".join(re.split("[ \t\r]+", line.strip(" \t\r")))
+        if words.endswith(" (") and not verb:
+            verb = words[:-1]
+        elif words == ")" and verb:
+            verb = ""
+        elif words:
+            found.append(verb + words)
+    return "\n".join(sorted(found))
+
+
 def compare_text(go, it, room, found):
-    """One text: whether the rows whose predicates hold of it are those of what the two answer."""
+    """One text: whether go and gomod answer what is read of it as each of them does, and differ if that does."""
     proxy, main = f"{room}/proxy", f"{room}/main"
-    go_texts.lay(it, proxy, main)
-    asked, words, flags, folders = go_texts.questions(it, proxy)
+    lay_text(it, proxy, main)
+    asked, words, flags = questions(it, proxy)
     commands = Commands(go, room, proxy)
-    # with a GONOPROXY go lists no versions of a proxy for a path that the main file replaces
-    commands.environment |= {"GOPROXY": re.sub(r"(?<![^,|])/", "file:///", "".join(folders)), "GONOPROXY": ""}
-    theirs = go_texts.answer(commands.ask_go(main, *asked, flags=flags))
-    ours = go_texts.answer(commands.ask(main, *words))
+    theirs = answer(commands.ask_go(main, *asked, flags=flags))
+    ours = answer(commands.ask(main, *words))
     is_same = theirs == ours or all(text.startswith("refused") for text in (theirs, ours))
-    named = [rule for rule in go_texts.RULES if rule[1](it)]
-    note = "; ".join(rule[0] for rule in named)
-    said = all(re.search(rule[2], theirs, re.M) and re.search(rule[3], ours, re.M) for rule in named)
-    if is_same == bool(named) or not said:
-        found.report(it, words[0], ours, theirs, note and f"what the row doesn't say: {note}")
-    for kind in {rule[0] for rule in named} if named else [SAME if theirs == ours else BOTH]:
+    as_go, as_gomod, shown = go_texts.judged(it)
+    said = [(text.startswith("refused"), reader.value is None) for text, reader in ((theirs, as_go), (ours, as_gomod))]
+    if is_same == bool(shown) or shown and not (all(one == two for one, two in said) and as_gomod.kind in ours):
+        rows = "; ".join(sorted(shown))
+        found.report(it, words[0], ours, theirs, rows and f"{as_gomod.kind or 'not'} what the rows say: {rows}")
+    for kind in shown or [SAME if theirs == ours else BOTH]:
         found.count(it.place, kind)
 
 
 def compare_texts(go, count, seed, found):
-    """So many texts from a number on, and one for each predicate that holds of none of them."""
-    texts, left = [go_texts.make(it) for it in range(seed, seed + count)], []
-    for row, holds, *_ in go_texts.RULES:
-        if not any(holds(it) for it in texts):
-            more = (go_texts.make(it) for it in range(seed + count, seed + count + 100000))
-            left.append(next((it for it in more if holds(it)), None))
-            if left[-1] is None:
-                found.unexplained += 1
-                print(f"tools/go_texts.py: there is no text of a predicate of the row '{row}'")
-    for it in [*texts, *filter(None, left)]:
-        if "\0" not in it.text:
+    """So many texts from a number on, and one for each row that they ask about and that none of them shows."""
+    asked, seen = set(go_rows.ALONE), set()
+    for number in range(seed, seed + count + 100000):
+        it = go_texts.make(number)
+        as_go, as_gomod, shown = go_texts.judged(it)
+        if number < seed + count:
+            asked |= as_go.asked | as_gomod.asked
+        elif asked <= seen:
+            break
+        if number < seed + count or shown - seen:
+            seen |= shown
             in_scratch(compare_text, go, it, found)
+    for row in sorted(asked - seen):
+        found.unexplained += 1
+        print(f"tools/go_texts.py: there is no text that shows the row '{row}'")
 
 
 def compare_rows(go, name, found):
-    """The worlds of tools/go_rows.py, or those of one row: each row of docs/use/GO.md has one, or a predicate in
+    """The worlds of tools/go_rows.py, or those of one row: each row of docs/use/GO.md has one, or texts of
     tools/go_texts.py, and each is of a row."""
-    named = {it.name for it in go_rows.ROWS} | {it[0] for it in go_texts.RULES}
+    named = {it.name for it in go_rows.ROWS} | set(go_rows.ALONE)
     for it in sorted(found.names - named):
         print(f"docs/use/GO.md: tools/go_rows.py has no world that shows the row '{it}'")
     for it in sorted(named - found.names):

@@ -11,7 +11,7 @@ at most 30 words each; a release has at most 500 words in CHANGELOG.md. The othe
 are what blanks separate, in indented examples too, without the bars of tables, fenced code and comments of HTML, and
 without what other files say: quotes (lines that begin with `>`), and what scripts write between marks (`<!-- show`).
 Each figure that README.md shows of speed is the one of docs/dev/BENCHMARKS.md, and both name the commit that was
-measured, which changed a source. docs/use/MESSAGES.md has each usage error that a case prints.
+measured, which changed a source. docs/use/MESSAGES.md has each line that a case prints (tools/messages.py).
 
 For each sentence of README.md on what is verified, and each of docs/proof/PROVED.md that names a law, there is a
 checksum of the sentence and one of what the law states (tools/sentences.py). If one is no longer right, both texts are
@@ -33,6 +33,7 @@ import re
 import sys
 import typing
 
+import messages
 import script
 import sentences
 from script import Tally, git, read
@@ -49,20 +50,20 @@ OTHER_ROOTS = set("Env Rc String Vec anyhow env mem std str A".split())
 MADE = "crates/hello/"
 # how many words documents may have together: a number, and the documents or patterns of their names
 BUDGETS = """
- 7500 docs/use/*.md
- 2280 docs/use/GO.md
-12050 docs/proof/*.md
+ 7400 docs/use/*.md
+ 2000 docs/use/GO.md
+12110 docs/proof/*.md
  5090 docs/proof/SPEC.md
  1500 docs/lib/*.md
  7600 docs/dev/*.md
  1800 docs/dev/CASES.md
- 3200 docs/DECISIONS.md
+ 3210 docs/DECISIONS.md
  1800 docs/dev/PROOFS.md
  4900 docs/dev/PROOFS.md crates/*/PROOFS.md
   800 docs/dev/BENCHMARKS.md
 """
 NUMBERS = "one two three four five six seven eight nine ten eleven twelve".split()
-MISTAKES, FIGURES, MESSAGES = "crates/run_cases/MISTAKES.md", "docs/dev/BENCHMARKS.md", "docs/use/MESSAGES.md"
+MISTAKES, FIGURES = "crates/run_cases/MISTAKES.md", "docs/dev/BENCHMARKS.md"
 
 # names in backquotes one after another, each with a remark in brackets or without
 LIST = r"`\w+`(?: \([^()]*\))?(?:(?:, and |, | and )`\w+`(?: \([^()]*\))?)*"
@@ -422,16 +423,6 @@ def keep_figures(tally):
             print(f"{FIGURES}: measured at {commit}, before {len(later)} commits that changed .rt files")
 
 
-def keep_messages(tally):
-    """Whether docs/use/MESSAGES.md has each message of a usage error in a case, up to its first word in quotes."""
-    named = tuple(it.rstrip() for it in re.findall(r"`(error: [^'`]*[^'`A-Z])", read(MESSAGES)))
-    for path in sorted(glob.glob("crates/run_cases/data/**/*.txt", recursive=True)):
-        for number, line in enumerate(lines_of(path), 1):
-            if found := re.match(r"!\\? (error: .*)", line):
-                message = f"{path}:{number}: {MESSAGES} has no '{found[1]}'"
-                tally.tell("usage errors", found[1].startswith(named), message)
-
-
 def main(*names):
     """Looks up what the documents name, prints what isn't there, and returns the status."""
     if names[:1] == ("--accept",):
@@ -443,7 +434,7 @@ def main(*names):
     documents = ["README.md", *glob.glob("docs/**/*.md", recursive=True), *glob.glob("crates/*/PROOFS.md"), MISTAKES]
     for name in names or sorted(documents):
         Document(name, sources, tally).read()
-    for keep in () if names else (keep_budgets, keep_figures, keep_messages):
+    for keep in () if names else (keep_budgets, keep_figures, messages.keep):
         keep(tally)
     return int(tally.status() or wrong)
 

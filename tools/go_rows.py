@@ -47,14 +47,15 @@ EMPTY = "`edit go=`, `edit module=`"
 NO_PATH = "An operation on a path that is none: `droprequire=a+b`"
 BARE = "Words that an operation writes: `replace=P=../it's`"
 QUOTES = "Quotes that a word does not need; characters in quotes that do not print"
-APOSTROPHE = "An apostrophe in a bare folder of `replace`"
-DOTS = "The folders `.` and `..`"
+APOSTROPHE = "An apostrophe in a bare folder of `replace`; `=>./x`"
+DOTS = "The folders `.` and `..`; `./x/../y`"
 DASH = "A path that begins with a dash"
 REPEATED = "A requirement that stands twice in a file, in `graph`"
 REPLACED = "A path that the main file replaces, in `versions`"
 MODFILE = "Folders of `replace` in a main file of another folder: `-modfile=sub/x.mod`, `--mod sub/x.mod`"
 TWO_PROXIES = "A list in one proxy folder, the latest version's file in another"
 PROFILE = "Texts, paths, numbers and sizes that SPEC.md leaves out by its own choice"
+ALONE = [PATHS, CLOSES, RETRACTED, PSEUDO, BLANKS, SUM_LINES, TRIMMED, EMPTY, NO_PATH, BARE, APOSTROPHE, DOTS, DASH]
 
 
 class Row(typing.NamedTuple):
@@ -69,6 +70,7 @@ class Row(typing.NamedTuple):
     # What go is asked, if it isn't what compare_go.py asks it for such a command; then `{proxy}` stands for the proxy.
     words: str = ""
     flags: str = "-mod=mod"
+    goproxy: str = "{proxy}"
     folder: str = "."  # where both run then
 
 
@@ -137,6 +139,23 @@ ROWS = [
     Row("Checksums", "graph", "example.com/a@v1.0.0\n", "example.com/a@v1.0.0: NoSum\n", files={"go.sum": ""}),
     Row(SECOND, "list", "example.com/a v1.0.0\n", "example.com/a@v1.0.0: SumDiffers\n",
         files={"go.sum": SUM + "example.com/a v1.0.0/go.mod h1:AAAA\n"}),
+    Row(QUOTES, "fmt go.mod", "=> ./b\n", '=> "./b"\n', main=MAIN + '\nreplace example.com/b => "./b"\n',
+        words="mod edit -fmt -print go.mod"),
+    Row(REPEATED, "graph --proxy {proxy}", 2 * "example.com/a@v1.0.0 example.com/b@v1.0.0\n",
+        "example.com/m example.com/a@v1.0.0\nexample.com/a@v1.0.0 example.com/b@v1.0.0\n",
+        main=MAIN.replace("1.19", "1.16"), words="mod graph",
+        proxy={"example.com/a v1.0.0": FILE_A + "require example.com/b v1.0.0\n" * 2, **B}),
+    Row(REPLACED, "versions example.com/a --proxy {proxy}", "example.com/a v1.0.0 v1.5.0\n", "example.com/a v1.0.0\n",
+        main=MAIN + "\nreplace example.com/a v1.5.0 => ./a\n", files={"a/go.mod": FILE_A},
+        proxy={**A, "example.com/a list": "v1.0.0\n"}, words="list -m -versions example.com/a"),
+    Row(MODFILE, "list --mod sub/alt.mod --proxy {proxy}", "example.com/a v1.0.0 => ./a\n",
+        "example.com/a@v1.0.0: Missing\n", words=LIST,
+        flags="-mod=mod -modfile=sub/alt.mod",
+        files={"sub/alt.mod": MAIN + "\nreplace example.com/a => ./a\n", "a/go.mod": FILE_A}),
+    Row(TWO_PROXIES, "versions example.com/a --proxy {proxy}/1,{proxy}/2", "/@v/list: no such file",
+        "example.com/a v1.0.0\n", goproxy="{proxy}/1,{proxy}/2",
+        words="list -m -versions example.com/a",
+        proxy={"1/example.com/a list": "v1.0.0\n", "2/example.com/a v1.0.0": FILE_A}),
     Row("A run in a folder below the main file's", "list --proxy {proxy}", "example.com/a v1.0.0\n",
         "gomod: cannot read go.mod\n", files={"below/file": ""}, words=LIST, folder="below"),
     Row("GOPROXY, GOFLAGS, GOPRIVATE, go.work, vendor", "list --proxy {proxy}", "example.com/other\n",

@@ -55,6 +55,11 @@ def order_of(version):
     return [int(it) for it in core.split(".")], not pre, parts
 
 
+def latest_of(versions):
+    releases = [it for it in versions if "-" not in it]
+    return max(releases or versions, key=lambda it: (order_of(it), it), default="")
+
+
 def fits(path, version):
     """Whether a version is canonical and fits the path."""
     if not re.fullmatch(r"v\d+\.\d+\.\d+(-[-.0-9A-Za-z]+)?(\+incompatible)?", version):
@@ -64,6 +69,71 @@ def fits(path, version):
     if suffix:
         return suffix[1] == major and "+" not in version
     return ("+incompatible" in version) == (int(major) > 1)
+
+
+# what go takes for blanks in lists and the like, those past ASCII from the seventh on
+SPACES = "".join(chr(it) for it in range(0x3001) if chr(it).isspace() and it not in range(0x1C, 0x20))
+BYTES = "[\udc80-\udcff]"  # those that are not UTF-8
+BIG = 2**64
+SEMVER = re.compile(r"v(\d+)(?:\.(\d+)(?:\.(\d+)(-[0-9A-Za-z.-]+)?(\+[0-9A-Za-z.-]+)?)?)?", re.A)
+
+
+def whole(version):
+    """A version with all three numbers, and without another build than +incompatible; None if a text is none to go."""
+    found = SEMVER.fullmatch(version)
+    pre = (found[4] or "-x")[1:].split(".") + (found[5] or "+x")[1:].split(".") if found else [""]
+    if not all(pre) or any(re.fullmatch(r"0\d+", it or "", re.A) for it in [*found.groups()[:3], *pre]):
+        return None
+    numbers = ".".join(it or "0" for it in found.groups()[:3])
+    return f"v{numbers}{found[4] or ''}{found[5] if found[5] == '+incompatible' else ''}"
+
+
+def is_big(version):
+    """Whether one of the three numbers is too great for gomod."""
+    return any(int(it or 0) >= BIG for it in SEMVER.match(version).groups()[:3])
+
+
+def is_pseudo(version, is_go):
+    """Whether go or gomod takes a version for a pseudo-version."""
+    third = r"\d+" if is_go else r"[1-9]\d*"
+    form = rf"v\d+\.(0\.0-|\d+\.\d+-[^+]+\.0\.|\d+\.{third}-0\.)\d{{14}}-[A-Za-z0-9]+(\+incompatible)?"
+    return re.fullmatch(form, version, re.A) is not None
+
+
+def goes_with(path, version):
+    """Whether go takes the major number of a version for the path."""
+    is_without = "+incompatible" in version and fits(path, "v2.0.0+incompatible")
+    return is_without or fits(path, version.removesuffix("+incompatible"))
+
+
+def is_import_path(text):
+    """Whether go takes a text for a path of an import, which is all that it checks of most paths."""
+    name = r"(?!\.+(/|$)|(?i:con|prn|aux|nul|com[1-9]|lpt[1-9])(\.|/|$)|[^/.]*~\d+(\.|/|$))[\w.~+-]*[\w~+-]"
+    return re.fullmatch(rf"(?!-){name}(/{name})*", text, re.A) is not None
+
+
+def must_quote(word):
+    """Whether go writes a word in quotes."""
+    word = re.sub(BYTES, "\ufffd", word)
+    return (re.search(r"[ \"'`]|//|/\*|^$", word) is not None or not word.isprintable()
+            or len(word) > 1 and re.search(r"[()\[\]{},]", word) is not None)
+
+
+def has_major(path):
+    """Whether the end of a path is a major version, or none."""
+    if path.startswith("gopkg.in/"):
+        return re.search(r"\.v(0|[1-9]\d*(-unstable)?)$", path) is not None
+    end = re.search(r"./v([\d.]+)$", path)
+    return not end or re.fullmatch(r"[2-9]|[1-9]\d+", end[1]) is not None
+
+
+def is_fetchable(path):
+    return re.match(r"(?!-)[a-z0-9-]*\.[a-z0-9.-]*(/|$)", path) is not None
+
+
+def is_path(text):
+    """Whether gomod takes a text for the path of a module."""
+    return is_import_path(text.lstrip("-")) and not re.search(r"\+|(^|/)\.", text) and has_major(text)
 
 
 # A module that go can tidy: each module has a package by which it is imported, and one that imports what it needs

@@ -27,7 +27,7 @@ ANSWERS = os.path.join(TOP, "tools", "go_answers.json")
 # What a comparison reads of the repository.
 TOOLS = ("compare-go.sh", "compare_go.py", "go_rows.py", "go_texts.py", "go_worlds.py", "script.py")
 FILES = [f"tools/{it}" for it in TOOLS] + ["docs/use/GO.md"]
-SECONDS, TEXTS, SEED = 900, 2000, 1
+SECONDS, TEXTS = 900, 2000
 # Mistakes: without the .info of modules that are pruned out; a row with no world; none, where a difference has one.
 NOT_LAID = ("tools/compare_go.py", "named |= named_versions(read(f\"{folder}/{name}\"))", "pass")
 ROW, PAGE = go_rows.NOT_UTF8, "docs/use/GO.md"
@@ -191,20 +191,21 @@ def run_all(check):
 
 
 def compare_texts(tally):
-    """Compares texts with a real go, if there is the version whose answers are recorded, always the same ones, and leaves
-    a record for tools/release.sh."""
+    """Compares texts with a real go, if there is the version whose answers are recorded, others for each commit, and
+    leaves a record for tools/release.sh."""
     found = [it for it in (shutil.which("go"), "/usr/lib/go-1.19/bin/go") if it and os.path.exists(it)]
     wanted = json.loads(read(ANSWERS))["version"]
     real = next((it for it in found if script.real_go(it)[1] == wanted), None)
     if not real:
         print(f"skipped, texts beside go: there is no {wanted}")
         return
-    words = [f"{TOP}/tools/compare-go.sh", "--go", real, "--texts", str(TEXTS), str(SEED)]
+    seed = TEXTS * int(script.git("rev-parse", "HEAD", top=TOP)[:6] or "0", 16)
+    words = [f"{TOP}/tools/compare-go.sh", "--go", real, "--texts", str(TEXTS), str(seed)]
     ran = subprocess.run(words, cwd=TOP, text=True, stdout=subprocess.PIPE, stderr=subprocess.STDOUT, timeout=SECONDS)
-    tally.tell("texts beside go", ran.returncode == 0, f"{TEXTS} texts from {SEED}:\n{ran.stdout}")
+    tally.tell("texts beside go", ran.returncode == 0, f"{TEXTS} texts from {seed}:\n{ran.stdout}")
     if ran.returncode == 0:
         program = hashlib.sha256(open(f"{TOP}/bin/gomod", "rb").read()).hexdigest()
-        write(f"{TOP}/bin/texts.txt", f"{TEXTS} texts from {SEED} beside {wanted}\n{program}  bin/gomod\n")
+        write(f"{TOP}/bin/texts.txt", f"{TEXTS} texts from {seed} beside {wanted}\n{program}  bin/gomod\n")
 
 
 def main(*words):
