@@ -1,8 +1,8 @@
 """Checks what the documents name: that each file, crate, function, clause, law, test, edit, commit and title of a case
 is there, that counts are right, and that documents are no longer than their budgets.
 
-    tools/documents.sh           README.md, all documents of docs/, PROOFS.md and MISTAKES.md of crates, and what is
-                                 told of next
+    tools/documents.sh           README.md, all documents of docs/, PROOFS.md and MISTAKES.md of crates, what is told of
+                                 next, and what tools/names.sh looks at
     tools/documents.sh FILE..    what these name alone
     tools/documents.sh --accept NAME..  writes the checksums anew of the sentences bound to these laws, or to `all`
 
@@ -34,6 +34,7 @@ import sys
 import typing
 
 import messages
+import names
 import script
 import sentences
 from script import Tally, git, read
@@ -52,7 +53,7 @@ MADE = "crates/hello/"
 BUDGETS = """
  7400 docs/use/*.md
  2000 docs/use/GO.md
-12110 docs/proof/*.md
+12150 docs/proof/*.md
  5090 docs/proof/SPEC.md
  1500 docs/lib/*.md
  7600 docs/dev/*.md
@@ -423,18 +424,18 @@ def keep_figures(tally):
             print(f"{FIGURES}: measured at {commit}, before {len(later)} commits that changed .rt files")
 
 
-def main(*names):
+def main(*given):
     """Looks up what the documents name, prints what isn't there, and returns the status."""
-    if names[:1] == ("--accept",):
-        return sentences.accept(names[1:])
-    wrong = not names and sentences.compare()
+    if given[:1] == ("--accept",):
+        return sentences.accept(given[1:])
+    wrong = not given and sentences.compare() | names.main()
     if not git("rev-parse", "HEAD"):
         sys.exit("documents: this is no repository of git, so nothing can be looked up")
     sources, tally = Sources(), Tally()
     documents = ["README.md", *glob.glob("docs/**/*.md", recursive=True), *glob.glob("crates/*/PROOFS.md"), MISTAKES]
-    for name in names or sorted(documents):
+    for name in given or sorted(documents):
         Document(name, sources, tally).read()
-    for keep in () if names else (keep_budgets, keep_figures, messages.keep):
+    for keep in () if given else (keep_budgets, keep_figures, messages.keep):
         keep(tally)
     return int(tally.status() or wrong)
 

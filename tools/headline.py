@@ -4,7 +4,8 @@ definitions and with docs/proof/SPEC.md.
     tools/headline.sh          writes anew what HEADLINE.md, REPORTS.md and DEFINITIONS.md show of the sources, and
                                copies of the definitions that `list` needs into crates/page/specs, and of those that
                                the other commands need into crates/page_commands/specs
-    tools/headline.sh --check  changes nothing, and tells which page or copy is out of step, or too long
+    tools/headline.sh --check  changes nothing, and tells which page or copy is out of step, or too long, and what
+                               tools/private.sh finds wrong
 
 Between the marks `<!-- show .. -->` and `<!-- end -->` of a page stands what the sources say:
 
@@ -38,6 +39,7 @@ import re
 import sys
 from collections import defaultdict
 
+import private
 import script
 import sources
 from sources import (
@@ -334,7 +336,7 @@ def main(option=""):
     texts = {it.path: it.renewed(other if it is page else page) for it in pages}
     copies = [Copies(*it).renew(option) for it in COPIES.items()]
     kept = [script.keep(path, text, bool(option), "tools/headline.sh") for path, text in texts.items()]
-    return int(bool(wrong) or any(kept) or any(copies))
+    return int(bool(option and private.main()) or bool(wrong) or any(kept) or any(copies))
 
 
 if __name__ == "__main__":
