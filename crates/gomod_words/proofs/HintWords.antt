@@ -2,7 +2,7 @@
 use Rattle.std.proofs.Common.{◌∷◌, ◌<◌, ℕ, Bor, Err, IfSome, List, [], Ok, Option, None, Result, Some, arith, get_or, length, map, refl, suc, zero}
 use Rattle.std.specs.List.{Contains}
 use Rattle.clap.specs.Walk.{Text}
-use Rattle.gomod_words.specs.Private.Hints.{Says}
+use Rattle.gomod_words.specs.Private.Hints.{Advises}
 
 -- an element at a place of a list, taken by a function, is one of those of the list
 pub map_at : {X Y : Type 0} (f : X → Y) (xs : List X) (i : ℕ) (d : X) → i < length xs → Contains (map f xs) (f (get_or xs i d))
@@ -17,6 +17,6 @@ some_too P Q from None is = tt
 some_too P Q from (Some text) is = from text.now is
 
 pub says_too : {E : Type 0} (P Q : Text → Type 0) → ((text : Text) → P text → Q text) → (said : Result (Option (Bor Text)) E)
-    → Says P said → Says Q said
+    → Advises P said → Advises Q said
 says_too P Q from (Ok said) is = some_too P Q from said is
 says_too P Q from (Err fault) is = tt

@@ -4,7 +4,7 @@
 ghost use Rattle.std.specs.Prelude.{◌≡◌, IfOk, IfSome, true};
 ghost use Rattle.std.specs.List.{Contains};
 ghost use Rattle.std.specs.String.{string_bytes};
-ghost use Rattle.gomod_words.specs.Private.Hints.{Says, rows_in};
+ghost use Rattle.gomod_words.specs.Private.Hints.{Advises, rows_in};
 ghost use Rattle.gomod_words.specs.Hints.{HasSaid, HasSaidIn, IsAlike, IsForm, IsHintFor, IsHintOf, hints, key_of, name_before, other_hints, texts_of, without_second_dash};
 
 use crate::dashed::{begins_with_dash, without_dash};
@@ -148,7 +148,7 @@ pub(crate) fn hint_for(
     about: Option<&str>,
     words: &[&str],
 ) -> Result<Option<&'static str>, AllocError>
-    ensures { Says (IsHintOf (texts_of words.now)) result }
+    ensures { Advises (IsHintOf (texts_of words.now)) result }
 {
     match word_about(about, words) {
         Some(word) => hint_on(alloc, takes_operations(words), word),
@@ -198,7 +198,7 @@ fn hint_on(
     takes_operations: bool,
     word: &str,
 ) -> Result<Option<&'static str>, AllocError>
-    ensures { Says (IsHintFor word.now) result }
+    ensures { Advises (IsHintFor word.now) result }
 {
     let key = key_of(alloc, word)?;
     let said = tables_say(alloc, takes_operations, false, key.as_str())?;
@@ -290,7 +290,7 @@ fn tables_say(
     is_near: bool,
     key: &str,
 ) -> Result<Option<&'static str>, AllocError>
-    ensures { Says (HasSaid is_near key.now) result }
+    ensures { Advises (HasSaid is_near key.now) result }
 {
     let said = rows_say(alloc, rows(), takes_operations, is_near, key)?;
     if said.is_some() {
@@ -307,7 +307,7 @@ fn rows_say(
     is_near: bool,
     key: &str,
 ) -> Result<Option<&'static str>, AllocError>
-    ensures { Says (HasSaidIn (rows_in rows.now) is_near key.now) result }
+    ensures { Advises (HasSaidIn (rows_in rows.now) is_near key.now) result }
 {
     for (names, text) in rows {
         for name in *names {
