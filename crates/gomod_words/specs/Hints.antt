@@ -32,8 +32,8 @@ abbrev pub without_second_dash : Text → Text
 without_second_dash word =
     if begins_with_dash word && begins_with_dash (without_minus word) then without_minus word else word
 
--- the name that the table has a word by: what stands before its first `=`, with one dash for two, and in lowercase unless
--- it is one letter
+-- the name that the table has a word by: what stands before its first `=`, with one dash for two, and in lowercase if
+-- it has two letters or more
 abbrev pub key_of : Text → Text
 key_of word =
     let name = without_second_dash (name_before word) in
@@ -51,8 +51,8 @@ IsAlike true key name = IsNear key name
 
 -- a row says this that has a name like the key, aside from an operation's `=`
 abbrev pub HasSaidIn : Rows → Bool → Text → Text → Type 0
-HasSaidIn rows is_near key hint = (names : List Text) × (name : Text) × Contains rows (names, hint) × Contains names name
-    × IsAlike is_near key (name_before name)
+HasSaidIn rows is_near key hint = (names : List Text) × (name : Text) × Contains rows (names, hint)
+    × Contains names name × IsAlike is_near key (name_before name)
 
 -- one of the tables says this
 abbrev pub HasSaid : Bool → Text → Text → Type 0

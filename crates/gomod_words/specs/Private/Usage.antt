@@ -53,7 +53,7 @@ IsParserFault error _ = ⊥
 abbrev pub none : Text → Type 0
 none text = ⊥
 
--- `--proxy` is missing although it must be given; or it is valid, and standard input is both the main file and the go.sum
+-- `--proxy` is missing although it must be given; or it is valid, and standard input is both other files
 abbrev pub LacksPlaces : List Row → Type 0
 LacksPlaces rows = (given Proxy rows ≡ None)
     ⊎ ((option_map_or is_proxy (given Proxy rows) true ≡ true) × (is_input_twice rows ≡ true))
