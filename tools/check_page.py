@@ -9,10 +9,11 @@ hides the list. tools/evaluate.py computes by the definitions which files are ne
 the files say is known, since they are written from that.
 
 It prints each world in which the program and the definitions differ, and a line with the counts. The status is 1 if there
-is one. It needs bin/gomod (./build makes it) and python3. A world takes some 0.4 s of CPU time.
+is one. It needs bin/gomod (./build makes it) and python3. A world takes some 0.8 s of CPU time.
 """
 
 import dataclasses
+import functools
 import os
 import random
 import subprocess
@@ -62,28 +63,29 @@ class File:
     excludes: list = dataclasses.field(default_factory=list)
     replaces: dict = dataclasses.field(default_factory=dict)
     is_malformed: bool = False
+    is_main: bool = False
 
-    def said(self, is_main=False):
+    def said(self):
         """The record that the definitions have of it."""
         common = {"go": self.go, "requirements": self.requirements}
-        if not is_main:
+        if not self.is_main:
             return value({"declared": option(self.declared), **common})
         replaces = [({"path": path, "version": option(version)}, named(right, "Folder", "Module"))
                     for (path, version), right in self.replaces.items()]
         return value({"path": self.declared, "excludes": self.excludes, "replaces": replaces, **common})
 
-    def text(self, is_main=False):
+    @functools.cached_property
+    def text(self):
         """The text of the file, as crates/page writes it; without a go directive it has go 1.16."""
-        name = "main_bytes" if is_main else "file_bytes"
-        written = bytes(PAGE.of("Files.TableFiles", name, self.said(is_main))).decode().replace("go 1.16\n", "")
+        name = "main_bytes" if self.is_main else "file_bytes"
+        written = bytes(PAGE.of("Files.TableFiles", name, self.said())).decode().replace("go 1.16\n", "")
         return written + MALFORMED * self.is_malformed
 
-    def teach(self, is_main=False):
+    def teach(self):
         """Tells the page what the bytes of the file say, or the line of a fault and its kind."""
-        own = self.text(is_main)
-        misread = Made("", own.count("\n"), Made("WrongArguments"))
-        PAGE.results_of_files["main_in" if is_main else "said_in", text(own)] = (
-            Made("Err", misread) if self.is_malformed else Made("Ok", self.said(is_main)))
+        misread = Made("", self.text.count("\n"), Made("WrongArguments"))
+        PAGE.results_of_files["main_in" if self.is_main else "said_in", text(self.text)] = (
+            Made("Err", misread) if self.is_malformed else Made("Ok", self.said()))
 
 
 class World:
@@ -103,7 +105,7 @@ class World:
                 self.files[folder,] = self.module_file(self.random.choice([None, MAIN, *PATHS]))
         if self.is_sound or self.chance(0.9):
             self.files[MAIN, "v1.0.0"] = self.module_file(MAIN)
-        self.main = File(MAIN, self.go(), [self.module() for _ in range(self.random.randint(1, 3))])
+        self.main = File(MAIN, self.go(), [self.module() for _ in range(self.random.randint(1, 3))], is_main=True)
         self.main.excludes = [self.module() for _ in range(self.random.choice([0, 0, 1, 2, 3]))]
         if self.chance(0.15):
             self.require_twice()
@@ -168,7 +170,7 @@ class World:
     def add_sums(self):
         """Makes a go.sum, or none, with some lines left out, wrong, doubled or invalid; the main file may be so, too."""
         if self.chance(0.45):
-            self.sums = {name: [hash_of(file.text())] for name, file in self.files.items() if len(name) == 2}
+            self.sums = {name: [hash_of(file.text)] for name, file in self.files.items() if len(name) == 2}
             for name, hashes in self.sums.items():
                 file, other = self.files[name], hash_of("other")
                 if self.chance(0.7 if file.is_malformed or file.declared != name[0] else 0.03):
@@ -186,11 +188,11 @@ class World:
         os.mkdir(f"{room}/proxy")
         for name, file in self.files.items():
             path = f"{room}/{name[0]}/go.mod" if len(name) == 1 else f"{room}/proxy/{name[0]}/@v/{name[1]}.mod"
-            write(path, file.text())
+            write(path, file.text)
         if self.sums is not None:
             write(f"{room}/go.sum", self.sums_text)
             words += ["--sum", f"{room}/go.sum"]
-        write(f"{room}/go.mod", self.main.text(True))
+        write(f"{room}/go.mod", self.main.text)
         words += ["--after", self.after] if self.after else []
         return words + (["--limit", str(self.limit)] if self.limit else [])
 
@@ -198,20 +200,20 @@ class World:
 def expected(world):
     """The outcomes by the definitions: what is printed, what is reported, and the status."""
     PAGE.results, PAGE.results_of_files = {}, {}
-    world.main.teach(True)
+    world.main.teach()
     for file in world.files.values():
         file.teach()
     if world.sums is not None:
-        texts = {hash_of(it): it for it in ["other", *(file.text() for file in world.files.values())]}
+        texts = {hash_of(it): it for it in ["other", *(file.text for file in world.files.values())]}
         lines = [(*name, texts[it]) for name, all in world.sums.items() for it in all]
         said = Made("Err", text(world.bad_sum)) if world.bad_sum else Made("Ok", value(lines))
         PAGE.results_of_files["sums_in", text(world.sums_text)] = said
-    contents = {named(name, "folder_file", "mod_file"): text(file.text()) for name, file in world.files.items()}
+    contents = {named(name, "folder_file", "mod_file"): text(file.text) for name, file in world.files.items()}
 
     def run(names):
         asked = [(it, Made("bytes", contents[it]) if it in contents else Made("absent")) for it in names or ()]
         sums = option(None if world.sums is None else world.sums_text)
-        return value({"file": world.main.text(True), "sums": sums, "answers": {"asked": asked, "failed": []}})
+        return value({"file": world.main.text, "sums": sums, "answers": {"asked": asked, "failed": []}})
 
     found = PAGE.outcomes(option(world.after), option(world.limit), run(PAGE.needed(run(contents))))
     return [(*(bytes(it.part(field)).decode() for field in ("text", "report")), it.part("status")) for it in found]
