@@ -59,7 +59,7 @@ pub enum FileFault {
 }
 
 /// Why a line was not read.
-#[derive(Clone, Copy, Debug, PartialEq, Eq)]
+#[derive(Clone, Copy)]
 pub enum LineFault {
     /// Memory ran out.
     NoMemory,

@@ -40,7 +40,7 @@ impl Right {
 }
 
 /// A `replace`: a module, or one version of it, and its replacement (Go Modules Reference, replace directive).
-#[derive(Debug, Drop, PartialEq, Eq)]
+#[derive(Drop, PartialEq, Eq)]
 pub struct Replace {
     /// The path of the replaced module.
     pub left: ModPath,
@@ -52,7 +52,7 @@ pub struct Replace {
 
 /// An interval of retracted versions, by precedence (Go Modules Reference, retract directive). Both ends belong to it.
 /// It is empty if `high` precedes `low`.
-#[derive(Debug, Drop, PartialEq, Eq)]
+#[derive(Drop, PartialEq, Eq)]
 pub struct Interval {
     /// The lowest retracted version.
     pub low: ModVersion,

@@ -10,7 +10,7 @@ use gm_syntax::{Kind, Token};
 
 /// How a file is read (Go Modules Reference, go.mod files): strictly, as the main file, or laxly, as a dependency's
 /// file.
-#[derive(Clone, Copy, Debug, PartialEq, Eq)]
+#[derive(Clone, Copy)]
 pub enum Mode {
     /// Every verb must be known, and every entry well-formed.
     Strict,
@@ -20,7 +20,7 @@ pub enum Mode {
 }
 
 /// The verb of an entry, as far as reading distinguishes them.
-#[derive(Clone, Copy, Debug, PartialEq, Eq)]
+#[derive(Clone, Copy)]
 pub enum Verb {
     /// `module`.
     Module,

@@ -14,7 +14,7 @@ use crate::sorting::put_in_order;
 
 /// A step that edges leave, and where the vertices are that they lead to. The number of a vertex is its place in a list
 /// of vertices.
-#[derive(Clone, Copy, Debug, Drop, PartialEq, Eq)]
+#[derive(Clone, Copy, Drop)]
 pub struct Source {
     /// The number of the vertex that the edges leave, or `None` for the main module.
     pub from: Option<u32>,

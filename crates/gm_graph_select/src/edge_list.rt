@@ -94,7 +94,7 @@ impl<'a> Iterator for Pairs<'a> {
 }
 
 /// An edge that a graph lends.
-#[derive(Clone, Copy, Debug, PartialEq, Eq)]
+#[derive(Clone, Copy)]
 pub struct EdgeRef<'a> {
     /// The module that requires, or `None` for the main module.
     pub from: Option<&'a ModVer>,

@@ -13,7 +13,7 @@ use crate::adjacency::rank_list;
 use std::marker::Model;
 
 /// A part of a list of numbers: those from `start` up to, not including, `end`.
-#[derive(Clone, Copy, Debug, Drop, PartialEq, Eq)]
+#[derive(Clone, Copy, Drop)]
 pub struct Span {
     /// The place of the first number.
     pub start: u32,

@@ -24,7 +24,7 @@ use std::alloc::{AllocError, Global};
 use std::mem;
 
 /// A visit to a step. Visits are ordered by the number of the step first, which the field order decides.
-#[derive(Clone, Copy, Debug, Drop, PartialEq, Eq, PartialOrd, Ord)]
+#[derive(Clone, Copy, Drop, PartialEq, Eq, PartialOrd, Ord)]
 pub(crate) struct Visit {
     /// The number of the step.
     pub(crate) number: usize,

@@ -81,9 +81,8 @@ impl Ord for Step {
     }
 }
 
-/// An edge of the module graph: a step, and a vertex that its file requires. Edges are ordered by the step that
-/// they leave, and then by the vertex that they lead to.
-#[derive(Debug, Drop, PartialEq, Eq, PartialOrd, Ord)]
+/// An edge of the module graph: a step, and a vertex that its file requires.
+#[derive(Drop, PartialEq, Eq)]
 pub struct Edge {
     /// The step whose file has the requirement.
     pub from: Step,

@@ -4,7 +4,7 @@ ghost use Rattle.std.specs.Prelude.{◌≡◌};
 ghost use Rattle.gm_operation.specs.Operations.{operation_named};
 
 /// What the name of an operation says.
-#[derive(Clone, Copy, Debug, PartialEq, Eq)]
+#[derive(Clone, Copy)]
 pub enum OperationKind {
     /// `module`: set the module path.
     Module,

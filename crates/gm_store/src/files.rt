@@ -22,7 +22,7 @@ use thiserror::Error;
 
 /// The name of a file that is requested from a store. Names are equal if they are of the same kind, with equal texts
 /// (the law `names_are_equal_by_text`). The maps of memory stores use the derived order.
-#[derive(Debug, Drop, PartialEq, Eq, PartialOrd, Ord, Hash)]
+#[derive(Debug, Drop, PartialEq, Eq, PartialOrd, Ord)]
 pub enum FileName {
     /// The `.mod` file of a module at a version.
     Mod(ModPath, ModVersion),
@@ -33,7 +33,7 @@ pub enum FileName {
 }
 
 /// A store's answer to a request.
-#[derive(Debug, Drop, PartialEq, Eq)]
+#[derive(Drop, PartialEq, Eq)]
 pub enum Answer {
     /// The file's bytes, at most `LIMIT` (16 MiB).
     Bytes(Vec<u8>),

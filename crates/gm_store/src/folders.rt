@@ -19,7 +19,7 @@ use crate::folders::buffers::Buffers;
 use gm_name::NoMemory;
 
 /// The result of a lookup in one folder.
-#[derive(Debug, Drop, PartialEq, Eq)]
+#[derive(Drop)]
 pub enum Looked {
     /// The file's bytes, at most `LIMIT`.
     Found(Vec<u8>),

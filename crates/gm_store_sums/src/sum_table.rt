@@ -49,7 +49,7 @@ impl From<AllocError> for SumFault {
 }
 
 /// What a table says about the hash of a file.
-#[derive(Clone, Copy, Debug, PartialEq, Eq)]
+#[derive(Clone, Copy, Debug)]
 pub enum Sum {
     /// The table lists this hash and no other.
     Good,
@@ -60,7 +60,7 @@ pub enum Sum {
 }
 
 /// A line of a table: the hash of the go.mod of a module at a version. Its fields are slices of the go.sum.
-#[derive(Clone, Copy, Debug, PartialEq, Eq, PartialOrd, Ord)]
+#[derive(Clone, Copy, PartialEq, Eq, PartialOrd, Ord)]
 pub struct SumLine<'a> {
     /// The module's path.
     pub path: &'a [u8],
@@ -72,7 +72,7 @@ pub struct SumLine<'a> {
 
 /// The hashes of go.mod files that a go.sum lists. It borrows from the bytes of the go.sum. A clause sees it as the
 /// list of its lines.
-#[derive(Debug, Drop)]
+#[derive(Drop)]
 pub struct SumTable<'a> {
     /// The lines in the order of their paths, versions and hashes.
     lines: Vec<SumLine<'a>>,

@@ -6,7 +6,7 @@ ghost use Rattle.gomod_run.specs.Program.{ending_code};
 use crate::reports::status::Status;
 
 /// How the program ends: as a run does, or with a usage error.
-#[derive(Clone, Copy, Debug, PartialEq, Eq)]
+#[derive(Clone, Copy)]
 pub enum Ending {
     /// A run, help or the version.
     Run(Status),

@@ -26,7 +26,7 @@ use thiserror::Error;
 pub(crate) type Read = Result<(Command, Places), UsageFault>;
 
 /// What the program is asked to do.
-#[derive(Debug, Drop)]
+#[derive(Drop)]
 pub enum Command {
     /// `fmt FILE`: print the layout of a go.mod file.
     Fmt,
@@ -55,7 +55,7 @@ pub enum Command {
 }
 
 /// The files and folders that the words name.
-#[derive(Debug, Drop)]
+#[derive(Drop)]
 pub struct Places {
     /// The name of the main file: `go.mod` unless the words name another.
     pub main: String,

@@ -26,7 +26,7 @@ use gm_name::{ModVer, NoMemory};
 use gm_store::{Asks, FileName};
 
 /// What is known of a vertex.
-#[derive(Debug, Drop, PartialEq, Eq)]
+#[derive(Drop)]
 pub enum Known {
     /// The vertex has this fault.
     Fault(Class),

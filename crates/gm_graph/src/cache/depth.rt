@@ -6,7 +6,7 @@
 use gm_name::ModVer;
 
 /// How far the requirements of a vertex are followed.
-#[derive(Clone, Copy, Debug, PartialEq, Eq, PartialOrd, Ord)]
+#[derive(Clone, Copy)]
 pub enum Depth {
     /// The main file requires the vertex. Its requirements are followed only if its own file is unpruned.
     Top,
@@ -15,7 +15,7 @@ pub enum Depth {
 }
 
 /// A vertex whose requirements were requested, and the depth of that request.
-#[derive(Debug, Drop, PartialEq, Eq, PartialOrd, Ord)]
+#[derive(Drop)]
 pub struct Turn {
     /// The module path at a version.
     pub vertex: ModVer,

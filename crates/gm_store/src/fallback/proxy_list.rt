@@ -12,7 +12,7 @@ use thiserror::Error;
 
 /// The separator between two folders of a proxy list. It decides when a lookup falls back to the next folder (Go
 /// Modules Reference, GOPROXY).
-#[derive(Clone, Copy, Debug, PartialEq, Eq)]
+#[derive(Clone, Copy)]
 pub enum Mark {
     /// `,`: the lookup falls back if the file is absent.
     Comma,
@@ -40,7 +40,7 @@ impl From<AllocError> for ProxyFault {
 }
 
 /// One or more proxy folders, with a mark between each two.
-#[derive(Debug, Drop, PartialEq, Eq)]
+#[derive(Drop)]
 pub struct ProxyList {
     /// The folders, in order; at least one.
     pub folders: Vec<String>,

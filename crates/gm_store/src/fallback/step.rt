@@ -9,7 +9,7 @@ use crate::fallback::proxy_list::Mark;
 use crate::folders::Looked;
 
 /// What happens after a lookup in one folder.
-#[derive(Clone, Copy, Debug, PartialEq, Eq)]
+#[derive(Clone, Copy, Debug)]
 pub enum Next {
     /// Stop: this folder's answer is the answer to the request.
     Take,

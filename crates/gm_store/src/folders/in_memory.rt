@@ -9,7 +9,7 @@ use crate::folders::{FolderList, Looked};
 use gm_name::NoMemory;
 
 /// Folders in memory: the proxy folders, and the folder beside the main file.
-#[derive(Debug, Drop, PartialEq, Eq)]
+#[derive(Drop)]
 pub struct FoldersInMemory {
     /// The proxy folders, in order. They hold the files of modules.
     pub proxies: Vec<MemoryFolder>,

@@ -12,7 +12,7 @@ use std::alloc::Global;
 use std::collections::BTreeMap;
 
 /// A file of a folder in memory.
-#[derive(Debug, Drop, PartialEq, Eq)]
+#[derive(Drop)]
 pub enum Held {
     /// A readable file with these bytes. They may be longer than `LIMIT`.
     Content(Vec<u8>),
@@ -21,7 +21,7 @@ pub enum Held {
 }
 
 /// A folder in memory: a map from names to files.
-#[derive(Debug, Drop, PartialEq, Eq)]
+#[derive(Drop)]
 pub struct MemoryFolder {
     /// The files by name.
     held: BTreeMap<FileName, Held>,

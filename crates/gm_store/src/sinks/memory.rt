@@ -11,7 +11,7 @@ use std::alloc::Global;
 
 /// A sink in memory. Its memory is reserved at the start, so a write never runs out of memory. It fails only when
 /// it is full.
-#[derive(Debug, Drop)]
+#[derive(Drop)]
 pub struct MemorySink {
     /// The bytes taken so far.
     bytes: Vec<u8>,

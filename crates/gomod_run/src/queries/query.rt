@@ -3,7 +3,7 @@
 use gm_name::ModPath;
 
 /// A question about a module graph.
-#[derive(Clone, Copy, Debug, PartialEq, Eq)]
+#[derive(Clone, Copy)]
 pub enum Query<'a> {
     /// The edges of the graph.
     Graph,

@@ -11,7 +11,7 @@ use gm_name::{ModPath, ModVersion};
 use gm_store::FileName;
 
 /// Why an operation of `edit` is refused.
-#[derive(Clone, Copy, Debug, PartialEq, Eq)]
+#[derive(Clone, Copy)]
 pub enum Refusal {
     /// The text is not an operation.
     Spelling,
@@ -32,7 +32,7 @@ impl Refusal {
 }
 
 /// What is wrong, so that a command has no text to print. `write` gives the lines in the comments here.
-#[derive(Debug, Drop)]
+#[derive(Drop)]
 pub enum Report<'a> {
     /// `gomod: no memory`: memory ran out.
     NoMemory,

@@ -22,7 +22,7 @@ fn a_failing_store_refuses_one_ask(rt: HostRuntime) {
     let other = FileName::Folder(text(&rt, rt.alloc(), "../b"));
     store.ask(&name).expect(&rt, OUT_OF_MEMORY);
     let first = counts(&store);
-    let fault = store.ask(&other).expect_err(&rt, "the device fails");
+    let fault = store.ask(&other).err().expect(&rt, "the device fails");
     let second = counts(&store);
     store.ask(&other).expect(&rt, OUT_OF_MEMORY);
     let third = counts(&store);
