@@ -16,8 +16,8 @@ use Rattle.gm_file_edit.proofs.Filters.{fewer-any, filter-any, none-any, none-fi
 use Rattle.gm_file_edit.proofs.Insertions.{passing-level}
 use Rattle.gm_file_edit.proofs.Pairs.{AreRightFrom, IsRightLine, IsSound, held_from}
 use Rattle.gm_file_edit.proofs.Made.{IsRenewal, Makes}
-use Rattle.gm_file_edit.proofs.Said.{dropped-held, held-some, renewed-alone, renewed-others}
-use Rattle.gm_file_edit.proofs.Seats.{fewer-all, remaining-left}
+use Rattle.gm_file_edit.proofs.DirectivesAfter.{dropped-held, held-some, renewed-alone, renewed-others}
+use Rattle.gm_file_edit.proofs.KeptBlocks.{fewer-all, remaining-left}
 
 -- ---- the lines
 

@@ -30,7 +30,7 @@ use Rattle.gm_file_edit.specs.Sound.{AreVersions, IsPairOfNames, IsSoundEdit}
 use Rattle.gm_file_edit.proofs.Insertions.{IsAddition, IsNewTo, into-sound, by-put, entry_put, there-is}
 use Rattle.gm_file_edit.proofs.Filters.{fewer-any}
 use Rattle.gm_file_edit.proofs.Drops.{dropped-sound, renewed-sound}
-use Rattle.gm_file_edit.proofs.Feeds.{byte-feed, go-feed, path-feed, version-feed}
+use Rattle.gm_file_edit.proofs.NoLineFeeds.{byte-feed, go-feed, path-feed, version-feed}
 use Rattle.gm_file_edit.proofs.Made.{AreArguments, begins-path, made-stands, made-value, one-are, open-behind}
 use Rattle.gm_file_edit.proofs.Renewals.{go-says, put_by, renewal, replace-are, replace-says, wanted}
 use Rattle.gm_file_edit.proofs.Pairs.{IsSound, document-sound, held_from, sound-document}

@@ -8,7 +8,7 @@ pub mod Drops
 pub mod Packs
 pub mod Marks
 pub mod Targets
-pub mod Feeds
+pub mod NoLineFeeds
 pub mod Folders
 pub mod Written
 pub mod Made
@@ -16,8 +16,8 @@ pub mod Renewals
 pub mod AddingCode
 pub mod EditedSound
 pub mod Places
-pub mod Seats
-pub mod Said
+pub mod KeptBlocks
+pub mod DirectivesAfter
 pub mod Untouched
 pub mod KeyedChanges
 pub mod NewKeys

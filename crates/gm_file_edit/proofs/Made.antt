@@ -23,7 +23,7 @@ use Rattle.gm_file.specs.Faults.{directive_kinds, item_kinds, entry_kinds, is_mo
 use Rattle.gm_file_edit.specs.Holding.{directive_at, item_of}
 use Rattle.gm_file_edit.specs.NewWords.{made_word}
 use Rattle.gm_file_edit.specs.Renewing.{with_arguments, with_last}
-use Rattle.gm_file_edit.proofs.Feeds.{both-are}
+use Rattle.gm_file_edit.proofs.NoLineFeeds.{both-are}
 use Rattle.gm_file.specs.Pairwise.{do_clash}
 
 -- ---- what an operation puts in, and how a setting rewrites an entry

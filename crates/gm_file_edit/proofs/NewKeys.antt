@@ -21,7 +21,7 @@ use Rattle.gm_file_edit.proofs.Insertions.{entry_put, into-fits}
 use Rattle.gm_file_edit.proofs.Packs.{first-is, first_of}
 use Rattle.gm_file_edit.proofs.Pairs.{IsSound}
 use Rattle.gm_file_edit.proofs.Renewals.{put_by, renewal}
-use Rattle.gm_file_edit.proofs.Said.{held-some}
+use Rattle.gm_file_edit.proofs.DirectivesAfter.{held-some}
 use Rattle.gm_file_edit.proofs.Walking.{right-at}
 
 -- ---- what an operation puts in is what it targets

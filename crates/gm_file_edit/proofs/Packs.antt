@@ -10,7 +10,7 @@ use Rattle.gm_syntax.specs.Tokens.{Placed}
 use Rattle.gm_syntax.specs.Document.{Line, Blank, Comment, Open, Close, Entry}
 use Rattle.gm_file_edit.specs.Fates.{Fate, empties, fate_by, remaining, widened_from}
 use Rattle.gm_file_edit.specs.Private.Marks.{AreAtEntries, fates_of, line_at, unmarked}
-use Rattle.gm_file_edit.proofs.Seats.{kept-lines}
+use Rattle.gm_file_edit.proofs.KeptBlocks.{kept-lines}
 use Rattle.gm_file_edit.proofs.Untouched.{all-lines-stay, all_stay}
 use Rattle.gm_file_edit.proofs.Walking.{drop-next, line-here}
 

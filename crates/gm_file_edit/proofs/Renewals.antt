@@ -30,7 +30,7 @@ use Rattle.gm_file_edit.specs.Holding.{directive_at}
 use Rattle.gm_file_edit.specs.NewWords.{left_words, made_mark, made_word, replace_words, right_words}
 use Rattle.gm_file_edit.specs.Renewing.{made_new, with_arguments, with_last}
 use Rattle.gm_file_edit.specs.Sound.{AreVersions, IsPairOfNames, IsSoundEdit, IsSoundLeft, IsSoundRight, IsSoundVersion}
-use Rattle.gm_file_edit.proofs.Feeds.{byte-feed, go-feed, path-feed, version-feed, map-some}
+use Rattle.gm_file_edit.proofs.NoLineFeeds.{byte-feed, go-feed, path-feed, version-feed, map-some}
 use Rattle.gm_file_edit.proofs.Folders.{path-no-folder}
 use Rattle.gm_file_edit.proofs.Made.{AreArguments, IsFront, all-arguments, begins-path, entry-made, held-by, made-stands, made-value, one-are, one-argument, last-replaced, two-are, two-arguments, IsMadeNew, IsRenewal, IsWanted, Makes}
 use Rattle.gm_file_edit.proofs.Targets.{about-module, about-verb}

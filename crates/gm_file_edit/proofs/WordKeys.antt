@@ -14,7 +14,7 @@ use Rattle.gm_file.specs.Directives.{Strict, Directive, DeclaresModule, Declares
 use Rattle.gm_file.specs.Faults.{entry_kinds}
 use Rattle.gm_file.specs.Values.{argument, argument_of_kind}
 use Rattle.gm_file_edit.specs.Private.Keys.{Subject, held_subject, key_with, subject_of, texts_named}
-use Rattle.gm_file_edit.proofs.Feeds.{both-are, map-some}
+use Rattle.gm_file_edit.proofs.NoLineFeeds.{both-are, map-some}
 
 -- ---- one word
 

@@ -13,7 +13,7 @@ use Rattle.gm_operation.specs.declared.kind.OperationKind.{OperationKind}
 use Rattle.gm_operation.specs.declared.kind.OperationKind.TheVariants as op
 use Rattle.gm_file_edit.specs.Sound.{AreVersions, IsPairOfNames, IsSoundEdit, IsSoundLeft, IsSoundRight}
 use Rattle.std.proofs.lemmas.Option.{same_Some}
-use Rattle.gm_file_edit.proofs.Feeds.{if-some, if-other, both-are, map-some, then-some}
+use Rattle.gm_file_edit.proofs.NoLineFeeds.{if-some, if-other, both-are, map-some, then-some}
 
 -- a text that passes a test
 tested : (test : List ℕ → Bool) (text : List ℕ) {out : List ℕ} → (if test text then Some text else None) ≡ Some out → test out ≡ true

@@ -15,7 +15,7 @@ use Rattle.gm_file.specs.Directives.{Directive, block_after_line, block_after_li
 use Rattle.gm_file.specs.Faults.{is_go, is_module}
 use Rattle.gm_file_edit.specs.Holding.{directive_at, is_loose, is_there, passes}
 use Rattle.gm_file_edit_laws.specs.GoPlace.{GoFollowsModule, GoFollowsModuleBlock, IsFirstModule}
-use Rattle.gm_file_edit_laws.proofs.Said.{there-said}
+use Rattle.gm_file_edit_laws.proofs.EntryDirectives.{there-said}
 
 put-added : (edit : Edit) {entry : List ℕ × List Placed} (lines : List (Line Placed)) → new_entry edit ≡ Some entry
     → put_in edit lines ≡ with_addition entry.0 entry.1 lines

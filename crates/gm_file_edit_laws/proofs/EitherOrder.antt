@@ -16,7 +16,7 @@ use Rattle.gm_file_edit_laws.specs.Laws.{AreApart, EitherOrderLeavesTheSame, IsE
 use Rattle.gm_file_edit.specs.Kinds.{directive_added, directive_set}
 use Rattle.gm_file_edit.proofs.EditedSound.{edited-document}
 use Rattle.gm_file_edit.proofs.Filters.{any-filled, filter-filter, is_filled, no-filter, others}
-use Rattle.gm_file_edit_laws.proofs.SaidAfter.{added-is-there, dropped-is-gone, others-stay, set-stands-alone}
+use Rattle.gm_file_edit_laws.proofs.EditedDirectives.{added-is-there, dropped-is-gone, others-stay, set-stands-alone}
 use Rattle.gm_file_edit.proofs.Written.{written-sound}
 
 -- ---- filters

@@ -1,8 +1,8 @@
-pub mod Said
+pub mod EntryDirectives
 pub mod Dropped
-pub mod SaidAfter
+pub mod EditedDirectives
 pub mod EitherOrder
 pub mod Comments
 pub mod Additions
-pub mod Twice
-pub mod Undone
+pub mod SecondOperations
+pub mod UndoingDrops

@@ -211,8 +211,8 @@ module _ (lines : List SumLine) (path version hash : List ℕ) (start end : ℕ)
   ]
 
   -- the lines from start to end are for the path and version
-  pub stands_for : (y : SumLine) (k : ℕ) → slice_index_or lines k y ≡ y → start ≤ k → k < end → is_line_for path version (triple y) ≡ true
-  stands_for y k is low high =
+  pub line_in_range : (y : SumLine) (k : ℕ) → slice_index_or lines k y ≡ y → start ≤ k → k < end → is_line_for path version (triple y) ≡ true
+  line_in_range y k is low high =
       is_at path version (triple y)
       (ap (λ line. is_lt (key_cmp (triple line) (path, version))) (sym is) ∙ before.1 k y low (omega arith))
       (ap (λ line. is_le (key_cmp (triple line) (path, version))) (sym is) ∙ up_to.0 k y (omega arith) high)
@@ -232,7 +232,7 @@ module _ (lines : List SumLine) (path version hash : List ℕ) (start end : ℕ)
   listed : (y : SumLine) → slice_index_or lines start y ≡ y → start < end → list_any (is_line_for path version) (map triple lines) ≡ true
   listed y is some = any_map (is_line_for path version) triple lines ∙ true_from_ne_false _ (λ e.
       let none = any_none (λ line. is_line_for path version (triple line)) lines e y (start, omega arith, is) in
-      let never : true ≡ false = sym (stands_for y start is (omega arith) some) ∙ none in
+      let never : true ≡ false = sym (line_in_range y start is (omega arith) some) ∙ none in
       cc never)
 
   -- a line for the path and version with another hash
@@ -244,7 +244,7 @@ module _ (lines : List SumLine) (path version hash : List ℕ) (start end : ℕ)
       let found : list_any (is_other_hash path version hash) (map triple lines) ≡ true =
       any_map (is_other_hash path version hash) triple lines ∙ true_from_ne_false _ (λ e.
       let none = any_none (λ line. is_other_hash path version hash (triple line)) lines e y (k, omega arith, is) in
-      let both : is_other_hash path version hash (triple y) ≡ true = and_from _ _ (stands_for y k is low high) (ap not other) in
+      let both : is_other_hash path version hash (triple y) ≡ true = and_from _ _ (line_in_range y k is low high) (ap not other) in
       let never : true ≡ false = sym both ∙ none in
       cc never) in
       sym (ap (λ b. if not b then Unlisted else (if list_any (is_other_hash path version hash) (map triple lines)
@@ -259,8 +259,8 @@ module _ (lines : List SumLine) (path version hash : List ℕ) (start end : ℕ)
       → bytes_eq last.hash.now hash ≡ true → Good ≡ (if not (list_any (is_line_for path version) (map triple lines))
       then Unlisted else (if list_any (is_other_hash path version hash) (map triple lines) then Differs else Good))
   good first last order some is_first is_last same_first same_last =
-      let first_is : triple first ≡ (path, version, hash) = whole first (stands_for first start is_first (omega arith) some) same_first in
-      let last_is : triple last ≡ (path, version, hash) = whole last (stands_for last (end - 1) is_last (omega arith) (omega arith)) same_last in
+      let first_is : triple first ≡ (path, version, hash) = whole first (line_in_range first start is_first (omega arith) some) same_first in
+      let last_is : triple last ≡ (path, version, hash) = whole last (line_in_range last (end - 1) is_last (omega arith) (omega arith)) same_last in
       let none : list_any (is_other_hash path version hash) (map triple lines) ≡ false =
       any_map (is_other_hash path version hash) triple lines ∙ false_from_ne_true _ (λ e.
       let y = any_found (λ line. is_other_hash path version hash (triple line)) lines e in

@@ -35,7 +35,7 @@ use Rattle.gomod_laws.proofs.CounterLists.{a_is_not_b, b_one, each_of, rows_are}
 use Rattle.gomod_laws.proofs.FormattingProofs.{not_printed}
 use Rattle.gomod_laws.proofs.KnownVersions.{one_zero, one_zero_is}
 use Rattle.gomod_laws.proofs.ShownTexts.{same_text}
-use Rattle.gm_file_edit.proofs.Feeds.{path-plain}
+use Rattle.gm_file_edit.proofs.NoLineFeeds.{path-plain}
 
 -- ---- walks
 

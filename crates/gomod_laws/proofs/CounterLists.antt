@@ -37,7 +37,7 @@ use Rattle.gomod_laws.proofs.FormattingProofs.{not_printed}
 use Rattle.gomod_laws.proofs.KnownVersions.{one_one_is, one_one_is_above, one_zero_is}
 use Rattle.gomod_laws.proofs.PrintedRow.{limited_member, printed_rows, spread_main}
 use Rattle.gomod_laws.proofs.ShownTexts.{same_text}
-use Rattle.gm_file_edit.proofs.Feeds.{path-plain}
+use Rattle.gm_file_edit.proofs.NoLineFeeds.{path-plain}
 
 -- ---- lists of rows
 

@@ -19,7 +19,7 @@ use Rattle.gm_file_edit_laws.specs.Laws.{IsEditOf, directives_of}
 use Rattle.gm_file_edit_laws.specs.Undone.{undone_by}
 use Rattle.gm_file_edit_laws.proofs.EitherOrder.{either-order}
 use Rattle.gm_file_edit.proofs.Places.{edited-same}
-use Rattle.gm_file_edit_laws.proofs.Undone.{drop-undoes-layout}
+use Rattle.gm_file_edit_laws.proofs.UndoingDrops.{drop-undoes-layout}
 use Rattle.gm_file.specs.Main.{IsMainOf}
 use Rattle.gomod_run.specs.Queries.{longest}
 use Rattle.gomod_run.specs.Outcome.{text_outcome}

@@ -5,7 +5,7 @@ use Rattle.std.specs.Prelude.{String}
 use Rattle.gm_syntax.specs.Document.{Line}
 use Rattle.gm_syntax.specs.Tokens.{Placed}
 use Rattle.gm_file_edit.specs.Edited.{lines_after}
-use Rattle.gm_file_edit_laws.proofs.Twice.{second-operation}
+use Rattle.gm_file_edit_laws.proofs.SecondOperations.{second-operation}
 use Rattle.gomod_run.specs.Edit.{EditEnds, applied, bad_main}
 use Rattle.gomod_run.specs.Outcome.{Outcome}
 use Rattle.gomod_laws.proofs.FilesOnce.{edit_once}

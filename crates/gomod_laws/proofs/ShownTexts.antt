@@ -25,7 +25,7 @@ use Rattle.gomod_run.proofs.ListLines.{Lacks, both_lack, cut_at, has_it, path_ha
 use Rattle.gomod_run.proofs.RunNames.{run_has_names, run_has_proper_edges, run_has_proper_rows, run_has_proper_steps}
 use Rattle.gomod_run.proofs.PrintedList.{all_rows}
 use Rattle.gomod_laws.specs.Shown.{ShowsEdges, ShowsRows, ShowsSteps}
-use Rattle.gm_file_edit.proofs.Feeds.{path-plain}
+use Rattle.gm_file_edit.proofs.NoLineFeeds.{path-plain}
 
 -- ---- texts
 

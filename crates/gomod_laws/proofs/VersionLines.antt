@@ -8,7 +8,7 @@ use Rattle.gomod_run.proofs.ListLines.{version_has_no_blank, heads, tails}
 use Rattle.gomod_run.specs.Versions.{versions_line}
 use Rattle.gomod_laws.specs.VersionLaws.{LineSaysVersions}
 use Rattle.gomod_laws.proofs.PrintedRow.{IsStop, IsWhole, cut_whole}
-use Rattle.gm_file_edit.proofs.Feeds.{version-plain}
+use Rattle.gm_file_edit.proofs.NoLineFeeds.{version-plain}
 
 -- the versions, each after a blank
 abbrev spaced : List (List ℕ) → List ℕ

@@ -18,7 +18,7 @@ use Rattle.gm_graph_select.proofs.RankedLists.{from_mapped}
 use Rattle.gomod_run.specs.ListQuery.{list_text, replacement_suffix, replacement_text, row_text}
 use Rattle.gomod_run.specs.LineParts.{line}
 use Rattle.gomod_run.specs.PrintedLines.{AreAll, HasLines, IsProperRight, IsProperRow, LineIsOfOne, LineSaysOne, TextSaysAll}
-use Rattle.gm_file_edit.proofs.Feeds.{has-no, path-plain, version-plain}
+use Rattle.gm_file_edit.proofs.NoLineFeeds.{has-no, path-plain, version-plain}
 use Rattle.gm_file_edit.proofs.Folders.{begins-no-folder}
 
 -- ---- texts without a byte

@@ -1,4 +1,4 @@
-use Rattle.gm_file_edit_laws.proofs.SaidAfter.{idle-drop}
+use Rattle.gm_file_edit_laws.proofs.EditedDirectives.{idle-drop}
 use Rattle.gm_file_edit_laws.proofs.drops_of_nothing_change_nothing.Goals as goal
 
 pub returns : goal.returns

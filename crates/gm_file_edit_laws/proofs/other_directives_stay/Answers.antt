@@ -1,4 +1,4 @@
-use Rattle.gm_file_edit_laws.proofs.SaidAfter.{others-stay}
+use Rattle.gm_file_edit_laws.proofs.EditedDirectives.{others-stay}
 use Rattle.gm_file_edit_laws.proofs.other_directives_stay.Goals as goal
 
 pub returns : goal.returns

@@ -2,7 +2,7 @@ use Rattle.std.proofs.Common.{◌∙◌, refl}
 use Rattle.std.specs.String.{string_bytes}
 use Rattle.gm_file.specs.Views.{replace_view}
 use Rattle.gm_file_edit.specs.Edits.{Set, GoIs, RequireAt, ReplaceWith}
-use Rattle.gm_file_edit.proofs.Feeds.{go-feed}
+use Rattle.gm_file_edit.proofs.NoLineFeeds.{go-feed}
 use Rattle.gm_file_edit.proofs.NewKeys.{key-about, key-of-setting}
 use Rattle.gm_file_edit.proofs.applying.put_setting.Goals as goal
 

@@ -1,4 +1,4 @@
-use Rattle.gm_file_edit.proofs.Feeds.{version-plain}
+use Rattle.gm_file_edit.proofs.NoLineFeeds.{version-plain}
 use Rattle.gm_file_edit.proofs.new_words.push_marked.Goals as goal
 
 pub push_word-requires : goal.push_word-requires

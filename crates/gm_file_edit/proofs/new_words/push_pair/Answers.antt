@@ -1,4 +1,4 @@
-use Rattle.gm_file_edit.proofs.Feeds.{path-plain, version-plain}
+use Rattle.gm_file_edit.proofs.NoLineFeeds.{path-plain, version-plain}
 use Rattle.gm_file_edit.proofs.new_words.push_pair.Goals as goal
 
 pub push_word-requires : goal.push_word-requires

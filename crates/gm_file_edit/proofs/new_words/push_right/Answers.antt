@@ -4,7 +4,7 @@ use Rattle.gm_file.specs.declared.replace.Right.{Right}
 use Rattle.gm_file.specs.Directives.{Folder}
 use Rattle.gm_file.specs.Views.{right_view}
 use Rattle.gm_file_edit.specs.Sound.{IsSoundRight}
-use Rattle.gm_file_edit.proofs.Feeds.{byte-feed}
+use Rattle.gm_file_edit.proofs.NoLineFeeds.{byte-feed}
 use Rattle.gm_file_edit.proofs.new_words.push_right.Goals as goal
 
 pub push_word-requires : goal.push_word-requires

@@ -1,6 +1,6 @@
 use Rattle.std.proofs.Common.{refl, sym, ◌∙◌}
 use Rattle.gm_file_edit.proofs.Packs.{all-kept, at-count, pack-is}
-use Rattle.gm_file_edit.proofs.Seats.{in-blocks}
+use Rattle.gm_file_edit.proofs.KeptBlocks.{in-blocks}
 use Rattle.gm_file_edit.proofs.packing.pack.Goals as goal
 
 pub returns-then-not-has_mark : goal.returns-then-not-has_mark

@@ -1,5 +1,5 @@
 use Rattle.std.specs.String.{string_bytes}
-use Rattle.gm_file_edit.proofs.Feeds.{go-feed, path-plain, version-plain}
+use Rattle.gm_file_edit.proofs.NoLineFeeds.{go-feed, path-plain, version-plain}
 use Rattle.gm_file_edit.proofs.renewing.rewrite.Goals as goal
 
 pub set_last-requires : goal.set_last-requires

@@ -19,14 +19,14 @@ use Rattle.gm_file_edit.proofs.Insertions.{IsAddition, by-put, there-is}
 use Rattle.gm_file_edit.proofs.EditedSound.{says}
 use Rattle.gm_file_edit.proofs.Filters.{others, others-none, others-twice, any-filled, is_filled}
 use Rattle.gm_file_edit.proofs.Renewals.{put_by, renewal, wanted}
-use Rattle.gm_file_edit.proofs.Said.{dropped-held, renewed-alone, renewed-others}
+use Rattle.gm_file_edit.proofs.DirectivesAfter.{dropped-held, renewed-alone, renewed-others}
 use Rattle.gm_file_edit.proofs.Pairs.{IsSound, document-sound, held_from}
 use Rattle.gm_file_edit.proofs.Untouched.{by-edited}
 use Rattle.gm_file_edit.proofs.Written.{written-sound}
 use Rattle.std.proofs.lemmas.Option.{same_Some}
 use Rattle.gm_file_edit_laws.specs.EditLaws.{IdleAdditionChangesNothing, IdleDropChangesNothing, SecondAdditionChangesNothing, SecondDropChangesNothing}
 use Rattle.gm_file_edit_laws.proofs.Dropped.{edited-drop, none-dropped}
-use Rattle.gm_file_edit_laws.proofs.Said.{there-said, IsPutIn, into-said, put-alone, put-others, file-held}
+use Rattle.gm_file_edit_laws.proofs.EntryDirectives.{there-said, IsPutIn, into-said, put-alone, put-others, file-held}
 
 -- ---- if some entry is targeted
 

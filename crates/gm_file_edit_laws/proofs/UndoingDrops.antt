@@ -26,13 +26,13 @@ use Rattle.gm_file_edit.proofs.Insertions.{Fits, IsAddition, entry-fits, added-a
 use Rattle.gm_file_edit.proofs.EditedSound.{says}
 use Rattle.gm_file_edit.proofs.Filters.{fewer-any}
 use Rattle.gm_file_edit.proofs.Renewals.{pair-itself, put_by}
-use Rattle.gm_file_edit_laws.proofs.SaidAfter.{sound-of}
+use Rattle.gm_file_edit_laws.proofs.EditedDirectives.{sound-of}
 use Rattle.gm_file_edit.proofs.Pairs.{IsSound, block-append}
 use Rattle.gm_file_edit.proofs.Untouched.{all-lines-left, all_stay, stay-before, staying}
 use Rattle.std.proofs.lemmas.Option.{same_Some}
 use Rattle.gm_name.proofs.Texts.{bytes_eq-self}
 use Rattle.gm_file_edit_laws.proofs.Dropped.{edited-drop, none-dropped-from}
-use Rattle.gm_file_edit_laws.proofs.Said.{there-said}
+use Rattle.gm_file_edit_laws.proofs.EntryDirectives.{there-said}
 
 -- ---- the fates of the lines
 

@@ -12,7 +12,7 @@ use Rattle.gm_file_edit.specs.Holding.{directive_at, passes, is_there}
 use Rattle.gm_file_edit.proofs.Insertions.{passing-level}
 use Rattle.gm_file_edit.proofs.Filters.{filter-none, filter-one, none-of-others, others, others-twice}
 use Rattle.gm_file_edit.proofs.Made.{IsMadeNew, Makes}
-use Rattle.gm_file_edit.proofs.Seats.{fewer-held, remaining-left}
+use Rattle.gm_file_edit.proofs.KeptBlocks.{fewer-held, remaining-left}
 use Rattle.gm_file_edit.proofs.Pairs.{AreRightFrom, IsSound, held_from}
 
 -- ---- the directive that a line holds, if any, before others

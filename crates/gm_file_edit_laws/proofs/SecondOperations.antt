@@ -18,16 +18,16 @@ use Rattle.gm_file_edit.specs.NewWords.{entry_at, made_word, pair_words, replace
 use Rattle.gm_file_edit.specs.Renewing.{made_new, with_arguments, with_last}
 use Rattle.gm_file_edit_laws.specs.EditLaws.{SecondOperationChangesNothing, SecondSettingChangesNothing}
 use Rattle.gm_file_edit.proofs.Filters.{any-filled, none-any}
-use Rattle.gm_file_edit_laws.proofs.SaidAfter.{second-addition, second-drop, set-stands-alone}
+use Rattle.gm_file_edit_laws.proofs.EditedDirectives.{second-addition, second-drop, set-stands-alone}
 use Rattle.gm_file_edit.proofs.Insertions.{IsPutInto, by-put, entry_put, gap_lines, passing-level, there-is}
 use Rattle.gm_file_edit.proofs.Made.{last-replaced}
-use Rattle.gm_file_edit.proofs.Said.{past-held}
-use Rattle.gm_file_edit.proofs.Seats.{fewer-all, remaining-left}
+use Rattle.gm_file_edit.proofs.DirectivesAfter.{past-held}
+use Rattle.gm_file_edit.proofs.KeptBlocks.{fewer-all, remaining-left}
 use Rattle.gm_file.proofs.Snoc.{with_blocks-snoc}
 use Rattle.gm_file_edit.proofs.Pairs.{IsSound, document-sound, held_from}
 use Rattle.gm_file_edit.proofs.Untouched.{all-lines-stay, all_stay, by-edited}
 use Rattle.gm_file_edit_laws.proofs.Dropped.{none-dropped-from}
-use Rattle.gm_file_edit_laws.proofs.Said.{there-said, file-held}
+use Rattle.gm_file_edit_laws.proofs.EntryDirectives.{there-said, file-held}
 
 -- how an operation rewrites a line, given the verb of its block
 abbrev Rewriting : Type 0
