@@ -1,6 +1,6 @@
-use Rattle.std.proofs.Common.{◌≡◌, ◌⊎◌, ◌∷◌, ◌++◌, ◌<◌, ◌∙◌, ℕ, [], List, Contains, ap, arith, inl, inr, length, map, set, subst, sym}
-use Rattle.std.proofs.lemmas.List.{length-set}
-use Rattle.std.proofs.lemmas.List.Elements.{All-contains}
+use Rattle.std.proofs.Common.{◌≡◌, ◌⊎◌, ◌∷◌, ◌++◌, ◌<◌, ◌∙◌, ℕ, [], List, Contains, ap, append-nil, arith, get_or, inl, inr, length, map, refl, set, subst, sym}
+use Rattle.std.proofs.lemmas.List.{length-set, nil_from_length}
+use Rattle.std.proofs.lemmas.List.Elements.{All-contains, Contains-get_or}
 use Rattle.std.specs.Vec.Iter.{into_iter_items}
 use Rattle.gm_name.specs.ModuleVersion.{ModuleVersion}
 use Rattle.gm_graph_select.specs.declared.ranking.Numbered.{Numbered}
@@ -47,3 +47,44 @@ loop-next-preserved c =
           ⊎ Contains rest x) (sym c.in_ok-push.ensures.items)
           (subst (λ (rs : List ℕ). IsRanked (vertices ++ next.vertex ∷ []) rs x ⊎ Contains rest x) (sym made) kept);
     }
+
+pub loop-next-init : goal.loop-next-init
+loop-next-init c =
+    let all = c.args.all.items in
+    let gives = c.into_iter-next-iterator.ensures.into_iter_gives.0 in
+    record {
+      vertices = rw (c.in_ok-vertices.ensures.items, gives) refl;
+      count = omega (arith, c.in_ok-ranks.ensures.len, c.in_ok-ranks.ranks.ok);
+      rest = λ x h. subst (λ (xs : List Numbered). Contains xs x) gives h;
+      each = λ x there. inr (subst (λ (xs : List Numbered). Contains xs x) (sym gives) there);
+    }
+
+pub index_mut-requires : goal.index_mut-requires
+index_mut-requires c =
+    let so = c.loop-next.invariant in
+    let all = c.args.all.items in
+    let next = c.in-Some.next in
+    let rest = into_iter_items c.next.new.self in
+    let in_all = so.rest next (subst (λ (xs : List Numbered). Contains xs next) (sym c.in-Some.ensures.steps.0) (member_head next rest)) in
+    let low = All-contains (λ (one : Numbered). one.number < c.args.modules) all next c.requires.within in_all in
+    omega (arith, low, so.count, c.loop-next.ranks.ok)
+
+pub loop-next-smaller : goal.loop-next-smaller
+loop-next-smaller c = omega (arith, c.in-Some.ensures.steps.1)
+
+pub returns-clause-vertices : goal.returns-clause-vertices
+returns-clause-vertices c =
+    let vertices = c.loop-next.vertices.items in
+    let left = c.loop-next.next-iterator in
+    let none = nil_from_length (into_iter_items left) (sym left.rest.ok.0 ∙ c.in-None.ensures.steps.0) in
+    sym (append-nil vertices) ∙ ap (λ (xs : List Numbered). vertices ++ map (λ (one : Numbered). one.vertex) xs) (sym none)
+    ∙ c.loop-next.invariant.vertices
+
+pub returns-clause-ranks : goal.returns-clause-ranks
+returns-clause-ranks c = λ k d below.
+    let all = c.args.all.items in
+    let left = c.loop-next.next-iterator in
+    elim (c.loop-next.invariant.each (get_or all k d) (Contains-get_or all k d below)) [
+      | inl ranked ↦ ranked
+      | inr found ↦ absurd (omega (arith, found.1, left.rest.ok.0, c.in-None.ensures.steps.0))
+    ]

@@ -1,4 +1,5 @@
-use Rattle.std.proofs.Common.{◌≡◌, ◌∷◌, ◌++◌, ◌∙◌, [], List, ap, append_assoc, arith, refl, subst, sym, take}
+use Rattle.std.proofs.Common.{◌≡◌, ◌∷◌, ◌++◌, ◌∙◌, [], List, ap, append-nil, append_assoc, arith, refl, subst, sym, take}
+use Rattle.std.proofs.lemmas.List.{nil_from_length}
 use Rattle.std.specs.Vec.Iter.{into_iter_items}
 use Rattle.gm_name.specs.ModuleVersion.{ModuleVersion}
 use Rattle.gm_graph_select.specs.declared.ranking.Numbered.{Numbered}
@@ -24,3 +25,31 @@ loop-vertex-preserved c =
           (subst (λ (all : List Numbered). AreMarkedModules (front ++ vertex ∷ []) c.args.is_vertex.now all) (sym c.in_ok-push_marked.ensures)
           (next_numbered vertex so.numbered next (sym size) refl));
     }
+
+pub bounds-is_vertex-number : goal.bounds-is_vertex-number
+bounds-is_vertex-number c =
+    let so = c.loop-vertex.invariant in
+    let modules = c.args.modules.items in
+    let left = ap (λ (xs : List ModuleVersion). take c.loop-vertex.number modules ++ xs) (sym c.in-Some.ensures.steps.0) ∙ so.rest in
+    let (inside, _, _) = next_module modules (into_iter_items c.next.new.self) c.in-Some.vertex c.loop-vertex.number so.within left in
+    omega (arith, inside, c.requires.marks)
+
+pub overflow_add-number : goal.overflow_add-number
+overflow_add-number c =
+    let so = c.loop-vertex.invariant in
+    let modules = c.args.modules.items in
+    let left = ap (λ (xs : List ModuleVersion). take c.loop-vertex.number modules ++ xs) (sym c.in-Some.ensures.steps.0) ∙ so.rest in
+    let (inside, _, _) = next_module modules (into_iter_items c.next.new.self) c.in-Some.vertex c.loop-vertex.number so.within left in
+    omega (arith, inside, c.requires.few)
+
+pub loop-vertex-smaller : goal.loop-vertex-smaller
+loop-vertex-smaller c = omega (arith, c.in-Some.ensures.steps.1)
+
+pub returns : goal.returns
+returns c =
+    let so = c.loop-vertex.invariant in
+    let front = take c.loop-vertex.number c.args.modules.items in
+    let left = c.loop-vertex.vertex-iterator in
+    let none = nil_from_length (into_iter_items left) (sym left.rest.ok.0 ∙ c.in-None.ensures.steps.0) in
+    let whole = sym (append-nil front) ∙ ap (λ (xs : List ModuleVersion). front ++ xs) (sym none) ∙ so.rest in
+    subst (λ (xs : List ModuleVersion). AreMarkedModules xs c.args.is_vertex.now c.loop-vertex.all.items) whole so.numbered
