@@ -1,17 +1,21 @@
 -- From the fields of all lines to the fault and the invariant of a whole file.
-use Rattle.std.proofs.Common.{◌≡◌, ℕ, Bool, true, false, List, Option, Some, None, is_some, sym, ap, ◌∙◌}
+use Rattle.std.proofs.Common.{◌≡◌, ℕ, Bool, true, false, List, Option, Some, None, is_some, refl, sym, ap, ◌∙◌}
 use Rattle.std.specs.Prelude.{if◌then◌else◌, unwrap_or}
 use Rattle.std.specs.Option.{option_or}
 use Rattle.gm_name.specs.ModuleVersion.{ModuleVersion}
+use Rattle.gm_syntax.specs.Tokens.{Placed}
 use Rattle.gm_syntax.specs.Words.{Word}
 use Rattle.gm_syntax.specs.Document.{Line}
+use Rattle.gm_syntax.specs.LineViews.{plain_lines}
 use Rattle.gm_file.specs.declared.fault.DirectiveKind.TheVariants.{NoModule}
 use Rattle.gm_file.specs.declared.fields.Fields.{Fields}
 use Rattle.gm_file.specs.Directives.{Mode, Strict, Lax, directives}
 use Rattle.gm_file.specs.Faults.{Fault, fault_of, first_of, missing_module}
 use Rattle.gm_file.specs.Fields.{Dependency, dependency_of, go_of, module_of}
 use Rattle.gm_file.specs.Held.{AreMainFields}
+use Rattle.gm_file.specs.Main.{Main, main_of}
 use Rattle.gm_file.specs.Private.Holding.{AreRead}
+use Rattle.gm_file.specs.Views.{replace_views}
 
 only-missing : (mode : Mode) (lines : List (Line Word)) (f : Fields) → AreRead mode lines f → fault_of mode lines ≡ missing_module mode (directives mode lines)
 unfolding fault_of
@@ -28,18 +32,29 @@ none-declared lines f read none = missing-by lines f false read (ap is_some none
 pub main-sound : (lines : List (Line Word)) (f : Fields) (path : List ℕ) → AreRead Strict lines f → f.declared ≡ Some path → fault_of Strict lines ≡ None
 main-sound lines f path read is = missing-by lines f true read (ap is_some is)
 
-pub main-held : (lines : List (Line Word)) (f : Fields) (path : List ℕ) (go : ℕ × ℕ) → AreRead Strict lines f
-    → f.declared ≡ Some path → go ≡ unwrap_or f.go (1, 16)
-    → AreMainFields lines path go f.requirements.items f.excludes f.replaces f.retracts.items
+-- what a file with these fields says
+abbrev pub said-by : Fields → List ℕ → ℕ × ℕ → Main
+said-by f path go = record {
+  path = path;
+  go = go;
+  requirements = f.requirements.items;
+  excludes = f.excludes.lines.items;
+  replaces = replace_views f.replaces.lines.items;
+}
+
+main-said : (lines : List (Line Placed)) (f : Fields) (path : List ℕ) (go : ℕ × ℕ) → AreRead Strict (plain_lines lines) f
+    → f.declared ≡ Some path → go ≡ unwrap_or f.go (1, 16) → main_of lines ≡ said-by f path go
+main-said lines f path go read is go-is =
+    let declared : module_of Strict (plain_lines lines) ≡ Some path = read.holds.declared_is ∙ is in
+    let number : go_of Strict (plain_lines lines) ≡ go = ap (λ (o : Option (ℕ × ℕ)). unwrap_or o (1, 16)) read.holds.go_is ∙ sym go-is in
+    rw (declared, number, read.holds.requirements_are, read.holds.excludes_are, read.holds.replaces_are) refl
+
+pub main-held : (lines : List (Line Placed)) (f : Fields) (path : List ℕ) (go : ℕ × ℕ) → AreRead Strict (plain_lines lines) f
+    → f.declared ≡ Some path → go ≡ unwrap_or f.go (1, 16) → AreMainFields lines (said-by f path go) f.retracts.items
 main-held lines f path go read is go-is = record {
-  sound = main-sound lines f path read is;
-  module_is = read.holds.declared_is ∙ is;
-  go_is = ap (λ (o : Option (ℕ × ℕ)). unwrap_or o (1, 16)) read.holds.go_is ∙ sym go-is;
-  requirements_are = read.holds.requirements_are;
-  excludes_are = read.holds.excludes_are;
-  excludes_found = read.found.excludes;
-  replaces_are = read.holds.replaces_are;
-  replaces_found = read.found.replaces;
+  sound = main-sound (plain_lines lines) f path read is;
+  path_is = read.holds.declared_is ∙ is;
+  main_is = main-said lines f path go read is go-is;
   retracts_are = read.holds.retracts_are;
 }
 

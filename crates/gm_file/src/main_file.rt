@@ -11,13 +11,11 @@ ghost use Rattle.gm_file.specs.Main.{IsMainOf, is_excluded, is_pruned_by, main_o
 ghost use Rattle.gm_file.specs.Misreading.{IsBytesFault};
 ghost use Rattle.gm_file.specs.Views.{ReportsFault, interval_views, replace_views, right_view};
 
-use crate::exclusions::Exclusions;
 use crate::fault::{DirectiveKind, FileFault};
 use crate::fields::{Fields, read_lines};
-use crate::go_version::is_pruned;
+use crate::main_module::MainModule;
 use crate::misreading::BytesFault;
 use crate::replace::{Interval, Replace, Right};
-use crate::replacements::Replacements;
 use gm_name::{ModPath, ModVer};
 use gm_name_table::KnownNames;
 use gm_syntax::Doc;
@@ -35,16 +33,8 @@ const MOST_SHARED: usize = 1_024;
 pub struct MainFile<'a> {
     /// The document that was read.
     doc: Doc<'a>,
-    /// The path of the `module` directive.
-    declared: ModPath,
-    /// The first two numbers of the go version, or 1 and 16.
-    go: (u32, u32),
-    /// The modules of the `require` lines, in order.
-    requirements: Vec<ModVer>,
-    /// The modules of the `exclude` lines, in order, with their index.
-    excludes: Exclusions,
-    /// The `replace` lines, in order, with their index.
-    replaces: Replacements,
+    /// What it says, other than its retractions.
+    main: MainModule,
     /// The intervals of the `retract` lines, in order.
     retracts: Vec<Interval>,
 }
@@ -53,16 +43,13 @@ impl<'a> Model for MainFile<'a> {
     ghost use Rattle.std.specs.Prelude.{List};
     ghost use Rattle.gm_syntax.specs.Tokens.{Placed};
     ghost use Rattle.gm_syntax.specs.Document.{Line};
-    ghost use Rattle.gm_syntax.specs.LineViews.{plain_lines};
     ghost use Rattle.gm_file.specs.Held.{AreMainFields};
 
     ghost Value = { List (Line Placed) };
 
     ghost view = { λ f. f.doc };
 
-    ghost invariant = { λ f. AreMainFields
-        (plain_lines f.doc) f.declared f.go f.requirements.items f.excludes f.replaces
-        f.retracts.items };
+    ghost invariant = { λ f. AreMainFields f.doc f.main f.retracts.items };
 }
 
 impl<'a> MainFile<'a> {
@@ -116,13 +103,12 @@ impl<'a> MainFile<'a> {
                 kind: DirectiveKind::NoModule,
             });
         };
+        let go = go.unwrap_or((1, 16));
+        let requirements = requirements.into_pairs();
+        let main = MainModule::new(declared, go, requirements, excludes, replaces);
         Ok(MainFile {
             doc,
-            declared,
-            go: go.unwrap_or((1, 16)),
-            requirements: requirements.into_pairs(),
-            excludes,
-            replaces,
+            main,
             retracts,
         })
     }
@@ -143,12 +129,26 @@ impl<'a> MainFile<'a> {
         self.doc
     }
 
+    /// What the file says, other than its retractions.
+    pub fn main_module(&self) -> &MainModule
+        ensures { result.now ≡ main_of self.now }
+    {
+        &self.main
+    }
+
+    /// What the file says, other than its retractions, without the document. Takes no memory.
+    pub fn into_module(self) -> MainModule
+        ensures { result ≡ main_of self.entry }
+    {
+        self.main
+    }
+
     /// The path of the `module` directive.
     pub fn module(&self) -> &ModPath
         ensures declared { module_of Strict (plain_lines self.now) ≡ Some result.now }
         ensures path { result.now ≡ (main_of self.now).path }
     {
-        &self.declared
+        self.main.path()
     }
 
     /// The first two numbers of the `go` directive's version, or 1 and 16 if the file has no `go` directive (Go
@@ -156,7 +156,7 @@ impl<'a> MainFile<'a> {
     pub fn go(&self) -> (u32, u32)
         ensures { result ≡ (main_of self.now).go }
     {
-        self.go
+        self.main.go()
     }
 
     /// Whether the file is pruned by its go version, that is, whether the first two numbers are 1.17 or higher (Go
@@ -164,28 +164,28 @@ impl<'a> MainFile<'a> {
     pub fn is_pruned(&self) -> bool
         ensures { result ≡ is_pruned_by (main_of self.now).go }
     {
-        is_pruned(self.go)
+        self.main.is_pruned()
     }
 
     /// The modules of the `require` lines, in the order of the lines and with duplicates.
     pub fn requirements(&self) -> &[ModVer]
         ensures { result.now ≡ (main_of self.now).requirements }
     {
-        self.requirements.as_slice()
+        self.main.requirements()
     }
 
     /// The modules of the `exclude` lines, in the order of the lines and with duplicates.
     pub fn excludes(&self) -> &[ModVer]
         ensures { result.now ≡ (main_of self.now).excludes }
     {
-        self.excludes.as_slice()
+        self.main.excludes()
     }
 
     /// The `replace` lines, in order and with duplicates.
     pub fn replaces(&self) -> &[Replace]
         ensures { replace_views result.now ≡ (main_of self.now).replaces }
     {
-        self.replaces.as_slice()
+        self.main.replaces()
     }
 
     /// The intervals of the `retract` lines, in the order of the lines and with duplicates. A single version is an
@@ -204,7 +204,7 @@ impl<'a> MainFile<'a> {
     pub fn replacement(&self, pair: &ModVer) -> Option<&Right>
         ensures { option_map (λ right. right_view right.now) result ≡ replacement_in (main_of self.now) pair.now }
     {
-        self.replaces.replacement(pair)
+        self.main.replacement(pair)
     }
 
     /// Whether an `exclude` line names that path and version (Go Modules Reference, exclude directive).
@@ -213,6 +213,6 @@ impl<'a> MainFile<'a> {
     pub fn excluded(&self, pair: &ModVer) -> bool
         ensures { result ≡ is_excluded (main_of self.now) pair.now }
     {
-        self.excludes.contains(pair)
+        self.main.excluded(pair)
     }
 }

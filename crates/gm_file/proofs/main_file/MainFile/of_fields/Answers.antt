@@ -8,9 +8,9 @@ returns-in_default-clause-fault c = none-declared (plain_lines c.args.doc) c.arg
 
 pub invariant_of-result : goal.invariant_of-result
 invariant_of-result c =
-    rw c.into_pairs.ensures
-    (main-held (plain_lines c.args.doc) c.args.fields c.in-Some.declared c.unwrap_or.result c.requires.read c.in-Some.is
-    c.unwrap_or.ensures)
+    rw (c.new-main.ensures, c.into_pairs-requirements.ensures)
+    (main-held c.args.doc c.args.fields c.in-Some.declared c.unwrap_or-go.result c.requires.read c.in-Some.is
+    c.unwrap_or-go.ensures)
 
 pub returns-clause-ok : goal.returns-clause-ok
 returns-clause-ok c =
