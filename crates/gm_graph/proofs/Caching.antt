@@ -9,7 +9,6 @@ use Rattle.gm_graph.specs.declared.cache.visit.Visit.{Visit}
 use Rattle.gm_graph.specs.declared.cache.visit.Visit.TheVariants as visit
 use Rattle.gm_graph.specs.Cached.{HoldsSame, file_count, run_in, table_in, turns_in}
 use Rattle.gm_graph.specs.Private.Cached.{Follows, module_numbered}
-use Rattle.gm_file.specs.Main.{main_of}
 use Rattle.gm_graph.specs.Private.CacheVisits.{HasVisited, IsVisit}
 use Rattle.gm_graph.specs.Turns.{turn}
 use Rattle.gm_graph.proofs.Growing.{number_stays}
@@ -23,7 +22,7 @@ module _ (old mid new : Cache) (earlier pairs : List (Name × Reply)) (made : Fo
   follows_still : Follows old earlier new pairs
   follows_still = record {
     knows = knows_still pairs holds made.knows;
-    main = ap main_of holds.main ∙ made.main;
+    main = holds.main ∙ made.main;
     sums = holds.sums ∙ made.sums;
     numbered = (made.numbered.0, modules ∙ made.numbered.1);
     stays = rw (same_run mid new pairs holds.main holds.sums) made.stays;

@@ -13,7 +13,7 @@ use Rattle.gm_name_table.proofs.Listed.{begins_after}
 use Rattle.gm_graph.specs.declared.cache.Cache.{Cache}
 use Rattle.gm_graph.specs.declared.cache.summary.Kept.{Kept}
 use Rattle.gm_graph.specs.declared.cache.summary.ListSpan.{ListSpan}
-use Rattle.gm_file.specs.Main.{Main, main_of}
+use Rattle.gm_file.specs.Main.{Main}
 use Rattle.gm_graph.specs.Reading.{file_of}
 use Rattle.gm_graph.specs.FileTable.{kept_at}
 use Rattle.gm_graph.specs.Private.FileTable.{KeepsFiles, KeepsOthers}
@@ -65,7 +65,7 @@ pub sound_still : (old new : Cache) (earlier later : Run) → new.main.now ≡ o
     → ((name : Name) (one : Kept) → summary_at old name ≡ Some one → summary_at new name ≡ Some one)
     → KeepsSayings earlier later → KeepsSound old earlier new later
 sound_still old new earlier later main files stay keeps x place sound =
-    let same : main_in new ≡ main_in old = ap main_of main in
+    let same : main_in new ≡ main_in old = main in
     let one = kept_there (summary_at old (file_of (main_in old) x)) sound.span sound.listed in
     record {
       within = omega (arith, sound.within, ap length files.1, length-append old.files.files.items files.0);
@@ -146,7 +146,7 @@ sound_same old new pairs same =
 pub follows_same : {old new : Cache} {pairs : List (Name × Reply)} → HoldsSame old new → Knows old pairs → Follows old pairs new pairs
 follows_same {old} {new} {pairs} same knows = record {
   knows = knows_still pairs same knows;
-  main = ap main_of same.main;
+  main = same.main;
   sums = same.sums;
   numbered = same.numbered;
   stays = λ x said says. rw (same_run old new pairs same.main same.sums) says;

@@ -15,7 +15,7 @@ use Rattle.gm_graph.specs.declared.cache.depth.Turn.{Turn}
 use Rattle.gm_graph.specs.declared.cache.summary.Kept.{Kept}
 use Rattle.gm_graph.specs.declared.cache.summary.ListSpan.{ListSpan}
 use Rattle.gm_graph.specs.declared.cache.Cache.{Cache}
-use Rattle.gm_file.specs.Main.{Main, main_of, without_excluded}
+use Rattle.gm_file.specs.Main.{Main, without_excluded}
 use Rattle.gm_graph.specs.FileTable.{kept_at}
 use Rattle.gm_graph.specs.Held.{HoldsAnswers, held_under}
 use Rattle.gm_graph.specs.Reading.{file_of}
@@ -26,7 +26,7 @@ use Rattle.gm_graph.specs.contracts.cache.Cache.{the_row}
 
 -- the main file of a cache
 abbrev pub main_in : Cache → Main
-main_in cache = main_of cache.main.now
+main_in cache = cache.main.now
 
 -- the go.sum of a cache, if it has one
 abbrev pub sums_in : Cache → Option Sums

@@ -37,7 +37,7 @@ ghost use Rattle.gm_store.specs.Requests.{refused_for};
 ghost use Rattle.gm_store.specs.States.{AddsAnswer};
 ghost use Rattle.gm_store.specs.declared.files.FileName.{FileName};
 ghost use Rattle.gm_file.specs.Listed.{with_requirements};
-ghost use Rattle.gm_file.specs.Main.{main_of, without_excluded};
+ghost use Rattle.gm_file.specs.Main.{without_excluded};
 ghost use Rattle.gm_graph.specs.Private.Asking.{AsksOne, IsAskableFile, IsLoadFaultOf};
 ghost use Rattle.gm_graph.specs.Reading.{IsFileReading, file_of};
 ghost use Rattle.gm_graph.specs.Places.{place_limit};
@@ -60,7 +60,7 @@ use crate::cache::reading::{ListedReading, read_answer};
 use crate::cache::summary::{Kept, ListSpan, Summary, summary_of};
 use crate::cache::turn_history::TurnHistory;
 use crate::cache::visit::{Said, Visit};
-use gm_file::{ListedFile, MainFile};
+use gm_file::{ListedFile, MainModule};
 use gm_name::NoMemory;
 use gm_name_table::{KnownNames, ModuleList};
 use gm_store::{Answer, AskFault, Asks, FileName};
@@ -75,7 +75,7 @@ pub struct Cache<'a> {
     /// The allocator of all that the cache holds.
     alloc: Global,
     /// The main module's file.
-    main: &'a MainFile<'a>,
+    main: &'a MainModule,
     /// The go.sum, if there is one.
     sums: Option<&'a SumTable<'a>>,
     /// The paths and versions that the files share.
@@ -92,17 +92,17 @@ pub struct Cache<'a> {
     turns: TurnHistory,
     /// The name of the file of the last request that was refused.
     failed: Option<FileName>,
-    ghost consistent: { IsConsistent (main_of main.now) (option_copied sums) first modules files } by { Prim.hlevel (props, order_is_fact) },
+    ghost consistent: { IsConsistent main.now (option_copied sums) first modules files } by { Prim.hlevel (props, order_is_fact) },
 }
 
 /// Appends the modules that the main file requires, without the excluded ones, and learns the paths that it requires.
 fn add_first(
-    main: &MainFile,
+    main: &MainModule,
     names: &mut KnownNames,
     modules: &mut ModuleList,
 ) -> Result<(), NoMemory>
     ensures { OnOk result (modules_of modules.new
-        ≡ modules_of modules.old ++ without_excluded (main_of main.now) (main_of main.now).requirements) }
+        ≡ modules_of modules.old ++ without_excluded main.now main.now.requirements) }
 {
     for y in main.requirements() {
         names.learn(y.path())?;
@@ -119,17 +119,17 @@ fn shared_summary(
     alloc: Global,
     lists: &mut ListIndex,
     modules: &mut ModuleList,
-    main: &MainFile,
+    main: &MainModule,
     files: &[Kept],
     file: ListedFile,
     start: usize,
 ) -> Result<Summary, NoMemory>
     requires few { length files.now < place_limit }
     requires start { start ≤ length modules.old.numbers }
-    requires listed { AreKeptIn (main_of main.now) (take start (modules_of modules.old)) files.now }
+    requires listed { AreKeptIn main.now (take start (modules_of modules.old)) files.now }
     ensures reading { IfOk result (λ summary. summary_reading (modules_of modules.new) (Kept.Valid summary)
         ≡ Ok (with_requirements file (drop start (modules_of modules.old)))) }
-    ensures listed { IfOk result (IsSummaryIn (main_of main.now) (modules_of modules.new) files.now) }
+    ensures listed { IfOk result (IsSummaryIn main.now (modules_of modules.new) files.now) }
     ensures order { IfOk result (λ summary.
         AreListsInOrder start (Kept.Valid summary ∷ []) (length modules.new.numbers)) }
     ensures grows { GrowsFrom start modules.old modules.new }
@@ -151,17 +151,17 @@ fn kept_of(
     alloc: Global,
     lists: &mut ListIndex,
     modules: &mut ModuleList,
-    main: &MainFile,
+    main: &MainModule,
     files: &[Kept],
     read: ListedReading,
     start: usize,
 ) -> Result<Kept, NoMemory>
     requires few { length files.now < place_limit }
     requires start { start ≤ length modules.old.numbers }
-    requires listed { AreKeptIn (main_of main.now) (take start (modules_of modules.old)) files.now }
+    requires listed { AreKeptIn main.now (take start (modules_of modules.old)) files.now }
     ensures reading { IfOk result (λ kept. summary_reading (modules_of modules.new) kept
         ≡ listed_reading (drop start (modules_of modules.old)) read) }
-    ensures listed { IfOk result (IsKeptIn (main_of main.now) (modules_of modules.new) files.now) }
+    ensures listed { IfOk result (IsKeptIn main.now (modules_of modules.new) files.now) }
     ensures order { IfOk result (λ kept. AreListsInOrder start (kept ∷ []) (length modules.new.numbers)) }
     ensures grows { GrowsFrom start modules.old modules.new }
 {
@@ -190,10 +190,10 @@ impl<'a> Cache<'a> {
     /// The paths that the main file requires are known from the start, since many files name them.
     pub fn new(
         alloc: Global,
-        main: &'a MainFile<'a>,
+        main: &'a MainModule,
         sums: Option<&'a SumTable<'a>>,
     ) -> Result<Cache<'a>, NoMemory>
-        ensures main { IfOk result (λ cache. main_in cache ≡ main_of main.entry.now) }
+        ensures main { IfOk result (λ cache. main_in cache ≡ main.entry.now) }
         ensures sums { IfOk result (λ cache. sums_in cache ≡ option_copied sums.entry) }
         ensures knows { IfOk result (λ cache. Knows cache []) }
         ensures turns { IfOk result (λ cache. turns_in cache ≡ []) }

@@ -41,6 +41,6 @@ pub use crate::cache::load_fault::LoadFault;
 pub use crate::cache::reading::FileReading;
 pub use crate::fault::Fault;
 pub use crate::loaded::Loaded;
-pub use crate::loading::load;
+pub use crate::loading::{load, load_module};
 pub use crate::rows::{Row, Rows};
 pub use gm_graph_select::{ChainFault, Edge, EdgeRef, Edges, NotListed, Step};

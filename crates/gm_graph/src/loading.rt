@@ -34,7 +34,7 @@ use crate::rows::build_list;
 use crate::starting::first_worklist;
 use crate::visiting::visit;
 use crate::worklist::{NumberedTurn, Worklist};
-use gm_file::MainFile;
+use gm_file::{MainFile, MainModule};
 use gm_name::ModVer;
 use gm_store::Asks;
 use gm_store_sums::SumTable;
@@ -44,11 +44,11 @@ use std::alloc::{AllocError, Global};
 /// Returns the worklist, and what was found.
 fn visit_all<F: Asks>(
     alloc: Global,
-    main: &MainFile<'_>,
+    main: &MainModule,
     cache: &mut Cache<'_>,
     files: &mut F,
 ) -> Result<(Worklist, Findings), LoadFault>
-    requires main { main_in cache.old ≡ main_of main.now }
+    requires main { main_in cache.old ≡ main.now }
     requires asked { (F.state files.old).asked ≡ [] }
     requires knows { Knows cache.old [] }
     requires lent { turns_in cache.old ≡ [] }
@@ -102,7 +102,7 @@ fn turn_list(
 /// The loaded graph of what was found: the vertices are sorted, and the build list is made of them.
 fn assemble(
     alloc: Global,
-    main: &MainFile,
+    main: &MainModule,
     parts: CacheParts,
     turns: Vec<NumberedTurn>,
     findings: Findings,
@@ -114,13 +114,13 @@ fn assemble(
     requires sources { (x : ModuleVersion)
         → Contains (sources_of parts.modules.items (steps_by parts findings.places.items)) (Of x)
         → IsEdgeEnd (among (edges_of parts.modules.items (steps_by parts findings.places.items))) x }
-    ensures main { IfOk result (λ loaded. loaded.main ≡ (main_of main.now).path) }
+    ensures main { IfOk result (λ loaded. loaded.main ≡ main.now.path) }
     ensures faults { IfOk result (λ loaded. AreFaultsOf parts.modules.items findings.faults.items loaded.faults) }
     ensures ascending { IfOk result (λ loaded. IsAscending edge_cmp loaded.edges) }
     ensures edges { IfOk result (λ loaded.
         HaveSame (edges_of parts.modules.items (steps_by parts findings.places.items)) loaded.edges) }
     ensures rows { IfOk result (λ loaded.
-        IsBuildList (main_of main.now).path (replacement_in (main_of main.now)) (among loaded.edges) loaded.rows) }
+        IsBuildList main.now.path (replacement_in main.now) (among loaded.edges) loaded.rows) }
     ensures turns { IfOk result (λ loaded. loaded.turns ≡ map (turn_of parts.modules.items) turns.items) }
 {
     let Findings { places, faults } = findings;
@@ -128,8 +128,39 @@ fn assemble(
     let faults = fault_list(alloc, &parts.modules, &faults)?;
     let graph = graph_of(alloc, parts, places)?;
     let rows = build_list(alloc, main, &graph)?;
-    let path = main.module().copy(alloc)?;
+    let path = main.path().copy(alloc)?;
     Ok(Loaded::new(path, faults, graph, rows, turns))
+}
+
+/// Loads the module graph of a main module, as `load` does. What its file says is enough, so that the file itself need not
+/// be held.
+pub fn load_module<F: Asks>(
+    alloc: Global,
+    main: &MainModule,
+    files: &mut F,
+    sums: Option<&SumTable>,
+) -> Result<Loaded, LoadFault>
+    requires { (F.state files.old).asked ≡ [] }
+    ensures loaded { IfOk result
+        (IsLoaded (run_of main.now (option_copied sums.entry) (F.state files.new).asked)
+        (names_in (F.state files.new).asked)) }
+    ensures too_many { result ≡ Err LoadFault.TooMany
+        → IsRead (run_of main.now (option_copied sums.entry) (F.state files.new).asked)
+        × AreTooMany (run_of main.now (option_copied sums.entry) (F.state files.new).asked) }
+    ensures asks { AskedInTurn (LoadingNeeds main.now (option_copied sums.entry))
+        (F.state files.new).asked }
+    ensures device { (name : FileName) → result ≡ Err (LoadFault.Device name)
+        → IsDue (run_of main.now (option_copied sums.entry) (F.state files.new).asked) (name_of name) }
+    ensures refused { (F.state files.new).refused ≡ (F.state files.old).refused ++ refused_in result }
+    ensures served { HasServed (F.may_answer files.old) (F.may_answer files.new)
+        (F.state files.old) (F.state files.new) }
+{
+    let mut cache = Cache::new(alloc, main, sums)?;
+    let found = visit_all(alloc, main, &mut cache, files);
+    // The cache is taken apart before a fault is returned, since a path that drops all of it takes long to prove.
+    let parts = cache.into_parts();
+    let (worklist, findings) = found?;
+    Ok(assemble(alloc, main, parts, worklist.into_turns(), findings)?)
 }
 
 /// Loads the module graph of a main module's file: finds the faults of the opened vertices, the edges of the graph
@@ -163,10 +194,5 @@ pub fn load<F: Asks>(
     ensures served { HasServed (F.may_answer files.old) (F.may_answer files.new)
         (F.state files.old) (F.state files.new) }
 {
-    let mut cache = Cache::new(alloc, main, sums)?;
-    let found = visit_all(alloc, main, &mut cache, files);
-    // The cache is taken apart before a fault is returned, since a path that drops all of it takes long to prove.
-    let parts = cache.into_parts();
-    let (worklist, findings) = found?;
-    Ok(assemble(alloc, main, parts, worklist.into_turns(), findings)?)
+    load_module(alloc, main.main_module(), files, sums)
 }

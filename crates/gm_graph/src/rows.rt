@@ -3,12 +3,12 @@
 ghost use Rattle.std.specs.Prelude.{◌≡◌, ◌∷◌, [], IfOk, map};
 ghost use Rattle.std.specs.Option.{option_map};
 ghost use Rattle.gm_file.specs.Views.{right_view};
-ghost use Rattle.gm_file.specs.Main.{main_of, replacement_in};
+ghost use Rattle.gm_file.specs.Main.{replacement_in};
 ghost use Rattle.gm_graph_select.specs.BuildList.{IsBuildList, entry_of, main_entry};
 ghost use Rattle.gm_graph.specs.Entries.{entries_of_rows, entry_of_row};
 ghost use Rattle.gm_graph_select.specs.Graph.{AreEnds, among};
 
-use gm_file::{MainFile, Right};
+use gm_file::{MainModule, Right};
 use gm_graph_select::{Graph, Selection, Step};
 use gm_name::ModVer;
 use std::alloc::{AllocError, Global};
@@ -22,10 +22,10 @@ pub type Rows<'a> = gm_graph_select::Rows<'a, Right>;
 /// A copy of the replacement of a vertex in the main file, if it has one.
 fn replacement_of(
     alloc: Global,
-    main: &MainFile<'_>,
+    main: &MainModule,
     vertex: &ModVer,
 ) -> Result<Option<Right>, AllocError>
-    ensures { IfOk result (λ right. option_map right_view right ≡ replacement_in (main_of main.now) vertex.now) }
+    ensures { IfOk result (λ right. option_map right_view right ≡ replacement_in main.now vertex.now) }
 {
     match main.replacement(vertex) {
         Some(right) => Ok(Some(right.copy(alloc)?)),
@@ -34,8 +34,8 @@ fn replacement_of(
 }
 
 /// The row of a vertex, with its replacement.
-fn row_of(alloc: Global, main: &MainFile<'_>, vertex: &ModVer) -> Result<Row, AllocError>
-    ensures { IfOk result (λ row. entry_of_row row ≡ entry_of (replacement_in (main_of main.now)) vertex.now) }
+fn row_of(alloc: Global, main: &MainModule, vertex: &ModVer) -> Result<Row, AllocError>
+    ensures { IfOk result (λ row. entry_of_row row ≡ entry_of (replacement_in main.now) vertex.now) }
 {
     let right = replacement_of(alloc, main, vertex)?;
     Ok(Row {
@@ -59,11 +59,11 @@ fn main_row(alloc: Global) -> Result<Vec<Row>, AllocError>
 /// The main module's row, followed by those of the selected modules with their replacements.
 fn rows_of(
     alloc: Global,
-    main: &MainFile<'_>,
+    main: &MainModule,
     selected: Selection<'_>,
 ) -> Result<Vec<Row>, AllocError>
     ensures { IfOk result (λ rows. entries_of_rows rows.items
-        ≡ main_entry ∷ map (entry_of (replacement_in (main_of main.now))) selected.entry) }
+        ≡ main_entry ∷ map (entry_of (replacement_in main.now)) selected.entry) }
 {
     let mut rows = main_row(alloc)?;
     for vertex in selected {
@@ -75,14 +75,14 @@ fn rows_of(
 /// The build list of a graph (Go Modules Reference, "Minimal version selection").
 pub(crate) fn build_list(
     alloc: Global,
-    main: &MainFile<'_>,
+    main: &MainModule,
     graph: &Graph,
 ) -> Result<Vec<Row>, AllocError>
     ensures { IfOk result (λ rows. AreEnds graph.now.vertices (among graph.now.edges)
-        → IsBuildList (main_of main.now).path (replacement_in (main_of main.now)) (among graph.now.edges)
+        → IsBuildList main.now.path (replacement_in main.now) (among graph.now.edges)
         (entries_of_rows rows.items)) }
 {
-    let selected = graph.selected(main.module());
+    let selected = graph.selected(main.path());
     let rows = rows_of(alloc, main, selected)?;
     Ok(rows)
 }

@@ -2,7 +2,7 @@
 
 ghost use Rattle.std.specs.Prelude.{◌≡◌, [], IfOk, Err};
 ghost use Rattle.gm_graph.specs.Cached.{main_in, run_in, table_in};
-ghost use Rattle.gm_file.specs.Main.{is_pruned_by, without_excluded, main_of};
+ghost use Rattle.gm_file.specs.Main.{is_pruned_by, without_excluded};
 ghost use Rattle.gm_graph.specs.Refusals.{refused_in};
 ghost use Rattle.gm_graph.specs.Private.Turns.{OverflowsWith, depth_by};
 ghost use Rattle.gm_graph.specs.Private.Visiting.{IsFirstWorklist};
@@ -11,12 +11,12 @@ use crate::cache::Cache;
 use crate::cache::depth::Depth;
 use crate::cache::load_fault::LoadFault;
 use crate::worklist::Worklist;
-use gm_file::MainFile;
+use gm_file::MainModule;
 use std::alloc::Global;
 
 /// The depth at which the requirements of the main file are opened.
-fn first_depth(main: &MainFile) -> Depth
-    ensures { result ≡ depth_by (is_pruned_by (main_of main.now).go) }
+fn first_depth(main: &MainModule) -> Depth
+    ensures { result ≡ depth_by (is_pruned_by main.now.go) }
 {
     if main.is_pruned() {
         Depth::Top
@@ -30,13 +30,13 @@ fn first_depth(main: &MainFile) -> Depth
 /// vertices.
 pub(crate) fn first_worklist(
     alloc: Global,
-    main: &MainFile,
+    main: &MainModule,
     cache: &Cache<'_>,
 ) -> Result<Worklist, LoadFault>
-    requires { main_in cache.now ≡ main_of main.now }
+    requires { main_in cache.now ≡ main.now }
     ensures first { IfOk result (IsFirstWorklist (run_in cache.now []) (table_in cache.now)) }
     ensures too_many { result ≡ Err LoadFault.TooMany
-        → OverflowsWith [] (without_excluded (main_of main.now) (main_of main.now).requirements) }
+        → OverflowsWith [] (without_excluded main.now main.now.requirements) }
     ensures not_refused { refused_in result ≡ [] }
 {
     let required = cache.first_requirements();

@@ -10,7 +10,7 @@ ghost use Rattle.gm_store.specs.Asked.{Name};
 use crate::cache::naming::right_name;
 use crate::cache::place_history::PlaceHistory;
 use crate::cache::summary::{Kept, ListSpan};
-use gm_file::MainFile;
+use gm_file::MainModule;
 use gm_name::NoMemory;
 use gm_name_table::OptionalPlace;
 use gm_store::FileName;
@@ -39,19 +39,19 @@ impl FileTable {
     ghost use Rattle.gm_store.specs.Asked.{name_of, same_name};
     ghost use Rattle.gm_graph.specs.FileTable.{kept_at, place_of};
     ghost use Rattle.gm_graph.specs.Private.FileTable.{PutsFile, IsNewFile, KeepsFiles, KeepsOthers, NotesFiles, NotesFor, ReachesAtMost, noted_for, replacing_place};
-    ghost use Rattle.gm_file.specs.Main.{Main, main_of};
+    ghost use Rattle.gm_file.specs.Main.{Main};
     ghost use Rattle.gm_name.specs.ModuleVersion.{ModuleVersion};
     ghost use Rattle.gm_name_table.specs.OptionalPlaces.{place_in};
     ghost use Rattle.gm_name_table.specs.declared.place.OptionalPlace.{OptionalPlace};
     ghost use Rattle.gm_graph.specs.Private.Summaries.{list_place, span_found};
 
     /// No files, for a main file with these replacements. The only refusal is `NoMemory`.
-    pub(crate) fn new(alloc: Global, main: &MainFile) -> Result<FileTable, NoMemory>
+    pub(crate) fn new(alloc: Global, main: &MainModule) -> Result<FileTable, NoMemory>
         ensures none { IfOk result (λ files. (name : Name) → kept_at files name ≡ None) }
         ensures files { IfOk result (λ files. files.files.items ≡ []) }
         ensures places { IfOk result (λ files. length files.places.items ≡ 0) }
         ensures notes { IfOk result (λ files. (modules : List ModuleVersion)
-            → NotesFiles (main_of main.now) modules files) }
+            → NotesFiles main.now modules files) }
     {
         let mut replacing = BTreeMap::new(alloc);
         for replace in main.replaces() {

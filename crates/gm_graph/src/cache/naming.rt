@@ -3,17 +3,16 @@
 ghost use Rattle.std.specs.Prelude.{◌≡◌, ℕ, List, IfOk, Some};
 ghost use Rattle.gm_file.specs.Views.{right_view};
 ghost use Rattle.gm_store.specs.Asked.{name_of};
-ghost use Rattle.gm_file.specs.Main.{main_of};
 ghost use Rattle.gm_graph.specs.Reading.{file_named, file_of, is_askable as may_be_asked};
 
-use gm_file::{MainFile, Right};
+use gm_file::{MainModule, Right};
 use gm_name::{ModVer, NoMemory};
 use gm_store::FileName;
 use std::alloc::Global;
 
 /// The name of the file of a vertex: that of its replacement, if there is one, or its own.
-pub(crate) fn file_name(alloc: Global, main: &MainFile, x: &ModVer) -> Result<FileName, NoMemory>
-    ensures { IfOk result (λ name. name_of name ≡ file_of (main_of main.now) x.now) }
+pub(crate) fn file_name(alloc: Global, main: &MainModule, x: &ModVer) -> Result<FileName, NoMemory>
+    ensures { IfOk result (λ name. name_of name ≡ file_of main.now x.now) }
 {
     match main.replacement(x) {
         None => Ok(FileName::Mod(x.path().copy(alloc)?, x.version().copy(alloc)?)),

@@ -5,10 +5,10 @@
 ghost use Rattle.std.specs.Prelude.{◌≡◌, Some, false};
 ghost use Rattle.gm_name.specs.ModuleVersion.{ModuleVersion};
 ghost use Rattle.gm_file.specs.Views.{right_view};
-ghost use Rattle.gm_file.specs.Main.{main_of, replacement_in};
+ghost use Rattle.gm_file.specs.Main.{replacement_in};
 ghost use Rattle.gm_graph.specs.Reading.{declares, is_right_path};
 
-use gm_file::{ListedFile, MainFile, Right};
+use gm_file::{ListedFile, MainModule, Right};
 use gm_name::{ModPath, ModVer};
 
 /// Whether a file declares this path.
@@ -22,8 +22,8 @@ fn declares(path: &ModPath, file: &ListedFile) -> bool
 }
 
 /// Whether a file declares a right path for a vertex. Nearly all declare the own path of the vertex, which is right.
-pub(crate) fn is_right_path(main: &MainFile, x: &ModVer, file: &ListedFile) -> bool
-    ensures { result ≡ is_right_path x.now (replacement_in (main_of main.now) x.now) file.now.declared }
+pub(crate) fn is_right_path(main: &MainModule, x: &ModVer, file: &ListedFile) -> bool
+    ensures { result ≡ is_right_path x.now (replacement_in main.now x.now) file.now.declared }
 {
     if declares(x.path(), file) {
         return true;

@@ -8,14 +8,14 @@ ghost use Rattle.std.specs.List.{list_any};
 ghost use Rattle.gm_name.specs.ModuleVersion.{ModuleVersion};
 ghost use Rattle.gm_name_table.specs.Listed.{Appends, modules_of};
 ghost use Rattle.gm_file.specs.Listed.{with_requirements};
-ghost use Rattle.gm_file.specs.Main.{is_excluded, without_excluded, main_of};
+ghost use Rattle.gm_file.specs.Main.{is_excluded, without_excluded};
 ghost use Rattle.gm_graph.specs.Private.Turns.{leads_on};
 ghost use Rattle.gm_graph.specs.Summaries.{at_span, own_span};
 ghost use Rattle.gm_graph.specs.Private.Summaries.{Grows, IsSummary, nowhere, same_list, span_found};
 
 use crate::cache::class::Class;
 use crate::cache::depth::Depth;
-use gm_file::{ListedFile, MainFile};
+use gm_file::{ListedFile, MainModule};
 use gm_name::{ModVer, NoMemory};
 use gm_name_table::{ModuleList, Modules};
 use std::alloc::Global;
@@ -62,15 +62,15 @@ pub(crate) enum Kept {
 }
 
 /// Whether one of these is excluded.
-fn has_excluded(main: &MainFile, mut list: Modules<'_>) -> bool
-    ensures { result ≡ list_any (is_excluded (main_of main.now)) list.entry }
+fn has_excluded(main: &MainModule, mut list: Modules<'_>) -> bool
+    ensures { result ≡ list_any (is_excluded main.now) list.entry }
 {
     list.any(|x| main.excluded(x))
 }
 
 /// Copies of those that are not excluded.
-fn copy_kept(alloc: Global, main: &MainFile, list: Modules<'_>) -> Result<Vec<ModVer>, NoMemory>
-    ensures { IfOk result (λ kept. kept.items ≡ without_excluded (main_of main.now) list.entry) }
+fn copy_kept(alloc: Global, main: &MainModule, list: Modules<'_>) -> Result<Vec<ModVer>, NoMemory>
+    ensures { IfOk result (λ kept. kept.items ≡ without_excluded main.now list.entry) }
 {
     let mut kept = Vec::new(alloc);
     for x in list {
@@ -97,7 +97,7 @@ fn append(modules: &mut ModuleList, more: &[ModVer]) -> Result<(), NoMemory>
 pub(crate) fn summary_of(
     alloc: Global,
     modules: &mut ModuleList,
-    main: &MainFile,
+    main: &MainModule,
     file: ListedFile,
     start: usize,
 ) -> Result<Summary, NoMemory>
@@ -105,7 +105,7 @@ pub(crate) fn summary_of(
     ensures file { IfOk result (λ summary. summary.file ≡ file) }
     ensures all { IfOk result (λ summary.
         at_span (modules_of modules.new) summary.all ≡ drop start (modules_of modules.old)) }
-    ensures kept { IfOk result (IsSummary (main_of main.now) (modules_of modules.new)) }
+    ensures kept { IfOk result (IsSummary main.now (modules_of modules.new)) }
     ensures begins { IfOk result (λ summary. start ≤ summary.kept.start) }
     ensures own { IfOk result (λ summary. summary.same_as ≡ None) }
     ensures grows { Grows modules.old modules.new }

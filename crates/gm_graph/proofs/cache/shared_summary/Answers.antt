@@ -2,13 +2,12 @@ use Rattle.std.proofs.Common.{ap}
 use Rattle.std.specs.Prelude.{Ok}
 use Rattle.gm_name_table.specs.Listed.{modules_of}
 use Rattle.gm_file.specs.Listed.{with_requirements}
-use Rattle.gm_file.specs.Main.{main_of}
 use Rattle.gm_graph.proofs.SharedLists.{all_within, cut_front, cut_grows, cut_same, front, own_listed, same_listed}
 use Rattle.gm_graph.proofs.cache.shared_summary.Goals as goal
 
 pub find-requires-clause-within : goal.find-requires-clause-within
 find-requires-clause-within c =
-    all_within (main_of c.args.main.now) c.args.modules.now c.args.start c.args.files.now c.requires.listed
+    all_within c.args.main.now c.args.modules.now c.args.start c.args.files.now c.requires.listed
 
 pub returns-in-Some-clause-reading : goal.returns-in-Some-clause-reading
 returns-in-Some-clause-reading c =
@@ -22,7 +21,7 @@ returns-in-Some-clause-reading c =
 pub returns-in-Some-clause-listed : goal.returns-in-Some-clause-listed
 returns-in-Some-clause-listed c =
     let has = rw c.in-Some.is at c.in_ok-same.ensures in
-    same_listed (main_of c.args.main.now) c.args.modules.now (front c.args.modules.now c.args.start) (modules_of c.truncate.new.self)
+    same_listed c.args.main.now c.args.modules.now (front c.args.modules.now c.args.start) (modules_of c.truncate.new.self)
     c.args.files.now _ c.args.file c.in-Some.same c.requires.listed
     (cut_front c.args.modules.now c.args.start c.truncate.new.self c.truncate.ensures.modules c.truncate.ensures.numbers) has
 
@@ -32,5 +31,5 @@ returns-in-Some-clause-grows c =
 
 pub returns-clause-listed : goal.returns-clause-listed
 returns-clause-listed c =
-    own_listed (main_of c.args.main.now) (modules_of c.summary_of.new.modules) c.args.files.now c.summary_of.result
+    own_listed c.args.main.now (modules_of c.summary_of.new.modules) c.args.files.now c.summary_of.result
     c.summary_of.ensures.kept c.summary_of.ensures.own

@@ -1,7 +1,7 @@
 use Rattle.std.proofs.Common.{◌≡◌, ◌∙◌, ◌++◌, ◌∷◌, [], List, append-nil, append_assoc, map, refl, sym}
 use Rattle.std.proofs.lemmas.List.{map-append}
 use Rattle.gm_name.specs.ModuleVersion.{ModuleVersion}
-use Rattle.gm_file.specs.Main.{main_of, replacement_in}
+use Rattle.gm_file.specs.Main.{replacement_in}
 use Rattle.gm_graph_select.specs.BuildList.{entry_of}
 use Rattle.gm_file.specs.declared.replace.Right.{Right}
 use Rattle.gm_graph.specs.Entries.{Entry, entries_of_rows, entry_of_row}
@@ -20,7 +20,7 @@ loop-vertex-init c = rw (c.in_ok-rows.ensures, c.into_iter-vertex-iterator.ensur
 
 pub loop-vertex-preserved : goal.loop-vertex-preserved
 loop-vertex-preserved c =
-    more_rows (entry_of (replacement_in (main_of c.args.main.now))) c.loop-vertex.rows.items c.push.new.self.items c.in_ok-row_of.field-0
+    more_rows (entry_of (replacement_in c.args.main.now)) c.loop-vertex.rows.items c.push.new.self.items c.in_ok-row_of.field-0
     c.in-Some.vertex.now c.next.new.self c.in_ok-row_of.ensures c.in_ok-push.ensures.items
     ∙ (rw c.in-Some.ensures.steps at c.loop-vertex.invariant)
 

@@ -7,7 +7,6 @@ use Rattle.gm_graph.specs.Refusals.{refused_names}
 use Rattle.gm_graph.proofs.AskedFile.{asks_for, asks_same, lacks_still, refused_failed}
 use Rattle.gm_graph.specs.Cached.{main_in, run_in, sums_in, table_in}
 use Rattle.gm_graph.specs.Private.Cached.{module_numbered}
-use Rattle.gm_file.specs.Main.{main_of}
 use Rattle.gm_graph.specs.Reading.{file_of}
 use Rattle.gm_name.specs.ModuleVersion.{module_at}
 use Rattle.gm_graph.proofs.GrownCache.{grown_consistent}
@@ -112,7 +111,7 @@ returns-in-Ok-clause-lender g c = λ pairs knows.
 pub known_by-requires-clause-name : goal.known_by-requires-clause-name
 known_by-requires-clause-name g c =
     c.in_ok-name.ensures ∙ ap (file_of (main_in c.args.self.now)) (sym (numbered g (goal.at.known_by-requires-clause-name g c).In-Ok))
-    ∙ ap (λ m. file_of (main_of m) (module_numbered c.known_at.new.self c.in_ok-number.number)) (sym c.known_at.ensures.lent.main)
+    ∙ ap (λ m. file_of m (module_numbered c.known_at.new.self c.in_ok-number.number)) (sym c.known_at.ensures.lent.main)
 
 pub known_by-requires-clause-vertex : goal.known_by-requires-clause-vertex
 known_by-requires-clause-vertex g c =

@@ -1,5 +1,5 @@
-use Rattle.std.proofs.Common.{◌≡◌, ◌∙◌, ◌∷◌, [], None, ap, length, refl, sym}
-use Rattle.gm_file.specs.Main.{main_of}
+use Rattle.std.proofs.Common.{◌≡◌, ◌∙◌, ◌∷◌, [], None, ap, length, refl, subst, sym}
+use Rattle.gm_file.specs.Main.{Main}
 use Rattle.gm_store.specs.Asked.{name_of}
 use Rattle.gm_graph.specs.Private.FileTable.{IsNewFile, IsPlacedAt}
 use Rattle.gm_graph.specs.Cached.{main_in, summary_at, sums_in, table_in}
@@ -11,7 +11,7 @@ use Rattle.gm_graph.proofs.OwnFiles.{new_file, noted_again, nothing_kept, placed
 use Rattle.gm_graph.proofs.PuttingPlaces.{same_files}
 use Rattle.gm_graph.proofs.SharedLists.{listed_push}
 use Rattle.gm_graph.proofs.HeldFiles.{added_some, kept_some}
-use Rattle.gm_graph.specs.Private.Summaries.{AreKeptIn, AreListsInOrder}
+use Rattle.gm_graph.specs.Private.Summaries.{AreKeptIn, AreListsInOrder, IsKeptIn}
 use Rattle.gm_name_table.specs.Listed.{modules_of}
 use Rattle.gm_graph.proofs.Ordered.{begins_added, has_added}
 use Rattle.gm_graph.proofs.Telling.{knows_read, none_still, not_asked, sound_read}
@@ -42,7 +42,7 @@ new_here g c none =
     new_file mid number (name_of c.in_ok-name.name) (number_below (table_in old) (table_in mid) number numbered c.requires.vertex)
     (c.in_ok-name.ensures ∙ ap (file_of (main_in old)) (c.module.ensures.module
     ∙ sym (number_stays (table_in old) (table_in mid) number numbered c.requires.vertex))
-    ∙ ap (λ m. file_of (main_of m) (module_numbered mid number)) (sym c.read_file.ensures.lent.main))
+    ∙ ap (λ m. file_of m (module_numbered mid number)) (sym c.read_file.ensures.lent.main))
     (sym c.is_askable.ensures ∙ c.if-not-is_askable.false)
     (none_still old mid (name_of c.in_ok-name.name) c.read_file.ensures.holds none)
 
@@ -68,7 +68,8 @@ invariant_of-self-in-Ok g c =
         listed = has_added files c.add.new.self.files.items kept c.add.ensures.files
             (AreKeptIn (main_in mid) (modules_of mid.modules)) was.listed
             (listed_push (main_in mid) (modules_of mid.modules) files kept was.listed
-            (rw (c.read_file.ensures.files, c.read_file.ensures.lent.main) c.in-Ok.ensures.listed));
+            (subst (λ (m : Main). IsKeptIn m (modules_of mid.modules) files kept) (sym c.read_file.ensures.lent.main)
+            (rw c.read_file.ensures.files c.in-Ok.ensures.listed)));
       };
     }
 
@@ -170,7 +171,7 @@ returns-in_ok-add-in-Ok-clause-known g c =
       record {
         knows = knows_read old mid c.add.new.self earlier pairs name read.0 c.in-Ok.kept
             c.requires.knows c.read_file.ensures.holds none c.in_ok-add-in-Ok.ensures.adds read.1 read.2;
-        main = ap main_of lent.main;
+        main = lent.main;
         sums = lent.sums;
         numbered = begins;
         stays = says_later old mid earlier ((name, read.0) ∷ []) pairs lent.main lent.sums read.1;

@@ -1,12 +1,12 @@
 use Rattle.std.proofs.Common.{◌∙◌, ◌++◌, ◌∷◌, Bool, List, ap, cond, not, sym}
 use Rattle.gm_name.specs.ModuleVersion.{ModuleVersion}
-use Rattle.gm_file.specs.Main.{main_of, without_excluded}
+use Rattle.gm_file.specs.Main.{without_excluded}
 use Rattle.gm_graph.proofs.cache.summary.copy_kept.Goals as goal
 
 -- an excluded module is left out
 pub loop-x-preserved : goal.loop-x-preserved
 loop-x-preserved c =
-    let main = main_of c.args.main.now in
+    let main = c.args.main.now in
     let kept = c.loop-x.kept.items in
     let others = without_excluded main c.next.new.self in
     ap (λ (xs : List ModuleVersion). kept ++ xs)

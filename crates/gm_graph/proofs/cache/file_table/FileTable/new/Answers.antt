@@ -6,7 +6,6 @@ use Rattle.std.proofs.lemmas.Option.{same_Some}
 use Rattle.std.proofs.lemmas.List.{take_all}
 use Rattle.std.proofs.lemmas.Map.Views.{All-values-insert_entry}
 use Rattle.gm_store.specs.contracts.files.FileNameOrd.TheImpl.{cmp-value}
-use Rattle.gm_file.specs.Main.{main_of}
 use Rattle.gm_name_table.specs.OptionalPlaces.{no_place, place_in}
 use Rattle.gm_name_table.specs.declared.place.OptionalPlace.{OptionalPlace}
 use Rattle.gm_graph.proofs.Replacements.{has_replacing, one_more_line}
@@ -33,7 +32,7 @@ pub returns-clause-notes : goal.returns-clause-notes
 returns-clause-notes c = λ modules.
     let entries = c.loop-replace.replacing.entries in
     record {
-      has_replacing = has_replacing (main_of c.args.main.now) entries c.replaces-replace-items.result.now c.replaces-replace-items.ensures
+      has_replacing = has_replacing c.args.main.now entries c.replaces-replace-items.result.now c.replaces-replace-items.ensures
           (rw (take_all c.loop-replace.replace-index c.replaces-replace-items.result.now c.loop-replace-test.false) at c.loop-replace.invariant.named);
       modules_noted = λ number place e. absurd (cc (rw c.new-places.ensures.items at e));
       replacing_noted = λ name place e. rw c.new-names.ensures (ap place_in (none_found entries _ place c.loop-replace.invariant.nowhere e));
