@@ -22,7 +22,7 @@ use Rattle.gm_graph.specs.Reading.{file_of, is_askable}
 use Rattle.gm_graph.specs.Run.{AreOpened, AreTurns, AskedInTurn, FileSays, IsNeeded, IsOpened, IsRead, IsSettled, LoadingNeeds, Run, Says, answered, faulty, more, nothing, run_of, sound, unaskable, wrong_path}
 use Rattle.gm_graph.specs.Private.Turns.{AreTurnsOf}
 use Rattle.gm_graph.proofs.RunLemmas.{answered_any, keeps_agree, names_equivalence, needed as needed_too}
-use Rattle.gm_graph.proofs.Rounds.{takes_first}
+use Rattle.gm_graph.proofs.DoneTurns.{takes_first}
 use Rattle.gm_graph.proofs.Sayings.{says_more}
 
 pub names_push : (pairs : List (Name × Reply)) (n : Name) (r : Reply) → names_in (pairs ++ (n, r) ∷ []) ≡ names_in pairs ++ n ∷ []

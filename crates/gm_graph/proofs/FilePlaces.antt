@@ -11,7 +11,7 @@ use Rattle.gm_file.specs.Main.{Main, replacement_in}
 use Rattle.gm_store.specs.Asked.{Name, mod_file}
 use Rattle.gm_graph.specs.declared.cache.file_table.FileTable.{FileTable}
 use Rattle.gm_graph.specs.FileTable.{place_of}
-use Rattle.gm_graph.specs.Private.FileTable.{IsUnnoted, NotesFiles, noted_for, replacing_place}
+use Rattle.gm_graph.specs.Private.FileTable.{IsUnnoted, NotesFiles, place_noted, replacing_place}
 use Rattle.gm_graph.specs.Reading.{file_named, file_of}
 
 -- ---- a file that is not one of a replacement is that of one module
@@ -52,12 +52,12 @@ module _ (main : Main) (modules : List ModuleVersion) (files : FileTable) (notes
 -- The place of a file's name is the one noted for its module, or otherwise that of a replacement's file.
 pub place_by : (main : Main) (modules : List ModuleVersion) (files : FileTable) (number : ℕ) (name : Name) → NotesFiles main modules files
     → ((k : ℕ) → k < length modules → module_at modules k ≡ module_at modules number → k ≡ number) → name ≡ file_of main (module_at modules number)
-    → place_of files name ≡ option_or (noted_for files number) (option_and_then place_in (replacing_place files name))
-place_by main modules files number name notes only named = noted (noted_for files number) refl
+    → place_of files name ≡ option_or (place_noted files number) (option_and_then place_in (replacing_place files name))
+place_by main modules files number name notes only named = noted (place_noted files number) refl
   where
-    noted : (o : Option ℕ) → noted_for files number ≡ o
+    noted : (o : Option ℕ) → place_noted files number ≡ o
         → place_of files name ≡ option_or o (option_and_then place_in (replacing_place files name))
     noted None nowhere = by_replacing main modules files notes name (λ none k below also.
-        ap (noted_for files) (only k below (one_owner main modules files notes (module_at modules k) (module_at modules number) name none also named))
+        ap (place_noted files) (only k below (one_owner main modules files notes (module_at modules k) (module_at modules number) name none also named))
         ∙ nowhere)
     noted (Some place) some = ap (place_of files) named ∙ (notes.modules_noted number place some).placed

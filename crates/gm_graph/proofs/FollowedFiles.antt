@@ -19,7 +19,7 @@ use Rattle.gm_graph.specs.declared.worklist.Worklist.{Worklist}
 use Rattle.gm_graph.specs.Private.Worklists.{IsWorklist, turns_of}
 use Rattle.gm_graph.specs.Private.Followed.{followed_at}
 use Rattle.gm_graph.specs.Private.CacheVisits.{IsVisit}
-use Rattle.gm_graph.proofs.Lending.{LendsFile}
+use Rattle.gm_graph.proofs.Lending.{LendsList}
 use Rattle.gm_graph.specs.Private.Held.{lent_table}
 use Rattle.gm_graph.specs.Lent.{lent_modules}
 use Rattle.gm_graph.proofs.Growing.{turns_over}
@@ -32,7 +32,7 @@ AreFollowedIn cache run turns followed = (file : ℕ) → followed_at followed f
 
 -- What was lent over them has turns, if its file was followed.
 pub has_its_turns : (old : Cache) (run : Run) (worklist : Worklist) (followed : Followed) (required : Required)
-    → IsWorklist (table_in old) worklist → LendsFile old run required
+    → IsWorklist (table_in old) worklist → LendsList old run required
     → AreFollowedIn old run (turns_of (table_in old) worklist) followed → followed_at followed required.file ≡ true
     → (y : ModuleVersion) → Contains (lent_modules required.list) y → Contains (turns_of (lent_table required.list) worklist) (turn y Deep)
 has_its_turns old run worklist followed required is lends are by = λ y h.

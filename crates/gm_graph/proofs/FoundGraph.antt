@@ -16,7 +16,7 @@ use Rattle.gm_graph.specs.declared.findings.Findings.{Findings}
 use Rattle.gm_graph.specs.declared.worklist.Worklist.{Worklist}
 use Rattle.gm_graph.specs.Private.Cached.{ArePartsOf, module_numbered}
 use Rattle.gm_graph.specs.Private.Findings.{WasVisited, place_at}
-use Rattle.gm_graph.specs.Private.Gathering.{AreFaultsOf, AreFilePlaces, HasFaultOf, fault, has_file, gathered_sources, steps_by}
+use Rattle.gm_graph.specs.Private.Gathering.{AreFaultsOf, AreFilePlaces, HasFaultOf, fault, is_in_places, gathered_sources, steps_by}
 use Rattle.gm_graph.specs.Run.{AreFaults, IsEdge, IsFault, IsOpened, Requires, Run, Says}
 use Rattle.gm_graph.specs.Private.Visiting.{IsOpenedIn}
 use Rattle.gm_graph_select.specs.declared.adjacency.Source.{Source}
@@ -76,7 +76,7 @@ module _ {run : Run} {cache : Cache} {worklist : Worklist} {findings : Findings}
       let own = own_there cache.files.files.items place sound.span sound.own in
       let next : place + 1 ≡ suc place = omega arith in
       rw next
-      (ap (modules_at modules) (used_list parts.numbers.items (has_file places) parts.first (own_spans parts.files.items) place sound.span
+      (ap (modules_at modules) (used_list parts.numbers.items (is_in_places places) parts.first (own_spans parts.files.items) place sound.span
       (noted_has places number place e) (rw are.files own))
       ∙ part_as _ _ _ _ sound.span.start sound.span.end are.modules are.numbers
       ∙ opened.lists (module_numbered cache number) place sound)

@@ -15,7 +15,7 @@ use Rattle.gm_graph.specs.declared.cache.parts.CacheParts.{CacheParts}
 use Rattle.gm_graph.specs.declared.cache.summary.Kept.{Kept}
 use Rattle.gm_graph.specs.declared.cache.summary.ListSpan.{ListSpan}
 use Rattle.gm_graph.specs.Private.Findings.{place_at}
-use Rattle.gm_graph.specs.Private.Gathering.{AreFilePlaces, has_file, sources_from, gathered_sources, span_after, spans_from, spans_of, steps_by}
+use Rattle.gm_graph.specs.Private.Gathering.{AreFilePlaces, is_in_places, sources_from, gathered_sources, span_after, spans_from, spans_of, steps_by}
 use Rattle.gm_graph.specs.Private.Summaries.{AreSpansInOrder}
 use Rattle.gm_graph_select.specs.declared.adjacency.Source.{Source}
 use Rattle.gm_graph_select.specs.declared.number_lists.Span.{Span}
@@ -186,24 +186,24 @@ module _ (numbers : List ℕ) (used : ℕ → Bool) where
 -- ---- files that vertices have
 
 -- A vertex has the file at a place exactly if the place is noted.
-pub has_noted : (places : List (Option ℕ)) (place : ℕ) → has_file places place ≡ true
+pub has_noted : (places : List (Option ℕ)) (place : ℕ) → is_in_places places place ≡ true
     → (k : ℕ) × (place_at places k ≡ Some place)
 has_noted [] place e = absurd (false≢true e)
 has_noted (None ∷ places) place e = let (k, there) = has_noted places place e in (suc k, there)
-has_noted (Some other ∷ places) place e = elim (or_cases (place == other) (has_file places place) e) [
+has_noted (Some other ∷ places) place e = elim (or_cases (place == other) (is_in_places places place) e) [
   | inl same ↦ (0, ap Some (sym (eqb-true place other same)))
   | inr rest ↦ (let (k, there) = has_noted places place rest in (suc k, there))
 ]
 
-pub noted_has : (places : List (Option ℕ)) (k place : ℕ) → place_at places k ≡ Some place → has_file places place ≡ true
+pub noted_has : (places : List (Option ℕ)) (k place : ℕ) → place_at places k ≡ Some place → is_in_places places place ≡ true
 noted_has [] k place e = absurd (cc e)
 noted_has (None ∷ places) zero place e = absurd (cc e)
 noted_has (None ∷ places) (suc k) place e = noted_has places k place e
 noted_has (Some other ∷ places) zero place e =
-    ap (λ (b : Bool). b || has_file places place) (eq-eqb place other (sym (same_Some other place e)))
+    ap (λ (b : Bool). b || is_in_places places place) (eq-eqb place other (sym (same_Some other place e)))
 noted_has (Some other ∷ places) (suc k) place e = later (place == other) (noted_has places k place e)
   where
-    later : (b : Bool) → has_file places place ≡ true → (b || has_file places place) ≡ true
+    later : (b : Bool) → is_in_places places place ≡ true → (b || is_in_places places place) ≡ true
     later true has = refl
     later false has = has
 
@@ -211,15 +211,15 @@ noted_has (Some other ∷ places) (suc k) place e = later (place == other) (note
 
 -- its lists: that of the main file is the first, and those of the files follow
 abbrev pub lists_by : CacheParts → List (Option ℕ) → List (List ℕ)
-lists_by parts places = lists_at parts.numbers.items (spans_of parts.first parts.files.items (has_file places))
+lists_by parts places = lists_at parts.numbers.items (spans_of parts.first parts.files.items (is_in_places places))
 
 module _ (parts : CacheParts) (places : List (Option ℕ)) (are : AreFilePlaces parts places) where
   abbrev lists : List (List ℕ)
   lists = lists_by parts places
 
-  pub lists_apart : AreSpansApart 0 (spans_of parts.first parts.files.items (has_file places)) (length parts.numbers.items)
+  pub lists_apart : AreSpansApart 0 (spans_of parts.first parts.files.items (is_in_places places)) (length parts.numbers.items)
   lists_apart =
-      (omega arith, omega arith, spans_apart (has_file places) 0 parts.first (own_spans parts.files.items) (length parts.numbers.items) parts.in_order)
+      (omega arith, omega arith, spans_apart (is_in_places places) 0 parts.first (own_spans parts.files.items) (length parts.numbers.items) parts.in_order)
 
   pub steps_once : IsDistinct (same_step parts.modules.items) (steps_by parts places)
   steps_once = sources_once parts.modules.items parts.distinct lists places (λ k place e. (are k place e).0)
@@ -227,7 +227,7 @@ module _ (parts : CacheParts) (places : List (Option ℕ)) (are : AreFilePlaces 
   pub lists_used : AreUsed lists (gathered_sources places)
   lists_used zero some = (main_source, (0, omega arith, refl), refl)
   lists_used (suc place) some =
-      let (k, there) = has_noted places place (list_used parts.numbers.items (has_file places) parts.first (own_spans parts.files.items) place some) in
+      let (k, there) = has_noted places place (list_used parts.numbers.items (is_in_places places) parts.first (own_spans parts.files.items) place some) in
       (file_source k place, source_there places k place there, omega arith)
 
   -- ---- numbers
@@ -253,5 +253,5 @@ module _ (parts : CacheParts) (places : List (Option ℕ)) (are : AreFilePlaces 
       each sources below = All-map (IsNumbered (length parts.modules.items)) (step_edges lists) sources
           (λ k d within. record {
             from = below (get_or sources k d) (k, within, get_or_default sources k (get_or sources k d) d within);
-            to = list_below (spans_of parts.first parts.files.items (has_file places)) (get_or sources k d).list;
+            to = list_below (spans_of parts.first parts.files.items (is_in_places places)) (get_or sources k d).list;
           })

@@ -1,5 +1,5 @@
 -- A cache whose list of modules grew at its end.
-use Rattle.std.proofs.Common.{◌≤◌, ◌∙◌, ap, arith, length, length-append, take}
+use Rattle.std.proofs.Common.{◌≤◌, ◌∙◌, ap, arith, length, length-append, subst, sym, take}
 use Rattle.std.proofs.Math.Logic.{∥∥₁_map}
 use Rattle.std.proofs.lemmas.List.{length-map, take-append-le}
 use Rattle.gm_name.specs.ModuleVersion.{module_at}
@@ -7,8 +7,10 @@ use Rattle.gm_name_table.specs.Listed.{NumberedList, modules_of}
 use Rattle.gm_graph.specs.declared.cache.Cache.{Cache}
 use Rattle.gm_graph.specs.Cached.{main_in, sums_in, table_in}
 use Rattle.gm_graph.specs.Private.Held.{IsConsistent}
+use Rattle.gm_graph.specs.Private.KeptLists.{NotesAll, own_lists}
 use Rattle.gm_graph.specs.Private.Summaries.{Grows}
 use Rattle.gm_graph.proofs.HeldFiles.{grown_holds}
+use Rattle.gm_graph.proofs.KeptLists.{lists_still}
 use Rattle.gm_graph.proofs.Ordered.{order_longer, own_spans}
 use Rattle.gm_graph.proofs.PuttingPlaces.{notes_if_more}
 use Rattle.gm_graph.proofs.SharedLists.{listed_grown}
@@ -35,3 +37,8 @@ module _ (cache : Cache) (new : NumberedList) (grows : Grows cache.modules new) 
         in_order = order_longer cache.first (own_spans files.files.items) (length old.numbers) (length new.numbers) more_numbers was.in_order;
         listed = listed_grown main (modules_of old) (modules_of new) files.files.items (grows.0, grows.1.listed) was.listed;
       }
+
+  -- So are the places of own lists.
+  pub grown_notes : NotesAll cache.lists (own_lists new.numbers cache.files.files.items)
+  grown_notes = subst (NotesAll cache.lists) (sym (lists_still cache.modules new cache.files.files.items grows.1.kept
+      (λ place summary there. (cache.consistent.listed place summary there).0.all_within))) cache.notes

@@ -30,7 +30,7 @@ use Rattle.gm_graph.proofs.FoundFiles.{same_module}
 use Rattle.gm_graph.proofs.Growing.{number_below, turns_over}
 use Rattle.gm_graph.proofs.Holding.{answers_read}
 use Rattle.gm_graph.proofs.Queueing.{many_followed, opened_kept, takes_kept, visited_more}
-use Rattle.gm_graph.proofs.Rounds.{opened_from}
+use Rattle.gm_graph.proofs.DoneTurns.{opened_from}
 use Rattle.gm_graph.proofs.Stepping.{AreFound, IsAt, by_run, number_here}
 
 -- Nothing was asked for.

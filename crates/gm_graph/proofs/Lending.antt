@@ -15,8 +15,8 @@ use Rattle.gm_graph.specs.declared.cache.depth.Depth.{Depth}
 use Rattle.gm_graph.specs.declared.cache.summary.Kept.{Kept}
 use Rattle.gm_graph.specs.declared.cache.summary.Kept.TheVariants.{Valid, Faulty}
 use Rattle.gm_graph.specs.declared.cache.lent.Lent.{Lent}
-use Rattle.gm_graph.specs.declared.cache.visit.Said.{Said}
-use Rattle.gm_graph.specs.declared.cache.visit.Said.TheVariants as said
+use Rattle.gm_graph.specs.declared.cache.visit.Verdict.{Verdict}
+use Rattle.gm_graph.specs.declared.cache.visit.Verdict.TheVariants as verdict
 use Rattle.gm_graph.specs.declared.cache.visit.Required.{Required}
 use Rattle.gm_graph.specs.declared.cache.visit.Visit.TheVariants as visit
 use Rattle.gm_graph.specs.declared.cache.Cache.{Cache}
@@ -29,7 +29,7 @@ use Rattle.gm_graph.proofs.Spans.{IsKept, span_within}
 use Rattle.gm_graph.specs.Cached.{AreRequirements, IsSound, Knows, file_count, its_requirements, main_in, no_requirements, run_in, summary_at, table_in}
 use Rattle.gm_graph.specs.Private.Cached.{Follows, IsLender, module_numbered}
 use Rattle.gm_graph.specs.Private.FileTable.{IsPlacedAt}
-use Rattle.gm_graph.specs.Private.CacheVisits.{IsSaid, IsVisit, file_said, visit_of}
+use Rattle.gm_graph.specs.Private.CacheVisits.{IsVerdict, IsVisit, file_of_verdict, visit_of}
 use Rattle.gm_graph.specs.Lent.{lent_modules}
 use Rattle.gm_graph.specs.Private.Held.{lent_table}
 use Rattle.gm_graph.specs.Run.{FileSays, Run, Says}
@@ -88,18 +88,18 @@ lent_within cache (Some place) =
 
 module _ (cache : Cache) (pairs : List (Name × Reply)) (number : ℕ) (d : Depth) where
   -- What is said of a vertex gives a place of a file.
-  pub place_said : (says : Said) → IsSaid cache (run_in cache pairs) (module_numbered cache number) d says
-      → IfSome (file_said says) (λ place. place < file_count cache)
-  place_said (said.Fault class) is = tt
-  place_said (said.Sound file leads) is = is.0.within
+  pub place_said : (says : Verdict) → IsVerdict cache (run_in cache pairs) (module_numbered cache number) d says
+      → IfSome (file_of_verdict says) (λ place. place < file_count cache)
+  place_said (verdict.Fault class) is = tt
+  place_said (verdict.Sound file leads) is = is.0.within
 
   -- What a visit gets is what is said, and what is lent from that place.
-  pub visit_got : (says : Said) (list : Lent) → Knows cache pairs
-      → IsSaid cache (run_in cache pairs) (module_numbered cache number) d says
-      → lent_modules list ≡ at_span (modules_of cache.modules) (span_at cache (file_said says)) → lent_table list ≡ table_in cache
+  pub visit_got : (says : Verdict) (list : Lent) → Knows cache pairs
+      → IsVerdict cache (run_in cache pairs) (module_numbered cache number) d says
+      → lent_modules list ≡ at_span (modules_of cache.modules) (span_at cache (file_of_verdict says)) → lent_table list ≡ table_in cache
       → IsVisit cache (run_in cache pairs) (module_numbered cache number) d (visit_of says list)
-  visit_got (said.Fault class) list knows is modules table = is
-  visit_got (said.Sound file leads) list knows is modules table = (
+  visit_got (verdict.Fault class) list knows is modules table = is
+  visit_got (verdict.Sound file leads) list knows is modules table = (
     is.0,
     table,
     is.0.file,
@@ -120,7 +120,7 @@ lender_there cache x (Some place) is = ∥∥₁_elim cache.consistent.holds_som
 
 -- What was lent has the number of each module that had one, and is what each vertex requires that had this list by the
 -- run before the visit.
-pub record LendsFile (old : Cache) (run : Run) (required : Required) : Type 0 where
+pub record LendsList (old : Cache) (run : Run) (required : Required) : Type 0 where
   pub begins : BeginsWith (table_in old) (lent_table required.list)
   pub distinct : IsDistinct pair_eq (lent_table required.list)
   pub shared : (x : ModuleVersion) (file : Dependency) → IsSound old run x required.file → Says run x (Ok file)
@@ -129,7 +129,7 @@ pub record LendsFile (old : Cache) (run : Run) (required : Required) : Type 0 wh
 -- It is what a visit gets of a cache that comes after the old one.
 pub lends_file : (old new : Cache) (earlier pairs : List (Name × Reply)) (x : ModuleVersion) (d : Depth) (required : Required)
     → Follows old earlier new pairs → IsDistinct pair_eq (table_in new) → IsVisit new (run_in new pairs) x d (visit.Required required)
-    → LendsFile old (run_in old earlier) required
+    → LendsList old (run_in old earlier) required
 lends_file old new earlier pairs x d required made distinct (sound, table, own, says_own, _, list) = record {
   begins = rw table made.numbered;
   distinct = rw table distinct;

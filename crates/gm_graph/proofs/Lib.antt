@@ -4,7 +4,7 @@ pub mod AddingAll
 pub mod Marking
 pub mod Growing
 pub mod AddFaults
-pub mod Rounds
+pub mod DoneTurns
 pub mod TurnEnds
 pub mod Caching
 pub mod FilledPlaces
@@ -23,7 +23,7 @@ pub mod RunLemmas
 pub mod Excluding
 pub mod HeldFiles
 pub mod Holding
-pub mod Telling
+pub mod MoreAnswers
 pub mod AskedFile
 pub mod OwnFiles
 pub mod Lending
@@ -36,6 +36,7 @@ pub mod PuttingPlaces
 pub mod Replacements
 pub mod Spans
 pub mod SharedLists
+pub mod KeptLists
 pub mod GrownCache
 pub mod Named
 pub mod FoundFiles

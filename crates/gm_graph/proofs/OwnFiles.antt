@@ -14,7 +14,7 @@ use Rattle.gm_file.specs.Main.{Main}
 use Rattle.gm_graph.specs.Cached.{main_in, summary_at, table_in}
 use Rattle.gm_graph.specs.Private.Cached.{module_numbered}
 use Rattle.gm_graph.specs.FileTable.{place_of}
-use Rattle.gm_graph.specs.Private.FileTable.{IsNewFile, IsPlacedAt, KeepsOthers, NotesFiles, NotesFor, noted_for, replacing_place}
+use Rattle.gm_graph.specs.Private.FileTable.{IsNewFile, IsPlacedAt, KeepsOthers, NotesFiles, NotesFor, place_noted, replacing_place}
 use Rattle.gm_graph.specs.Reading.{file_of, is_askable}
 use Rattle.gm_graph.proofs.FilePlaces.{place_by}
 use Rattle.gm_graph.proofs.NumberedModules.{number_same}
@@ -23,7 +23,7 @@ use Rattle.gm_graph.proofs.PuttingPlaces.{notes_again, notes_kept}
 -- Nothing is kept of a module's file if no place is noted for the module, and none for a replacement's file with that name.
 pub nothing_kept : (cache : Cache) (number : ℕ) (name : Name) (x : ModuleVersion) → IsDistinct pair_eq (table_in cache)
     → number < length (table_in cache) → name ≡ file_of (main_in cache) x → x ≡ module_numbered cache number
-    → noted_for cache.files number ≡ None → option_and_then place_in (replacing_place cache.files name) ≡ None
+    → place_noted cache.files number ≡ None → option_and_then place_in (replacing_place cache.files name) ≡ None
     → summary_at cache name ≡ None
 nothing_kept cache number name x distinct within named is nowhere none =
     rw (
@@ -75,6 +75,6 @@ placed_still others at = record { placed = rw others.names at.placed; askable = 
 pub noted_again : {T E : Type 0} (cache : Cache) (new : FileTable) (number place : ℕ) (r : Result T E)
     → IsPlacedAt (main_in cache) cache.files (module_numbered cache number) place → KeepsOthers cache.files new
     → OnOk r (NotesFor cache.files new number place)
-    → OnErr r ((k : ℕ) → noted_for new k ≡ noted_for cache.files k) → NotesFiles (main_in cache) (table_in cache) new
+    → OnErr r ((k : ℕ) → place_noted new k ≡ place_noted cache.files k) → NotesFiles (main_in cache) (table_in cache) new
 noted_again cache new number place (Ok t) is others ok err = notes_again others number place ok is cache.consistent.notes
 noted_again cache new number place (Err e) is others ok err = notes_kept others err cache.consistent.notes

@@ -20,7 +20,7 @@ use Rattle.gm_graph.proofs.Growing.{number_below, number_stays}
 use Rattle.gm_graph.specs.declared.cache.file_table.FileTable.{FileTable}
 use Rattle.gm_graph.specs.declared.cache.summary.Kept.{Kept}
 use Rattle.gm_graph.specs.FileTable.{place_of}
-use Rattle.gm_graph.specs.Private.FileTable.{IsNewFile, IsPlacedAt, KeepsFiles, KeepsOthers, NotesFiles, NotesFor, PutsFile, noted_for, replacing_place}
+use Rattle.gm_graph.specs.Private.FileTable.{IsNewFile, IsPlacedAt, KeepsFiles, KeepsOthers, NotesFiles, NotesFor, PutsFile, place_noted, replacing_place}
 use Rattle.gm_graph.specs.Places.{place_among}
 use Rattle.gm_file.specs.Main.{Main}
 use Rattle.gm_graph.specs.Reading.{file_of}
@@ -29,14 +29,14 @@ use Rattle.gm_graph.specs.Reading.{file_of}
 
 module _ (old new : FileTable) (number place : ℕ) (notes : NotesFor old new number place) where
   -- What is noted for a number is this place, or what was noted.
-  noted_cases : (k : ℕ) → ((number ≡ k) × (noted_for new k ≡ Some place)) ⊎ (noted_for new k ≡ noted_for old k)
+  noted_cases : (k : ℕ) → ((number ≡ k) × (place_noted new k ≡ Some place)) ⊎ (place_noted new k ≡ place_noted old k)
   noted_cases k = rw (notes k) (elim (eqb_tells number k) [
     | inl here ↦ inl (here.1, rw here.0 refl)
     | inr other ↦ inr (rw other.0 refl)
   ])
 
   -- What is not noted was not.
-  noted_before : (k : ℕ) → noted_for new k ≡ None → noted_for old k ≡ None
+  noted_before : (k : ℕ) → place_noted new k ≡ None → place_noted old k ≡ None
   noted_before k none = elim (noted_cases k) [
     | inl here ↦ absurd (cc (sym here.1 ∙ none))
     | inr same ↦ sym same ∙ none
@@ -116,7 +116,7 @@ module _ {main : Main} {modules : List ModuleVersion} {old : FileTable} (new : F
     ];
     others_noted = λ other unnoted none. elim (put_cases other) [
       | inl here ↦ (
-          let noted : noted_for new number ≡ Some place = notes number ∙ rw ((Decides-eqb number number).1 refl) refl in
+          let noted : place_noted new number ≡ Some place = notes number ∙ rw ((Decides-eqb number number).1 refl) refl in
           absurd (cc (sym noted ∙ unnoted number is.within (here.0 ∙ is.named))))
       | inr stays ↦ stays.0 ∙ were.others_noted other (λ k below named. noted_before old new number place notes k (unnoted k below named)) (sym stays.1 ∙ none)
     ];
@@ -128,8 +128,8 @@ pub same_files : {old new : FileTable} → KeepsOthers old new → KeepsFiles ol
 same_files others name = rw others.files (rw others.names refl)
 
 module _ {main : Main} {modules : List ModuleVersion} {old new : FileTable} (others : KeepsOthers old new) where
-  notes_by : ((k at : ℕ) → noted_for new k ≡ Some at → IsPlacedAt main old (module_at modules k) at)
-      → ((k : ℕ) → noted_for new k ≡ None → noted_for old k ≡ None) → NotesFiles main modules old → NotesFiles main modules new
+  notes_by : ((k at : ℕ) → place_noted new k ≡ Some at → IsPlacedAt main old (module_at modules k) at)
+      → ((k : ℕ) → place_noted new k ≡ None → place_noted old k ≡ None) → NotesFiles main modules old → NotesFiles main modules new
   notes_by noted before were = record {
     has_replacing = λ x some. rw others.replacing (were.has_replacing x some);
     modules_noted = λ k at e. let one = noted k at e in record { placed = rw others.names one.placed; askable = one.askable };
@@ -138,7 +138,7 @@ module _ {main : Main} {modules : List ModuleVersion} {old new : FileTable} (oth
         rw others.names (were.others_noted name (λ k below named. before k (unnoted k below named)) (rw others.replacing at none));
   }
 
-  pub notes_kept : ((k : ℕ) → noted_for new k ≡ noted_for old k) → NotesFiles main modules old → NotesFiles main modules new
+  pub notes_kept : ((k : ℕ) → place_noted new k ≡ place_noted old k) → NotesFiles main modules old → NotesFiles main modules new
   notes_kept noted were = notes_by (λ k at e. were.modules_noted k at (sym (noted k) ∙ e)) (λ k none. sym (noted k) ∙ none) were
 
   -- The place of a module's file is noted for the module.

@@ -13,7 +13,7 @@ use Rattle.gm_graph.specs.declared.cache.depth.Depth.TheVariants.{Deep, Top}
 use Rattle.gm_graph.specs.Run.{AreTooMany, IsDeep, IsOpened, KeepsSayings, Run, Says, TakesTurn, from_deep, from_top, run_of}
 use Rattle.gm_graph.specs.Turns.{turn}
 use Rattle.gm_graph.specs.Private.Turns.{OverflowsWith, Visits, led_to}
-use Rattle.gm_graph.proofs.Rounds.{AllTake, AreVisited, along, opened_from}
+use Rattle.gm_graph.proofs.DoneTurns.{AllTake, AreVisited, along, opened_from}
 use Rattle.gm_graph.proofs.RunLemmas.{deep as deep_too, keeps_agree, opened as opened_too}
 
 pub many_first : (run : Run) → OverflowsWith [] (without_excluded run.main run.main.requirements) → AreTooMany run

@@ -66,6 +66,16 @@ found_own (Some (Faulty class)) span e = absurd (cc e)
 
 -- ---- the lists of all files
 
+pub push_cases : (files : List Kept) (last : Kept) (place : ℕ) (one : Kept) → slice_get (files ++ last ∷ []) place ≡ Some one
+    → (slice_get files place ≡ Some one) ⊎ ((place ≡ length files) × (last ≡ one))
+push_cases [] last zero one e = inr (refl, same_Some last one e)
+push_cases [] last (suc place) one e = absurd (cc e)
+push_cases (file ∷ files) last zero one e = inl e
+push_cases (file ∷ files) last (suc place) one e = elim (push_cases files last place one e) [
+  | inl there ↦ inl there
+  | inr here ↦ inr (ap suc here.0, here.1)
+]
+
 module _ (main : Main) (modules : List ModuleVersion) where
   pub kept_listed : (files : List Kept) (place : ℕ) (one : Kept) → AreKeptIn main modules files → slice_get files place ≡ Some one
       → IsKept main modules one
@@ -86,20 +96,13 @@ module _ (main : Main) (modules : List ModuleVersion) where
   listed_grown more files begins are = λ place summary there.
       let is = are place summary there in (kept_still main modules more (Valid summary) begins is.0, is.1)
 
-  push_cases : (files : List Kept) (last : Kept) (place : ℕ) (one : Kept) → slice_get (files ++ last ∷ []) place ≡ Some one
-      → (slice_get files place ≡ Some one) ⊎ (last ≡ one)
-  push_cases [] last zero one e = inr (same_Some last one e)
-  push_cases [] last (suc place) one e = absurd (cc e)
-  push_cases (file ∷ files) last zero one e = inl e
-  push_cases (file ∷ files) last (suc place) one e = push_cases files last place one e
-
   -- one file more
   pub listed_push : (files : List Kept) (last : Kept) → AreKeptIn main modules files → IsKeptIn main modules files last
       → AreKeptIn main modules (files ++ last ∷ [])
   listed_push files last are is = λ place summary e.
       let was : IsSummaryIn main modules files summary = elim (push_cases files last place (Valid summary) e) [
         | inl there ↦ are place summary there
-        | inr same ↦ rw same at is
+        | inr here ↦ rw here.1 at is
       ] in
       (was.0, λ p shared. own_still files (last ∷ []) p summary.kept (was.1 p shared))
 

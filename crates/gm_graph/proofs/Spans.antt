@@ -15,17 +15,21 @@ use Rattle.gm_graph.specs.Summaries.{at_span, summary_reading}
 use Rattle.gm_graph.specs.Private.Summaries.{IsSummary, IsWithinList, span_found}
 use Rattle.gm_graph.proofs.Excluding.{all_others}
 
-longer : (old new : List ModuleVersion) → BeginsWith old new → length old ≤ length new
+longer : {T : Type 0} (old new : List T) → BeginsWith old new → length old ≤ length new
 longer old new begins = omega (arith, ap length begins.1, length-append old begins.0)
 
 pub within_still : (old new : List ModuleVersion) (span : ListSpan) → BeginsWith old new → IsWithinList old span → IsWithinList new span
 within_still old new span begins is = record { order = is.order; within = omega (arith, is.within, longer old new begins) }
 
--- A span within the old list has the same modules in the new one.
+-- A span within the old list has the same in the new one.
+pub part_still : {T : Type 0} (old new : List T) (span : ListSpan) → BeginsWith old new → span.start ≤ span.end → span.end ≤ length old
+    → part span.start span.end new ≡ part span.start span.end old
+part_still old new span begins order within =
+    rw (begins.1, drop-append-le span.start old begins.0 (omega (arith, order, within)))
+    (take-append-le (span.end - span.start) (drop span.start old) begins.0 (omega (arith, order, within, length-drop span.start old)))
+
 pub span_still : (old new : List ModuleVersion) (span : ListSpan) → BeginsWith old new → IsWithinList old span → at_span new span ≡ at_span old span
-span_still old new span begins is =
-    rw (begins.1, drop-append-le span.start old begins.0 (omega (arith, is.order, is.within)))
-    (take-append-le (span.end - span.start) (drop span.start old) begins.0 (omega (arith, is.order, is.within, length-drop span.start old)))
+span_still old new span begins is = part_still old new span begins is.order is.within
 
 -- What is kept of a file is a summary of it, or a fault.
 abbrev pub IsKept : Main → List ModuleVersion → Kept → Type 0

@@ -21,7 +21,7 @@ use Rattle.gm_graph.specs.Private.Visiting.{IsFirstWorklist, IsOpenedIn}
 use Rattle.gm_graph.proofs.Growing.{IsOneBelow}
 use Rattle.gm_graph.proofs.Holding.{answers_read}
 use Rattle.gm_graph.proofs.Lending.{list_is}
-use Rattle.gm_graph.proofs.Rounds.{AreVisited, are_turns, first_visited, has_turn_of}
+use Rattle.gm_graph.proofs.DoneTurns.{AreVisited, are_turns, first_visited, has_turn_of}
 
 -- The number of a turn is that of a module.
 pub number_here : {modules : List ModuleVersion} {worklist : Worklist} {at : ℕ} (one : NumberedTurn) → IsWorklist modules worklist

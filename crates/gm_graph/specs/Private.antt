@@ -7,6 +7,7 @@ pub mod Findings
 pub mod Followed
 pub mod Gathering
 pub mod Held
+pub mod KeptLists
 pub mod Marks
 pub mod Summaries
 pub mod TurnVisits

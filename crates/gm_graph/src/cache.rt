@@ -42,6 +42,7 @@ ghost use Rattle.gm_graph.specs.Private.Asking.{AsksOne, IsAskableFile, IsLoadFa
 ghost use Rattle.gm_graph.specs.Reading.{IsFileReading, file_of};
 ghost use Rattle.gm_graph.specs.Places.{place_limit};
 ghost use Rattle.gm_graph.specs.Private.Held.{IsConsistent};
+ghost use Rattle.gm_graph.specs.Private.KeptLists.{AreKeptOnce, NotesAll, own_lists};
 ghost use Rattle.gm_graph.specs.Lent.{lent_modules};
 ghost use Rattle.gm_graph.specs.Summaries.{at_span, summary_reading};
 ghost use Rattle.gm_graph.specs.Private.Summaries.{AreKeptIn, AreListsInOrder, GrowsFrom, IsSummaryIn, IsKeptIn, listed_reading, order_is_fact, span_found};
@@ -59,7 +60,7 @@ use crate::cache::paths::is_right_path;
 use crate::cache::reading::{ListedReading, read_answer};
 use crate::cache::summary::{Kept, ListSpan, Summary, summary_of};
 use crate::cache::turn_history::TurnHistory;
-use crate::cache::visit::{Said, Visit};
+use crate::cache::visit::{Verdict, Visit};
 use gm_file::{ListedFile, MainModule};
 use gm_name::NoMemory;
 use gm_name_table::{KnownNames, ModuleList};
@@ -93,6 +94,7 @@ pub struct Cache<'a> {
     /// The name of the file of the last request that was refused.
     failed: Option<FileName>,
     ghost consistent: { IsConsistent main.now (option_copied sums) first modules files } by { Prim.hlevel (props, order_is_fact) },
+    ghost notes: { NotesAll lists (own_lists modules.numbers files.files.items) } by { Prim.hlevel props },
 }
 
 /// Appends the modules that the main file requires, without the excluded ones, and learns the paths that it requires.
@@ -127,11 +129,16 @@ fn shared_summary(
     requires few { length files.now < place_limit }
     requires start { start ≤ length modules.old.numbers }
     requires listed { AreKeptIn main.now (take start (modules_of modules.old)) files.now }
+    requires notes { NotesAll lists.old (own_lists modules.old.numbers files.now) }
     ensures reading { IfOk result (λ summary. summary_reading (modules_of modules.new) (Kept.Valid summary)
         ≡ Ok (with_requirements file (drop start (modules_of modules.old)))) }
     ensures listed { IfOk result (IsSummaryIn main.now (modules_of modules.new) files.now) }
     ensures order { IfOk result (λ summary.
         AreListsInOrder start (Kept.Valid summary ∷ []) (length modules.new.numbers)) }
+    ensures cut { IfOk result (λ summary. IsSome summary.same_as → length modules.new.numbers ≤ start) }
+    ensures notes { NotesAll lists.new (own_lists modules.new.numbers files.now) }
+    ensures next { IfOk result (λ summary.
+        NotesAll lists.new (own_lists modules.new.numbers (files.now ++ Kept.Valid summary ∷ []))) }
     ensures grows { GrowsFrom start modules.old modules.new }
 {
     if let Some(same) = lists.find(modules, files, start)? {
@@ -159,10 +166,13 @@ fn kept_of(
     requires few { length files.now < place_limit }
     requires start { start ≤ length modules.old.numbers }
     requires listed { AreKeptIn main.now (take start (modules_of modules.old)) files.now }
+    requires notes { NotesAll lists.old (own_lists modules.old.numbers files.now) }
     ensures reading { IfOk result (λ kept. summary_reading (modules_of modules.new) kept
         ≡ listed_reading (drop start (modules_of modules.old)) read) }
     ensures listed { IfOk result (IsKeptIn main.now (modules_of modules.new) files.now) }
     ensures order { IfOk result (λ kept. AreListsInOrder start (kept ∷ []) (length modules.new.numbers)) }
+    ensures notes { NotesAll lists.new (own_lists modules.new.numbers files.now) }
+    ensures next { IfOk result (λ kept. NotesAll lists.new (own_lists modules.new.numbers (files.now ++ kept ∷ []))) }
     ensures grows { GrowsFrom start modules.old modules.new }
 {
     match read {
@@ -182,7 +192,7 @@ impl<'a> Cache<'a> {
     ghost use Rattle.gm_graph.specs.Private.Cached.{ArePartsOf, Follows, HasFailedOn, HoldsAfterBorrow, IsPlaceFor, module_numbered};
     ghost use Rattle.gm_graph.specs.Private.Held.{lent_table};
     ghost use Rattle.gm_graph.specs.declared.cache.Cache.{Cache};
-    ghost use Rattle.gm_graph.specs.Private.CacheVisits.{HasVisited, IsSaid, IsVisit};
+    ghost use Rattle.gm_graph.specs.Private.CacheVisits.{HasVisited, IsVerdict, IsVisit};
 
     /// A cache for a main file, without files. If there is a go.sum, the files that come from proxies are checked
     /// against it. The only refusal is `NoMemory`.
@@ -231,6 +241,8 @@ impl<'a> Cache<'a> {
             (IsKeptIn (main_in self.old) (modules_of self.new.modules) self.old.files.files.items) }
         ensures order { IfOk result (λ kept. AreListsInOrder self.new.first (self.new.files.files.items ++ kept ∷ [])
             (length self.new.modules.numbers)) }
+        ensures next { IfOk result (λ kept. NotesAll self.new.lists (own_lists self.new.modules.numbers
+            (self.old.files.files.items ++ kept ∷ []))) }
         ensures holds { HoldsSame self.old self.new }
         ensures lent { LentSame self.old self.new }
         ensures files { self.new.files ≡ self.old.files }
@@ -316,25 +328,25 @@ impl<'a> Cache<'a> {
 
     /// What the cache says of the vertex with a number, whose file is kept at this place, at this depth. There is no place
     /// if the file comes from a proxy and its path isn't fetchable.
-    fn said(&self, number: u32, depth: Depth, place: Option<u32>) -> Said
+    fn verdict(&self, number: u32, depth: Depth, place: Option<u32>) -> Verdict
         requires vertex { number < length (table_in self.now) }
         requires place { IsPlaceFor self.now (module_numbered self.now number) place }
         ensures { (pairs : List (Name × Reply)) → Knows self.now pairs
-            → IsSaid self.now (run_in self.now pairs) (module_numbered self.now number) depth result }
+            → IsVerdict self.now (run_in self.now pairs) (module_numbered self.now number) depth result }
     {
         let Some(file) = place else {
-            return Said::Fault(Class::NotFetchable);
+            return Verdict::Fault(Class::NotFetchable);
         };
         match self.files.at(file) {
-            Kept::Faulty(class) => Said::Fault(*class),
+            Kept::Faulty(class) => Verdict::Fault(*class),
             Kept::Valid(summary) => {
                 if is_right_path(self.main, self.modules.module(number), &summary.file) {
-                    Said::Sound {
+                    Verdict::Sound {
                         file: self.files.list_place(file),
                         leads: summary.leads_on(depth),
                     }
                 } else {
-                    Said::Fault(Class::WrongPath)
+                    Verdict::Fault(Class::WrongPath)
                 }
             }
         }
@@ -388,10 +400,10 @@ impl<'a> Cache<'a> {
     {
         let place = self.known_at(files, number)?;
         // This is read first, since a reference that one branch alone borrows is not covered by the borrow checker.
-        let said = self.said(number, depth, place);
+        let verdict = self.verdict(number, depth, place);
         let turn = TurnHistory::of(self.modules.module(number), &depth);
-        let list = self.lend_at(said.file(), turn);
-        Ok(Visit::of(said, list))
+        let list = self.lend_at(verdict.file(), turn);
+        Ok(Visit::of(verdict, list))
     }
 
     /// Why loading stops after this fault of a request. The name of the file is given once.
@@ -408,7 +420,8 @@ impl<'a> Cache<'a> {
 
     /// The modules that have numbers, and the lists of requirements. The rest of the cache is dropped.
     pub(crate) fn into_parts(self) -> CacheParts
-        ensures { ArePartsOf self.entry result }
+        ensures parts { ArePartsOf self.entry result }
+        ensures once { AreKeptOnce (own_lists result.numbers.items result.files.items) }
     {
         let Cache {
             modules,

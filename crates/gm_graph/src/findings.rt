@@ -40,7 +40,7 @@ impl Findings {
     }
 
     /// Notes that the vertex with a number has no fault, and the place of the file that has its list.
-    pub(crate) fn note_file(&mut self, number: u32, file: u32) -> Result<(), AllocError>
+    pub(crate) fn record_file(&mut self, number: u32, file: u32) -> Result<(), AllocError>
         ensures put { OnOk result (place_at self.new.places.items number ≡ Some file) }
         ensures others { OnOk result ((n : ℕ) → n ≢ number
             → place_at self.new.places.items n ≡ place_at self.old.places.items n) }

@@ -7,7 +7,7 @@ ghost use Rattle.std.specs.Prelude.{◌≡◌, ◌↔◌, ◌⊎◌, ◌<◌, �
 ghost use Rattle.std.specs.BTreeMap as tree;
 ghost use Rattle.gm_name.specs.ModuleVersion.{ModuleVersion, module_at, pair_cmp};
 ghost use Rattle.gm_graph.specs.Private.Findings.{place_at};
-ghost use Rattle.gm_graph.specs.Private.Gathering.{AreFaultsOf, AreFilePlaces, HasFaultOf, fault, has_file, source_at, gathered_sources, span_after, spans_of, steps_by};
+ghost use Rattle.gm_graph.specs.Private.Gathering.{AreFaultsOf, AreFilePlaces, HasFaultOf, fault, is_in_places, source_at, gathered_sources, span_after, spans_of, steps_by};
 ghost use Rattle.gm_graph.specs.Places.{place_limit};
 ghost use Rattle.gm_graph.specs.Private.Summaries.{AreListsInOrder, AreSpansInOrder};
 ghost use Rattle.gm_graph_select.specs.Adjacency.{edges_of, sources_of as steps_left};
@@ -67,7 +67,7 @@ fn used_files(alloc: Global, count: usize, places: &[Option<u32>]) -> Result<Vec
     requires { (number place : ℕ) → place_at places.now number ≡ Some place → place < count }
     ensures count { IfOk result (λ used. length used.items ≡ count) }
     ensures used { IfOk result (λ used. (place : ℕ)
-        → slice_index_or used.items place false ≡ has_file places.now place) }
+        → slice_index_or used.items place false ≡ is_in_places places.now place) }
 {
     let mut used = vec![in alloc; false; count]?;
     for place in places {
@@ -136,7 +136,7 @@ fn lists_of(
 ) -> Result<Lists, AllocError>
     requires { AreFilePlaces parts.now places.items }
     ensures spans { IfOk result (λ lists. lists.spans.items
-        ≡ spans_of parts.now.first parts.now.files.items (has_file places.items)) }
+        ≡ spans_of parts.now.first parts.now.files.items (is_in_places places.items)) }
     ensures sources { IfOk result (λ lists. lists.sources.items ≡ gathered_sources places.items) }
 {
     if parts.numbers.len() >= MOST_PLACES as usize {

@@ -69,7 +69,7 @@ fn add_requirements(
     if leads {
         followed.follow(worklist, file, list)?;
     }
-    findings.note_file(one.number, file)?;
+    findings.record_file(one.number, file)?;
     Ok(())
 }
 

@@ -8,8 +8,8 @@ use Rattle.gm_store.specs.Asked.{Name, Reply}
 use Rattle.gm_graph.specs.declared.cache.Cache.{Cache}
 use Rattle.gm_graph.specs.declared.cache.depth.Depth.{Depth}
 use Rattle.gm_graph.specs.declared.cache.lent.Lent.{Lent}
-use Rattle.gm_graph.specs.declared.cache.visit.Said.{Said}
-use Rattle.gm_graph.specs.declared.cache.visit.Said.TheVariants as said
+use Rattle.gm_graph.specs.declared.cache.visit.Verdict.{Verdict}
+use Rattle.gm_graph.specs.declared.cache.visit.Verdict.TheVariants as verdict
 use Rattle.gm_graph.specs.declared.cache.visit.Visit.{Visit}
 use Rattle.gm_graph.specs.declared.cache.visit.Visit.TheVariants as visit
 use Rattle.gm_graph.specs.Cached.{IsSound, file_count, run_in, table_in, turns_in}
@@ -22,19 +22,20 @@ use Rattle.gm_graph.specs.Turns.{turn}
 
 -- What a cache says of a vertex: its fault, or the place of the file that has its list, and whether a visit to this
 -- depth leads on.
-abbrev pub IsSaid : Cache → Run → ModuleVersion → Depth → Said → Type 0
-IsSaid cache run x d (said.Fault class) = Says run x (Err class)
-IsSaid cache run x d (said.Sound file leads) = (sound : IsSound cache run x file) × (leads ≡ leads_on sound.file d)
+abbrev pub IsVerdict : Cache → Run → ModuleVersion → Depth → Verdict → Type 0
+IsVerdict cache run x d (verdict.Fault class) = Says run x (Err class)
+IsVerdict cache run x d (verdict.Sound file leads) =
+    (sound : IsSound cache run x file) × (leads ≡ leads_on sound.file d)
 
 -- the place of the file that has the vertex's list, if the vertex has no fault
-abbrev pub file_said : Said → Option ℕ
-file_said (said.Fault class) = None
-file_said (said.Sound file leads) = Some file
+abbrev pub file_of_verdict : Verdict → Option ℕ
+file_of_verdict (verdict.Fault class) = None
+file_of_verdict (verdict.Sound file leads) = Some file
 
 -- what a visit gets of a vertex: the fault that the cache says, or the file and what was lent
-abbrev pub visit_of : Said → Lent → Visit
-visit_of (said.Fault class) list = visit.Fault class
-visit_of (said.Sound file leads) list = visit.Required (record { file = file; leads = leads; list = list })
+abbrev pub visit_of : Verdict → Lent → Visit
+visit_of (verdict.Fault class) list = visit.Fault class
+visit_of (verdict.Sound file leads) list = visit.Required (record { file = file; leads = leads; list = list })
 
 -- What a visit to this depth gets of a vertex: its fault, or the place of the file that has its list, whether the visit
 -- leads on, and what the vertex's file requires, without the excluded ones, with all modules that have numbers.

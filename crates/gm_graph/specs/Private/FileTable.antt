@@ -12,8 +12,8 @@ use Rattle.gm_graph.specs.Reading.{file_of, is_askable}
 use Rattle.gm_graph.specs.FileTable.{kept_at, place_of}
 
 -- the place that is noted for the module with a number, if any
-abbrev pub noted_for : FileTable → ℕ → Option ℕ
-noted_for files number = place_in (slice_index_or files.places.items number no_place)
+abbrev pub place_noted : FileTable → ℕ → Option ℕ
+place_noted files number = place_in (slice_index_or files.places.items number no_place)
 
 -- the place that is noted for a replacement's file, if the name is that of one
 abbrev pub replacing_place : FileTable → Name → Option OptionalPlace
@@ -29,14 +29,14 @@ pub record IsPlacedAt (main : Main) (files : FileTable) (x : ModuleVersion) (pla
 -- No place is noted for the modules with this file.
 abbrev pub IsUnnoted : Main → List ModuleVersion → FileTable → Name → Type 0
 IsUnnoted main modules files name = (number : ℕ) → number < length modules
-    → name ≡ file_of main (module_at modules number) → noted_for files number ≡ None
+    → name ≡ file_of main (module_at modules number) → place_noted files number ≡ None
 
 -- Each place that is noted is that of the file, and each place is noted: that of a replacement's file for the file, any
 -- other for a module. The file of each replaced vertex is one of those of the replacements.
 pub record NotesFiles (main : Main) (modules : List ModuleVersion) (files : FileTable) : Type 0 where
   pub has_replacing : (x : ModuleVersion) → IsSome (replacement_in main x)
       → IsSome (replacing_place files (file_of main x))
-  pub modules_noted : (number place : ℕ) → noted_for files number ≡ Some place
+  pub modules_noted : (number place : ℕ) → place_noted files number ≡ Some place
       → IsPlacedAt main files (module_at modules number) place
   pub replacing_noted : (name : Name) (place : OptionalPlace) → replacing_place files name ≡ Some place
       → place_in place ≡ place_of files name
@@ -64,8 +64,8 @@ KeepsFiles old new = (name : Name) → kept_at new name ≡ kept_at old name
 
 -- This place is noted for this number now, and those for the other numbers stay.
 abbrev pub NotesFor : FileTable → FileTable → ℕ → ℕ → Type 0
-NotesFor old new number place = (other : ℕ) → noted_for new other
-    ≡ (if number == other then Some place else noted_for old other)
+NotesFor old new number place = (other : ℕ) → place_noted new other
+    ≡ (if number == other then Some place else place_noted old other)
 
 -- The list of places grows to this number at most.
 abbrev pub ReachesAtMost : ℕ → FileTable → FileTable → Type 0

@@ -36,8 +36,8 @@ gathered_sources places = record { from = None; list = 0 } ∷ sources_from 0 pl
 -- ---- the lists: that of the main file, and the own list of each file, which is empty if no vertex has it
 
 -- whether a vertex has the list of the file at a place
-abbrev pub has_file : List (Option ℕ) → ℕ → Bool
-has_file places place = list_any (option_eq (λ a b. a == b) (Some place)) places
+abbrev pub is_in_places : List (Option ℕ) → ℕ → Bool
+is_in_places places place = list_any (option_eq (λ a b. a == b) (Some place)) places
 
 -- where the list of a file is, if this is where its own list is: empty behind the one before if it has none, or if no
 -- vertex has it
@@ -59,7 +59,7 @@ spans_of first files used = record { start = 0; end = first } ∷ spans_from use
 -- the edges that leave each source
 abbrev pub steps_by : CacheParts → List (Option ℕ) → List StepEdges
 steps_by parts places =
-    by_step (lists_at parts.numbers.items (spans_of parts.first parts.files.items (has_file places)))
+    by_step (lists_at parts.numbers.items (spans_of parts.first parts.files.items (is_in_places places)))
     (gathered_sources places)
 
 -- The numbers at which there is a place are those of modules, and the places are those of files.

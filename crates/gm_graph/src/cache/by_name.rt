@@ -21,7 +21,7 @@ use crate::cache::lent::Lent;
 use crate::cache::load_fault::LoadFault;
 use crate::cache::naming::file_name;
 use crate::cache::turn_history::TurnHistory;
-use crate::cache::visit::Said;
+use crate::cache::visit::Verdict;
 use gm_name::{ModVer, NoMemory};
 use gm_store::{Asks, FileName};
 
@@ -84,9 +84,9 @@ impl<'a> Cache<'a> {
         ensures { (pairs : List (Name × Reply)) → Knows self.now pairs
             → IsKnownAs (run_in self.now pairs) (module_numbered self.now number) result }
     {
-        match self.said(number, Depth::Deep, place) {
-            Said::Fault(class) => Known::Fault(class),
-            Said::Sound { .. } => Known::Sound(name),
+        match self.verdict(number, Depth::Deep, place) {
+            Verdict::Fault(class) => Known::Fault(class),
+            Verdict::Sound { .. } => Known::Sound(name),
         }
     }
 

@@ -38,7 +38,7 @@ impl FileTable {
     ghost use Rattle.std.specs.Option.{option_and_then, option_map, option_or};
     ghost use Rattle.gm_store.specs.Asked.{name_of, same_name};
     ghost use Rattle.gm_graph.specs.FileTable.{kept_at, place_of};
-    ghost use Rattle.gm_graph.specs.Private.FileTable.{PutsFile, IsNewFile, KeepsFiles, KeepsOthers, NotesFiles, NotesFor, ReachesAtMost, noted_for, replacing_place};
+    ghost use Rattle.gm_graph.specs.Private.FileTable.{PutsFile, IsNewFile, KeepsFiles, KeepsOthers, NotesFiles, NotesFor, ReachesAtMost, place_noted, replacing_place};
     ghost use Rattle.gm_file.specs.Main.{Main};
     ghost use Rattle.gm_name.specs.ModuleVersion.{ModuleVersion};
     ghost use Rattle.gm_name_table.specs.OptionalPlaces.{place_in};
@@ -69,7 +69,7 @@ impl FileTable {
 
     /// The place that is noted for the module with a number, if any.
     pub(crate) fn noted_place(&self, number: u32) -> Option<u32>
-        ensures { result ≡ noted_for self.now number }
+        ensures { result ≡ place_noted self.now number }
     {
         match self.places.get(number as usize) {
             None => None,
@@ -90,7 +90,7 @@ impl FileTable {
     /// The place of the file of a name, which is that of the module with this number: the one noted for the module, or
     /// that of a replacement's file. There is none if nothing is kept of the file.
     pub(crate) fn place_of(&self, name: &FileName, number: u32) -> Option<u32>
-        ensures { result ≡ option_or (noted_for self.now number)
+        ensures { result ≡ option_or (place_noted self.now number)
             (option_and_then place_in (replacing_place self.now (name_of name.now))) }
     {
         match self.noted_place(number) {
@@ -146,7 +146,7 @@ impl FileTable {
     /// Lengthens the list of places, so that it has one for this number. The only refusal is `NoMemory`.
     fn reach(&mut self, number: u32) -> Result<(), NoMemory>
         ensures reaches { OnOk result (number < length self.new.places.items) }
-        ensures noted { (other : ℕ) → noted_for self.new other ≡ noted_for self.old other }
+        ensures noted { (other : ℕ) → place_noted self.new other ≡ place_noted self.old other }
         ensures others { KeepsOthers self.old self.new }
         ensures within { ReachesAtMost number self.old self.new }
     {
@@ -163,7 +163,7 @@ impl FileTable {
     pub(crate) fn note(&mut self, number: u32, place: u32) -> Result<(), NoMemory>
         requires { place < length self.old.files.items }
         ensures notes { OnOk result (NotesFor self.old self.new number place) }
-        ensures err { OnErr result ((other : ℕ) → noted_for self.new other ≡ noted_for self.old other) }
+        ensures err { OnErr result ((other : ℕ) → place_noted self.new other ≡ place_noted self.old other) }
         ensures others { KeepsOthers self.old self.new }
         ensures within { ReachesAtMost number self.old self.new }
     {

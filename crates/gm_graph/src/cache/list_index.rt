@@ -7,9 +7,10 @@
 //! A list is looked up by a tag of its numbers, and compared in full. What finds its tag taken by another list goes to an
 //! ordered map, so lists that were made up to have one tag are found, too.
 
-ghost use Rattle.std.specs.Prelude.{◌≤◌, ◌<◌, IfOk, IfSome, length};
-ghost use Rattle.gm_name_table.specs.Listed.{modules_of, part};
+ghost use Rattle.std.specs.Prelude.{◌≡◌, ◌≢◌, ◌≤◌, ◌<◌, ℕ, IfOk, IfSome, List, None, OnOk, Some, length};
+ghost use Rattle.gm_name_table.specs.Listed.{modules_of};
 ghost use Rattle.gm_graph.specs.Places.{place_limit};
+ghost use Rattle.gm_graph.specs.Private.KeptLists.{NotesAll, list_tag, numbers_from, own_lists, place_for};
 ghost use Rattle.gm_graph.specs.Private.Summaries.{AreWithinList, IsSameList};
 
 use crate::cache::summary::{Kept, ListSpan};
@@ -25,7 +26,9 @@ const SHORT: usize = 8;
 const SPREAD: u32 = 0x9E37_79B1;
 
 /// A tag of the numbers of a list.
-fn tag_of(numbers: &[u32]) -> u32 {
+fn tag_of(numbers: &[u32]) -> u32
+    ensures { result ≡ list_tag 0 numbers.now }
+{
     let mut tag: u32 = 0;
     for number in numbers {
         tag = (tag.rotate_left(5) ^ *number).wrapping_mul(SPREAD);
@@ -47,7 +50,9 @@ pub(crate) struct SameList {
 /// The own list of the file at a place, if it has the modules with these numbers.
 fn list_at(modules: &ModuleList, files: &[Kept], place: u32, numbers: &[u32]) -> Option<SameList>
     requires { AreWithinList (modules_of modules.now) files.now }
-    ensures { IfSome result (IsSameList modules.now files.now numbers.now) }
+    ensures same { IfSome result (IsSameList modules.now files.now numbers.now) }
+    ensures none { result ≡ None → 8 ≤ length numbers.now
+        → own_lists modules.now.numbers files.now place ≢ numbers.now }
 {
     match files.get(place as usize)? {
         Kept::Valid(summary) if summary.same_as.is_none() => {
@@ -66,7 +71,7 @@ fn list_at(modules: &ModuleList, files: &[Kept], place: u32, numbers: &[u32]) ->
 }
 
 /// The places of the files whose own lists were kept. They are guesses, which `find` tests: after a refusal a place may
-/// be that of another file, or of none.
+/// be that of another file, or of none, until the list comes again.
 #[derive(Drop)]
 pub(crate) struct ListIndex {
     /// The allocator of the lists whose tag is taken.
@@ -87,25 +92,58 @@ impl ListIndex {
         }
     }
 
-    /// The file with the modules from a place of the list on, if their tag is that of other modules, too. Otherwise the
-    /// next file is noted for them.
-    #[cold]
-    fn find_other(
-        &mut self,
+    /// The place that is noted for a list with this tag.
+    fn noted(&self, tag: u32, list: &[u32]) -> Option<u32>
+        requires { tag ≡ list_tag 0 list.now }
+        ensures { result ≡ place_for self.now list.now }
+    {
+        match self.others.get(list) {
+            Some(place) => Some(*place),
+            None => self.by_tag.get(tag),
+        }
+    }
+
+    /// The file whose own list has the modules with these numbers, eight or more. `noted` is noted for them.
+    fn find_noted(
+        &self,
         modules: &ModuleList,
         files: &[Kept],
-        numbers: &[u32],
-    ) -> Result<Option<SameList>, NoMemory>
-        requires few { length files.now < place_limit }
+        noted: Option<u32>,
+        list: &[u32],
+    ) -> Option<SameList>
         requires within { AreWithinList (modules_of modules.now) files.now }
-        ensures { IfOk result (λ found. IfSome found (IsSameList modules.now files.now numbers.now)) }
+        requires long { 8 ≤ length list.now }
+        requires noted { noted ≡ place_for self.now list.now }
+        requires notes { NotesAll self.now (own_lists modules.now.numbers files.now) }
+        ensures same { IfSome result (IsSameList modules.now files.now list.now) }
+        ensures none { result ≡ None → (place : ℕ) → own_lists modules.now.numbers files.now place ≢ list.now }
     {
-        let list = Vec::from_slice(self.alloc, numbers)?;
-        if let Some(place) = self.others.get(&list) {
-            return Ok(list_at(modules, files, *place, numbers));
+        list_at(modules, files, noted?, list)
+    }
+
+    /// Notes a place for a list with this tag, for which `noted` is noted. The only refusal is `NoMemory`.
+    fn note(
+        &mut self,
+        tag: u32,
+        noted: Option<u32>,
+        list: &[u32],
+        place: u32,
+    ) -> Result<(), NoMemory>
+        requires place { place < place_limit }
+        requires tag { tag ≡ list_tag 0 list.now }
+        requires noted { noted ≡ place_for self.old list.now }
+        ensures notes { OnOk result (place_for self.new list.now ≡ Some place) }
+        ensures others { (lists : ℕ → List ℕ) → ((place : ℕ) → lists place ≢ list.now)
+            → NotesAll self.old lists → NotesAll self.new lists }
+    {
+        match noted {
+            None => self.by_tag.put(tag, place)?,
+            Some(_) => {
+                self.others
+                    .insert(Vec::from_slice(self.alloc, list)?, place)?;
+            }
         }
-        self.others.insert(list, files.len() as u32)?;
-        Ok(None)
+        Ok(())
     }
 
     /// The file that has the modules from a place of the list on as its own list, unless they are few. If there is none,
@@ -119,21 +157,25 @@ impl ListIndex {
         requires few { length files.now < place_limit }
         requires within { AreWithinList (modules_of modules.now) files.now }
         requires start { start ≤ length modules.now.numbers }
-        ensures { IfOk result (λ found. IfSome found (IsSameList modules.now files.now
-            (part start (length modules.now.numbers) modules.now.numbers))) }
+        requires notes { NotesAll self.old (own_lists modules.now.numbers files.now) }
+        ensures same { IfOk result (λ found. IfSome found
+            (IsSameList modules.now files.now (numbers_from start modules.now))) }
+        ensures finds { IfOk result (λ found. found ≡ None → 8 ≤ length (numbers_from start modules.now)
+            → (place : ℕ) → own_lists modules.now.numbers files.now place ≢ numbers_from start modules.now) }
+        ensures next { IfOk result (λ found. found ≡ None → 8 ≤ length (numbers_from start modules.now)
+            → place_for self.new (numbers_from start modules.now) ≡ Some (length files.now)) }
+        ensures notes { NotesAll self.new (own_lists modules.now.numbers files.now) }
     {
         let numbers = modules.numbers(start, modules.len());
         if numbers.len() < SHORT {
             return Ok(None);
         }
         let tag = tag_of(numbers);
-        let Some(place) = self.by_tag.get(tag) else {
-            self.by_tag.put(tag, files.len() as u32)?;
-            return Ok(None);
-        };
-        match list_at(modules, files, place, numbers) {
-            Some(same) => Ok(Some(same)),
-            None => self.find_other(modules, files, numbers),
+        let noted = self.noted(tag, numbers);
+        if let Some(same) = self.find_noted(modules, files, noted, numbers) {
+            return Ok(Some(same));
         }
+        self.note(tag, noted, numbers, files.len() as u32)?;
+        Ok(None)
     }
 }

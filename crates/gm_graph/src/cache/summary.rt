@@ -11,6 +11,7 @@ ghost use Rattle.gm_file.specs.Listed.{with_requirements};
 ghost use Rattle.gm_file.specs.Main.{is_excluded, without_excluded};
 ghost use Rattle.gm_graph.specs.Private.Turns.{leads_on};
 ghost use Rattle.gm_graph.specs.Summaries.{at_span, own_span};
+ghost use Rattle.gm_graph.specs.Private.KeptLists.{numbers_from, own_list};
 ghost use Rattle.gm_graph.specs.Private.Summaries.{Grows, IsSummary, nowhere, same_list, span_found};
 
 use crate::cache::class::Class;
@@ -108,6 +109,8 @@ pub(crate) fn summary_of(
     ensures kept { IfOk result (IsSummary main.now (modules_of modules.new)) }
     ensures begins { IfOk result (λ summary. start ≤ summary.kept.start) }
     ensures own { IfOk result (λ summary. summary.same_as ≡ None) }
+    ensures list { IfOk result (λ summary.
+        own_list modules.new.numbers (Some (Kept.Valid summary)) ≡ numbers_from start modules.old) }
     ensures grows { Grows modules.old modules.new }
 {
     let end = modules.len();

@@ -7,7 +7,7 @@ use crate::cache::lent::Lent;
 
 /// What a cache says of a vertex.
 #[derive(Clone, Copy)]
-pub(crate) enum Said {
+pub(crate) enum Verdict {
     /// The vertex has this fault.
     Fault(Class),
     /// The vertex has no fault.
@@ -19,16 +19,16 @@ pub(crate) enum Said {
     },
 }
 
-impl Said {
-    ghost use Rattle.gm_graph.specs.Private.CacheVisits.{file_said};
+impl Verdict {
+    ghost use Rattle.gm_graph.specs.Private.CacheVisits.{file_of_verdict};
 
     /// The place of the file that has the vertex's list, if the vertex has no fault.
     pub(crate) fn file(self) -> Option<u32>
-        ensures { result ≡ file_said self }
+        ensures { result ≡ file_of_verdict self }
     {
         match self {
-            Said::Fault(_) => None,
-            Said::Sound { file, .. } => Some(file),
+            Verdict::Fault(_) => None,
+            Verdict::Sound { file, .. } => Some(file),
         }
     }
 }
@@ -57,12 +57,12 @@ impl<'a> Visit<'a> {
     ghost use Rattle.gm_graph.specs.Private.CacheVisits.{visit_of};
 
     /// What a visit gets of a vertex, from what the cache says of it, and what it lent.
-    pub(crate) fn of(said: Said, list: Lent<'a>) -> Visit<'a>
-        ensures { result ≡ visit_of said list.entry }
+    pub(crate) fn of(verdict: Verdict, list: Lent<'a>) -> Visit<'a>
+        ensures { result ≡ visit_of verdict list.entry }
     {
-        match said {
-            Said::Fault(class) => Visit::Fault(class),
-            Said::Sound { file, leads } => Visit::Required(Required { file, leads, list }),
+        match verdict {
+            Verdict::Fault(class) => Visit::Fault(class),
+            Verdict::Sound { file, leads } => Visit::Required(Required { file, leads, list }),
         }
     }
 }

@@ -40,7 +40,7 @@ returns-in_err-worklist-clause-too_many g c = λ e.
 pub assemble-requires : goal.assemble-requires
 assemble-requires g c =
     let opened = c.in_ok-worklist.ensures.opened in
-    let are = c.into_parts-parts.ensures in
+    let are = c.into_parts-parts.ensures.parts in
     record {
       turned = rw (c.into_turns.ensures, are.modules) opened.worklist_is.turned;
       faults = found_faults opened are;
@@ -53,7 +53,7 @@ pub returns-clause-loaded : goal.returns-clause-loaded
 returns-clause-loaded g c =
     let told = c.in_ok-assemble.ensures in
     loads c.args.main.now (option_copied c.args.sums) (g.F.Asks.state c.visit_all-found.new.files).asked
-    (rw (c.in_ok-cache.ensures.main, c.in_ok-cache.ensures.sums) at c.in_ok-worklist.ensures.opened) c.into_parts-parts.ensures
+    (rw (c.in_ok-cache.ensures.main, c.in_ok-cache.ensures.sums) at c.in_ok-worklist.ensures.opened) c.into_parts-parts.ensures.parts
     (rw (c.in_ok-cache.ensures.main, c.in_ok-cache.ensures.sums) at c.visit_all-found.ensures.asks.asks)
     c.in_ok-assemble.field-0 told.main told.faults told.ascending told.edges told.rows (rw c.into_turns.ensures at told.turns)
 

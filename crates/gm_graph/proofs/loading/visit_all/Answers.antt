@@ -5,7 +5,7 @@ use Rattle.gm_graph.proofs.Dues.{refused_same}
 use Rattle.gm_graph.proofs.FoundFiles.{nothing_found, nothing_visited}
 use Rattle.gm_graph.proofs.InTurn.{asked_in_turn, in_turn_by, many_in_turn, nothing_asked, stepped}
 use Rattle.gm_graph.proofs.Loads.{too_many_first}
-use Rattle.gm_graph.proofs.Rounds.{few_turns}
+use Rattle.gm_graph.proofs.DoneTurns.{few_turns}
 use Rattle.gm_graph.proofs.Stepping.{first_step, last_step, number_here}
 use Rattle.gm_graph.proofs.loading.visit_all.Goals as goal
 

@@ -20,8 +20,8 @@ returns-clause-adds c = λ cache run ready below is.
     let one = c.args.one in
     let old = c.args.worklist.now in
     let marks = c.args.followed.now in
-    let more = c.note_file.new.self in
-    let noted = c.in_ok-note_file.ensures in
+    let more = c.record_file.new.self in
+    let noted = c.in_ok-record_file.ensures in
     let leads : LeadsOn (lent_table required.list) required old c.if-leads.worklist marks c.if-leads.followed = elim c.if-leads.branch [
       | then-leads+in_ok-follow w ↦ rw (w.worklist-is, w.followed-is) (record {
         worklist_is = w.in_ok-follow.ensures.worklist;
@@ -42,9 +42,9 @@ returns-clause-adds c = λ cache run ready below is.
       ready = record {
         worklist_is = here.worklist_is;
         followed = followed_more cache run _ _ marks c.if-leads.followed _ one.depth required is here.adds.extends ready.followed here.files here.followed;
-        found = file_noted c.args.findings.now more one.number required.file noted.put noted.others c.note_file.ensures.faults cache run
+        found = file_noted c.args.findings.now more one.number required.file noted.put noted.others c.record_file.ensures.faults cache run
             ready.found below sound;
       };
       follows = record { said = Ok file; says = says; adds = rw⁻¹ (leads_on, list) here.adds };
-      finds = file_finds c.args.findings.now more one.number required.file noted.put noted.others c.note_file.ensures.faults;
+      finds = file_finds c.args.findings.now more one.number required.file noted.put noted.others c.record_file.ensures.faults;
     }

@@ -1,4 +1,5 @@
 use Rattle.std.proofs.Common.{refl}
+use Rattle.gm_graph.proofs.KeptLists.{kept_once}
 use Rattle.gm_graph.proofs.cache.Cache.into_parts.Goals as goal
 
 pub invariant_of-result : goal.invariant_of-result
@@ -11,9 +12,15 @@ invariant_of-result c =
     }
 
 pub returns : goal.returns
-returns c = record {
-  modules = c.into_parts-modules.ensures.modules;
-  numbers = c.into_parts-modules.ensures.numbers;
-  first = refl;
-  files = c.into_files.ensures;
-}
+returns c =
+    let cache = c.args.self in
+    record {
+      parts = record {
+        modules = c.into_parts-modules.ensures.modules;
+        numbers = c.into_parts-modules.ensures.numbers;
+        first = refl;
+        files = c.into_files.ensures;
+      };
+      once = rw (c.into_files.ensures, c.into_parts-modules.ensures.numbers)
+          (kept_once cache.lists cache.modules.numbers cache.files.files.items cache.notes);
+    }

@@ -9,7 +9,7 @@ use Rattle.gm_graph.specs.Cached.{main_in, run_in, sums_in, table_in}
 use Rattle.gm_graph.specs.Private.Cached.{module_numbered}
 use Rattle.gm_graph.specs.Reading.{file_of}
 use Rattle.gm_name.specs.ModuleVersion.{module_at}
-use Rattle.gm_graph.proofs.GrownCache.{grown_consistent}
+use Rattle.gm_graph.proofs.GrownCache.{grown_consistent, grown_notes}
 use Rattle.gm_graph.proofs.Growing.{number_below, number_stays}
 use Rattle.gm_graph.proofs.HeldFiles.{grown_holds, numbered_more}
 use Rattle.gm_graph.proofs.Keeping.{holds_after, holds_grown, never_many, says_still}
@@ -23,7 +23,8 @@ use Rattle.gm_graph.proofs.cache.Cache.known.Goals.{After-of_request, In-Ok}
 pub invariant_of-self : goal.invariant_of-self
 invariant_of-self g c =
     let more = c.number.ensures in
-    record { consistent = grown_consistent c.args.self.now _ (numbered_more c.args.vertex.now more.only more.numbers more.list) }
+    let grows = numbered_more c.args.vertex.now more.only more.numbers more.list in
+    record { consistent = grown_consistent c.args.self.now _ grows; notes = grown_notes c.args.self.now _ grows }
 
 pub known_at-requires-clause-knows : goal.known_at-requires-clause-knows
 known_at-requires-clause-knows g c =

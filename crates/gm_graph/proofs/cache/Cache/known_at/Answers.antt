@@ -11,10 +11,11 @@ use Rattle.gm_graph.proofs.OwnFiles.{new_file, noted_again, nothing_kept, placed
 use Rattle.gm_graph.proofs.PuttingPlaces.{same_files}
 use Rattle.gm_graph.proofs.SharedLists.{listed_push}
 use Rattle.gm_graph.proofs.HeldFiles.{added_some, kept_some}
+use Rattle.gm_graph.specs.Private.KeptLists.{NotesAll, own_lists}
 use Rattle.gm_graph.specs.Private.Summaries.{AreKeptIn, AreListsInOrder, IsKeptIn}
 use Rattle.gm_name_table.specs.Listed.{modules_of}
 use Rattle.gm_graph.proofs.Ordered.{begins_added, has_added}
-use Rattle.gm_graph.proofs.Telling.{knows_read, none_still, not_asked, sound_read}
+use Rattle.gm_graph.proofs.MoreAnswers.{knows_read, none_still, not_asked, sound_read}
 use Rattle.gm_graph.proofs.cache.Cache.known_at.Given.{Over}
 use Rattle.gm_graph.proofs.cache.Cache.known_at.Goals as goal
 use Rattle.gm_graph.proofs.cache.Cache.known_at.Goals.{After-add, In_default-replacing_place, In-Some-replacing_place}
@@ -71,6 +72,8 @@ invariant_of-self-in-Ok g c =
             (subst (λ (m : Main). IsKeptIn m (modules_of mid.modules) files kept) (sym c.read_file.ensures.lent.main)
             (rw c.read_file.ensures.files c.in-Ok.ensures.listed)));
       };
+      notes = has_added files c.add.new.self.files.items kept c.add.ensures.files
+          (λ all. NotesAll mid.lists (own_lists mid.modules.numbers all)) mid.notes (rw c.read_file.ensures.files c.in-Ok.ensures.next);
     }
 
 -- ---- memory ran out before anything was asked for
@@ -112,6 +115,7 @@ invariant_of-self g c =
         in_order = rw others.files was.in_order;
         listed = rw others.files was.listed;
       };
+      notes = rw others.files cache.notes;
     }
 
 pub note-requires : goal.note-requires

@@ -21,6 +21,7 @@ invariant_of-result c =
         in_order = rw files.files (omega (arith, len));
         listed = λ place one there. absurd (cc (rw files.files at there));
       };
+      notes = rw files.files (λ place long. absurd (omega (arith, long)));
     }
 
 pub returns-clause-knows : goal.returns-clause-knows

@@ -2,7 +2,7 @@ use Rattle.std.proofs.Common.{Ok, Err, refl}
 use Rattle.gm_store.specs.Asked.{name_of}
 use Rattle.gm_graph.specs.Cached.{main_in}
 use Rattle.gm_graph.proofs.AskedFile.{asked_one, asks_passed, asks_still}
-use Rattle.gm_graph.proofs.GrownCache.{grown_consistent}
+use Rattle.gm_graph.proofs.GrownCache.{grown_consistent, grown_notes}
 use Rattle.gm_graph.proofs.Keeping.{holds_grown, holds_itself}
 use Rattle.gm_graph.proofs.Ordered.{order_push}
 use Rattle.gm_graph.proofs.SharedLists.{listed_front}
@@ -15,14 +15,22 @@ kept_of-requires-clause-listed g c =
     (listed_front (main_in cache) cache.modules c.read_answer.new.modules cache.files.files.items c.len-start.result
     c.len-start.ensures.len c.read_answer.ensures.grows cache.consistent.listed)
 
+pub kept_of-requires-clause-notes : goal.kept_of-requires-clause-notes
+kept_of-requires-clause-notes g c = rw c.files.ensures (grown_notes c.args.self.now c.read_answer.new.modules c.read_answer.ensures.grows)
+
 pub invariant_of-self : goal.invariant_of-self
 invariant_of-self g c =
-    record { consistent = grown_consistent c.args.self.now _ c.read_answer.ensures.grows }
+    let cache = c.args.self.now in
+    let grows = c.read_answer.ensures.grows in
+    record { consistent = grown_consistent cache _ grows; notes = grown_notes cache _ grows }
 
 pub invariant_of-self-2 : goal.invariant_of-self-2
 invariant_of-self-2 g c =
     let cache = c.args.self.now in
-    record { consistent = grown_consistent cache _ (c.kept_of.ensures.grows cache.modules c.len-start.ensures.len c.read_answer.ensures.grows) }
+    record {
+      consistent = grown_consistent cache _ (c.kept_of.ensures.grows cache.modules c.len-start.ensures.len c.read_answer.ensures.grows);
+      notes = rw c.files.ensures at c.kept_of.ensures.notes;
+    }
 
 -- ---- the store refused
 
@@ -65,6 +73,9 @@ pub returns-clause-order : goal.returns-clause-order
 returns-clause-order g c =
     let old = c.args.self.now in
     order_push old.first old.files.files.items _ c.in_ok-kept.kept _ old.consistent.in_order (rw c.len-start.ensures.len at c.in_ok-kept.ensures.order)
+
+pub returns-clause-next : goal.returns-clause-next
+returns-clause-next g c = rw c.files.ensures at c.in_ok-kept.ensures.next
 
 pub returns-clause-reading : goal.returns-clause-reading
 returns-clause-reading g c =

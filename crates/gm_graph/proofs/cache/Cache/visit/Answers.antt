@@ -18,7 +18,7 @@ lend_at-list-requires g c =
     let pairs = (g.F.Asks.state c.known_at.new.files).asked in
     record {
       place = rw c.file.ensures
-          (place_said mid pairs c.args.number c.args.depth c.said-said.result (c.said-said.ensures pairs c.in_ok-place.ensures.known.0.knows));
+          (place_said mid pairs c.args.number c.args.depth c.verdict-verdict.result (c.verdict-verdict.ensures pairs c.in_ok-place.ensures.known.0.knows));
     }
 
 pub returns : goal.returns
@@ -34,7 +34,7 @@ returns g c =
     let before = (g.F.Asks.state c.args.files.now).asked in
     let after = (g.F.Asks.state c.known_at.new.files).asked in
     let got : IsVisit mid (run_in mid after) (module_numbered mid number) d c.of.result =
-    rw c.of.ensures (visit_got mid after number d c.said-said.result c.lend_at-list.result made.knows (c.said-said.ensures after made.knows)
+    rw c.of.ensures (visit_got mid after number d c.verdict-verdict.result c.lend_at-list.result made.knows (c.verdict-verdict.ensures after made.knows)
     (c.lend_at-list.ensures.modules ∙ ap (λ (p : Option ℕ). at_span (modules_of mid.modules) (span_at mid p)) c.file.ensures)
     c.lend_at-list.ensures.table) in
     let table = ap (λ (list : NumberedList). list.modules) has.modules in (

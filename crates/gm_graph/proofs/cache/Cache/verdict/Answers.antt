@@ -13,7 +13,7 @@ use Rattle.gm_graph.specs.Run.{faulty, sound, unaskable, wrong_path}
 use Rattle.gm_graph.specs.Summaries.{at_span, listed_span}
 use Rattle.gm_graph.proofs.SharedLists.{list_owned}
 use Rattle.gm_graph.proofs.Lending.{kept_says}
-use Rattle.gm_graph.proofs.cache.Cache.said.Goals as goal
+use Rattle.gm_graph.proofs.cache.Cache.verdict.Goals as goal
 
 pub at-requires : goal.at-requires
 at-requires c =
