@@ -5,7 +5,6 @@
 ghost use Rattle.std.specs.Prelude.{◌≡◌, [], IfOk, MatchResult, List, ℕ};
 ghost use Rattle.std.specs.Option.{option_copied};
 ghost use Rattle.std.specs.Str.{IsUtf8};
-ghost use Rattle.gm_file.specs.Main.{main_of};
 ghost use Rattle.gomod_run.specs.FromFaults.{report_by_load};
 ghost use Rattle.gomod_run.specs.Queries.{AreInvalidSums, AreSums};
 ghost use Rattle.gomod_run.specs.Outcome.{OrNoMemory, ended_view, report_outcome, refusal_outcome};
@@ -19,8 +18,8 @@ use crate::queries::list::list_outcome;
 use crate::queries::query::Query;
 use crate::reports::report::Report;
 use crate::text::Text;
-use gm_file::MainFile;
-use gm_graph::{LoadFault, Loaded, load};
+use gm_file::{MainFile, MainModule};
+use gm_graph::{LoadFault, Loaded, load_module};
 use gm_store::Asks;
 use gm_store_sums::SumTable;
 use std::alloc::Global;
@@ -42,8 +41,8 @@ fn sum_table<'a, 'r>(
 }
 
 /// The folders of a main file are UTF-8, since it holds them as strings. This does nothing: the contract is a law.
-fn folders_are_utf8(main: &MainFile<'_>)
-    ensures { AreUtf8Folders (main_of main.now).replaces }
+fn folders_are_utf8(main: &MainModule)
+    ensures { AreUtf8Folders main.now.replaces }
 {
     let _replaces = main.replaces();
 }
@@ -52,12 +51,12 @@ fn folders_are_utf8(main: &MainFile<'_>)
 fn query_outcome<'q>(
     alloc: Global,
     query: Query<'q>,
-    main: &MainFile<'_>,
+    main: &MainModule,
     loaded: Loaded,
 ) -> Result<Text, Report<'q>>
     requires no_fault { loaded.faults ≡ [] }
-    requires main { loaded.main ≡ (main_of main.now).path }
-    ensures { OrNoMemory (PrintsFound query.entry (main_of main.now) loaded) (ended_view result) }
+    requires main { loaded.main ≡ main.now.path }
+    ensures { OrNoMemory (PrintsFound query.entry main.now loaded) (ended_view result) }
 {
     match query {
         Query::Graph => graph_outcome(alloc, main, loaded),
@@ -71,12 +70,12 @@ fn query_outcome<'q>(
 fn loaded_outcome<'q>(
     alloc: Global,
     query: Query<'q>,
-    main: &MainFile<'_>,
+    main: &MainModule,
     loaded: Result<Loaded, LoadFault>,
 ) -> Result<Text, Report<'q>>
-    requires { IfOk loaded (λ loaded. loaded.main ≡ (main_of main.now).path) }
+    requires { IfOk loaded (λ loaded. loaded.main ≡ main.now.path) }
     ensures { MatchResult loaded
-        (λ loaded. OrNoMemory (IsOutcomeOfFound query.entry (main_of main.now) loaded) (ended_view result))
+        (λ loaded. OrNoMemory (IsOutcomeOfFound query.entry main.now loaded) (ended_view result))
         (λ fault. ended_view result ≡ report_outcome (report_by_load fault)) }
 {
     let loaded = loaded?;
@@ -120,9 +119,9 @@ pub fn answer<'q, F: Asks>(
         (ended_view result) }
     ensures utf8 { IsUtf8 (ended_view result).text }
 {
-    let main = MainFile::read_bytes(alloc, file)?;
+    let main = MainFile::read_bytes(alloc, file)?.into_module();
     folders_are_utf8(&main);
     let table = sum_table(alloc, sums)?;
-    let loaded = load(alloc, &main, files, table.as_ref());
+    let loaded = load_module(alloc, &main, files, table.as_ref());
     loaded_outcome(alloc, query, &main, loaded)
 }

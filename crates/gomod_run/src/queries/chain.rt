@@ -2,7 +2,6 @@
 
 ghost use Rattle.std.specs.Prelude.{◌≡◌, []};
 ghost use Rattle.gomod_run.specs.ChainQuery.{chain_text, step_line, ShowsChain};
-ghost use Rattle.gm_file.specs.Main.{main_of};
 ghost use Rattle.gm_graph_select.specs.Graph.{among};
 ghost use Rattle.gomod_run.specs.Outcome.{OrNoMemory, ended_view};
 ghost use Rattle.gomod_run.specs.Private.Giving.{IsGiven};
@@ -12,7 +11,7 @@ use crate::queries::fields::{step_pieces, vertex_of};
 use crate::reports::buffer::LineBuffer;
 use crate::reports::report::Report;
 use crate::text::Text;
-use gm_file::MainFile;
+use gm_file::MainModule;
 use gm_graph::Loaded;
 use gm_graph_select::{ChainFault, Step};
 use gm_name::ModPath;
@@ -52,18 +51,18 @@ pub(crate) fn write_steps<O: Sink>(
 /// `chain`: the steps, or a report if the path is not in the build list.
 pub(crate) fn chain_outcome<'q>(
     alloc: Global,
-    main: &MainFile<'_>,
+    main: &MainModule,
     loaded: &Loaded,
     path: &'q ModPath,
 ) -> Result<Text, Report<'q>>
     requires no_fault { loaded.now.faults ≡ [] }
-    requires main { loaded.now.main ≡ (main_of main.now).path }
-    ensures { OrNoMemory (ShowsChain path.now (main_of main.now) (among loaded.now.edges) loaded.now.rows)
+    requires main { loaded.now.main ≡ main.now.path }
+    ensures { OrNoMemory (ShowsChain path.now main.now (among loaded.now.edges) loaded.now.rows)
         (ended_view result) }
 {
     match loaded.chain(alloc, path) {
         Ok(steps) => {
-            let main = main.module().copy(alloc)?;
+            let main = main.path().copy(alloc)?;
             Ok(Text::steps(main, steps))
         }
         Err(ChainFault::NotListed) => Err(Report::NotListed(path)),

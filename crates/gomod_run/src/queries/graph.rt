@@ -3,7 +3,6 @@
 ghost use Rattle.std.specs.Prelude.{◌≡◌};
 ghost use Rattle.gm_graph_select.specs.EdgeList.{edge_of_ref};
 ghost use Rattle.gomod_run.specs.GraphQuery.{edge_line, graph_text};
-ghost use Rattle.gm_file.specs.Main.{main_of};
 ghost use Rattle.gomod_run.specs.Outcome.{OrNoMemory, ended_view, text_outcome};
 ghost use Rattle.gomod_run.specs.Private.Giving.{IsGiven};
 ghost use Rattle.gomod_run.specs.Taking.{Took};
@@ -12,7 +11,7 @@ use crate::queries::fields::step_pieces;
 use crate::reports::buffer::LineBuffer;
 use crate::reports::report::Report;
 use crate::text::Text;
-use gm_file::MainFile;
+use gm_file::MainModule;
 use gm_graph::Loaded;
 use gm_graph_select::{EdgeRef, Edges};
 use gm_name::ModPath;
@@ -65,12 +64,12 @@ pub(crate) fn write_edges<O: Sink>(
 /// `graph`: all edges.
 pub(crate) fn graph_outcome<'r>(
     alloc: Global,
-    main: &MainFile<'_>,
+    main: &MainModule,
     loaded: Loaded,
 ) -> Result<Text, Report<'r>>
-    ensures { OrNoMemory (λ outcome. outcome ≡ text_outcome (graph_text (main_of main.now).path loaded.edges))
+    ensures { OrNoMemory (λ outcome. outcome ≡ text_outcome (graph_text main.now.path loaded.edges))
         (ended_view result) }
 {
-    let main = main.module().copy(alloc)?;
+    let main = main.path().copy(alloc)?;
     Ok(Text::edges(main, loaded))
 }

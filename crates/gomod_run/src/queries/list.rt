@@ -4,7 +4,6 @@
 ghost use Rattle.std.specs.Prelude.{◌≡◌, ◌<◌, ◌≤◌, ◌++◌, ◌^◌, [], IfErr, IfOk, List, Option, ℕ, drop, length, take};
 ghost use Rattle.std.specs.Option.{option_copied, option_map};
 ghost use Rattle.gm_file.specs.Views.{right_view};
-ghost use Rattle.gm_file.specs.Main.{main_of};
 ghost use Rattle.gm_graph.specs.Entries.{Entry, entries_of_rows, entry_of_row};
 ghost use Rattle.gomod_run.specs.ListQuery.{entry_line, up_to, list_text, module_text, replacement_suffix, PrintsRows};
 ghost use Rattle.gomod_run.specs.Outcome.{OrNoMemory, ended_view, report_outcome, text_outcome};
@@ -14,7 +13,7 @@ ghost use Rattle.gomod_run.specs.Taking.{Took};
 use crate::reports::buffer::LineBuffer;
 use crate::reports::report::Report;
 use crate::text::Text;
-use gm_file::{MainFile, Right};
+use gm_file::{MainModule, Right};
 use gm_graph::{Loaded, Row, Rows};
 use gm_graph_select::Step;
 use gm_name::ModPath;
@@ -113,17 +112,17 @@ fn count_of(rows: Rows<'_>) -> usize
 /// How many rows come before those to print: none, or those up to the row of a path. A path that is not in the build list
 /// is reported.
 fn first_row<'q>(
-    main: &MainFile<'_>,
+    main: &MainModule,
     loaded: &Loaded,
     after: Option<&'q ModPath>,
 ) -> Result<usize, Report<'q>>
     requires no_fault { loaded.now.faults ≡ [] }
-    requires main { loaded.now.main ≡ (main_of main.now).path }
+    requires main { loaded.now.main ≡ main.now.path }
     ensures printed { IfOk result (λ from. (limit : Option ℕ)
-        → PrintsRows (main_of main.now) loaded.now.rows (option_copied after.entry) limit
-        (text_outcome (list_text (main_of main.now).path (up_to limit (drop from loaded.now.rows))))) }
+        → PrintsRows main.now loaded.now.rows (option_copied after.entry) limit
+        (text_outcome (list_text main.now.path (up_to limit (drop from loaded.now.rows))))) }
     ensures told { IfErr result (λ told. (limit : Option ℕ)
-        → PrintsRows (main_of main.now) loaded.now.rows (option_copied after.entry) limit (report_outcome told)) }
+        → PrintsRows main.now loaded.now.rows (option_copied after.entry) limit (report_outcome told)) }
 {
     let Some(path) = after else {
         return Ok(0);
@@ -138,17 +137,17 @@ fn first_row<'q>(
 /// path that is not in the build list is reported.
 pub(crate) fn list_outcome<'q>(
     alloc: Global,
-    main: &MainFile<'_>,
+    main: &MainModule,
     loaded: Loaded,
     after: Option<&'q ModPath>,
     limit: Option<u32>,
 ) -> Result<Text, Report<'q>>
     requires no_fault { loaded.faults ≡ [] }
-    requires main { loaded.main ≡ (main_of main.now).path }
-    ensures { OrNoMemory (PrintsRows (main_of main.now) loaded.rows (option_copied after.entry) limit)
+    requires main { loaded.main ≡ main.now.path }
+    ensures { OrNoMemory (PrintsRows main.now loaded.rows (option_copied after.entry) limit)
         (ended_view result) }
 {
     let from = first_row(main, &loaded, after)?;
-    let main = main.module().copy(alloc)?;
+    let main = main.path().copy(alloc)?;
     Ok(Text::rows(main, loaded, from, limit))
 }

@@ -1,6 +1,5 @@
 use Rattle.std.proofs.Common.{List, length, false, inl, sym, subst, ◌∙◌, ◌≡◌}
 use Rattle.std.specs.Bool.{◌==◌}
-use Rattle.gm_file.specs.Main.{main_of}
 use Rattle.gm_graph.specs.declared.fault.Fault.{Fault}
 use Rattle.gomod_run.specs.Private.Found.{IsOutcomeOfFound, PrintsFound}
 use Rattle.gomod_run.specs.Outcome.{refusal_outcome}
@@ -10,7 +9,7 @@ use Rattle.gomod_run.proofs.queries.answering.loaded_outcome.Goals as goal
 
 pub returns : goal.returns
 returns c =
-    let main = main_of c.args.main.now in
+    let main = c.args.main.now in
     let found = c.in_ok-loaded.loaded in
     let outcome = refusal_outcome (faults_text c.into_faults.result.items) in
     rw c.in_ok-loaded.was

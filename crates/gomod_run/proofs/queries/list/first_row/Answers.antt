@@ -1,12 +1,11 @@
 use Rattle.std.proofs.Common.{refl}
-use Rattle.gm_file.specs.Main.{main_of}
 use Rattle.gomod_run.specs.ListQuery.{path_unlisted}
 use Rattle.gomod_run.proofs.PartOfRows.{rest_shown}
 use Rattle.gomod_run.proofs.queries.list.first_row.Goals as goal
 
 pub returns-in-Ok-clause-printed : goal.returns-in-Ok-clause-printed
 returns-in-Ok-clause-printed c = λ limit.
-    rw c.in-Some.is (rest_shown (main_of c.args.main.now) c.build_list.result.now c.in-Ok.rest c.args.loaded.now.rows c.in-Some.path.now c.count_of.result limit
+    rw c.in-Some.is (rest_shown c.args.main.now c.build_list.result.now c.in-Ok.rest c.args.loaded.now.rows c.in-Some.path.now c.count_of.result limit
     c.build_list.ensures c.count_of.ensures (rw c.requires.main at c.in-Ok.ensures.rest))
 
 pub returns-in-Err-clause-told : goal.returns-in-Err-clause-told

@@ -1,6 +1,5 @@
 use Rattle.std.proofs.Common.{inl}
 use Rattle.std.specs.Option.{option_copied}
-use Rattle.gm_file.specs.Main.{main_of}
 use Rattle.gomod_run.specs.ListQuery.{PrintsRows}
 use Rattle.gomod_run.specs.Outcome.{OrNoMemory}
 use Rattle.gomod_run.proofs.PassedOn.{passed_text}
@@ -8,8 +7,8 @@ use Rattle.gomod_run.proofs.queries.list.list_outcome.Goals as goal
 
 pub returns-in_err-from : goal.returns-in_err-from
 returns-in_err-from c =
-    passed_text (OrNoMemory (PrintsRows (main_of c.args.main.now) c.args.loaded.rows (option_copied c.args.after) c.args.limit))
+    passed_text (OrNoMemory (PrintsRows c.args.main.now c.args.loaded.rows (option_copied c.args.after) c.args.limit))
     c.in_err-from.field-0.0 c.from_residual.result c.from_residual.ensures.1 (inl (c.in_err-from.ensures.told c.args.limit))
 
 pub returns : goal.returns
-returns c = rw (c.rows.ensures, c.in_ok-main.ensures, c.module.ensures.path) (inl (c.in_ok-from.ensures.printed c.args.limit))
+returns c = rw (c.rows.ensures, c.in_ok-main.ensures, c.path.ensures) (inl (c.in_ok-from.ensures.printed c.args.limit))
