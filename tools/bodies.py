@@ -1,7 +1,8 @@
+#!/usr/bin/env -S python3 -B
 """Checks what no contract says of a body: which functions reach the system, and that none makes up a want of memory.
 
-    tools/bodies.sh            compares the sources of the libraries and of the program with tools/bodies.txt
-    tools/bodies.sh --print    prints the rows that they ask for, without reasons
+    tools/bodies.py            compares the sources of the libraries and of the program with tools/bodies.txt
+    tools/bodies.py --print    prints the rows that they ask for, without reasons
 
 What a function does with real files, words and streams is in no clause, and a body that answers "no memory" meets any
 contract. So a row of tools/bodies.txt, each with its reason, stands for

@@ -1,18 +1,19 @@
+#!/usr/bin/env -S python3 -B
 """Changes a definition in a copy of crates/page, and shows by what outcome of a world the change is refused.
 
-    tools/change-page.sh                  lists the changes, each with its number, its definition and its file, and
+    tools/change_page.py                  lists the changes, each with its number, its definition and its file, and
                                           compares their counts with those in docs/proof/HEADLINE.md, and what is said
                                           of the worlds, and tools/evaluate_cases.txt, with what is computed
-    tools/change-page.sh NUMBER..         tries these
-    tools/change-page.sh --all            tries all, which takes some 20 minutes of CPU time
-    tools/change-page.sh --some SECONDS   tries as many as fit into so many seconds of CPU time, others for each commit
-    tools/change-page.sh --prove NUMBER.. lets the prover check these, which takes some 15 s of CPU time each
+    tools/change_page.py NUMBER..         tries these
+    tools/change_page.py --all            tries all, which takes some 20 minutes of CPU time
+    tools/change_page.py --some SECONDS   tries as many as fit into so many seconds of CPU time, others for each commit
+    tools/change_page.py --prove NUMBER.. lets the prover check these, which takes some 15 s of CPU time each
 
 Changes are made by rule (tools/page_rules.py): each comparison, connective, number, text, part, argument, premise, rule
 and field of the copies is exchanged or left out. tools/page_changes.txt has those that no rule makes, in blocks: a title,
 which begins with the name of the definition, its file, a text with `⟪what goes ⇒ what comes⟫` (`¶` is a line's end), and
 import lines, if it needs any. After `== equal forms` come changes that say the same in other words. After `== no witness`
-come changes by rule that no world shows, each as tools/change-page.sh prints it, below the reason.
+come changes by rule that no world shows, each as tools/change_page.py prints it, below the reason.
 
 tools/evaluate.py judges: it computes each world's outcomes by the changed definitions. A change is refused by
 

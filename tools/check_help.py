@@ -1,7 +1,8 @@
+#!/usr/bin/env -S python3 -B
 """Checks that the man page and the completions have what `gomod --help` shows: each command, each option of each
 command, each operation of edit, and nothing else.
 
-    tools/check-help.sh
+    tools/check_help.py
 
 Of share/man/gomod.1 it reads the forms of SYNOPSIS and the lists of COMMANDS, OPTIONS and OPERATIONS. What else the
 man page and all help say, limits, statuses and examples, was read side by side, and has a checksum here. It calls the

@@ -1,8 +1,9 @@
+#!/usr/bin/env -S python3 -B
 """Compares bin/gomod with the definitions of crates/page on random modules: what `list` prints and reports, and its exit
 status.
 
-    tools/check-page.sh [WORLDS [SEED]]   worlds SEED, SEED + 1, .. (40, others for each commit)
-    tools/check-page.sh --program FILE .. the same with another program
+    tools/check_page.py [WORLDS [SEED]]   worlds SEED, SEED + 1, .. (40, others for each commit)
+    tools/check_page.py --program FILE .. the same with another program
 
 A world is made from its number alone; in nearly half of them each module's file is there and right, so that no fault
 hides the list. tools/evaluate.py computes by the definitions which files are needed and which outcomes there may be; what

@@ -1,4 +1,4 @@
-"""What the completions of share/completions do in real shells, for tools/check-help.sh.
+"""What the completions of share/completions do in real shells, for tools/check_help.py.
 
 Each runs in a terminal of its own, in a scratch folder with a go.mod, folders and a home with go's cache. A line is
 typed, then TAB, then a key that this binds to write the line to a file. Beside a hostile path and folder Enter follows

@@ -1,10 +1,11 @@
+#!/usr/bin/env -S python3 -B
 """Checks what the documents name: that each file, crate, function, clause, law, test, edit, commit and title of a case
 is there, that counts are right, and that documents are no longer than their budgets.
 
-    tools/documents.sh           README.md, all documents of docs/, PROOFS.md and MISTAKES.md of crates, what is told of
-                                 next, and what tools/names.sh looks at
-    tools/documents.sh FILE..    what these name alone
-    tools/documents.sh --accept NAME..  writes the checksums anew of the sentences bound to these laws, or to `all`
+    tools/documents.py           README.md, all documents of docs/, PROOFS.md and MISTAKES.md of crates, what is told of
+                                 next, and what tools/names.py looks at
+    tools/documents.py FILE..    what these name alone
+    tools/documents.py --accept NAME..  writes the checksums anew of the sentences bound to these laws, or to `all`
 
 README.md has at most 600 words outside examples and tables, and names at most eight sentences on what is verified, of
 at most 30 words each; a release has at most 500 words in CHANGELOG.md. The other budgets are a table below; their words

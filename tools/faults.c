@@ -1,4 +1,4 @@
-/* Makes calls of a program fail. It is loaded before the C library by tools/faults.sh and tools/refuse-memory.sh, and
+/* Makes calls of a program fail. It is loaded before the C library by tools/faults.py and tools/refuse-memory.sh, and
    linked into nothing.
 
    FAULTS has up to eight faults, with blanks between them: CALL:N:LATER:ERROR:LENGTH. CALL is memory (an allocation),

@@ -1,11 +1,12 @@
+#!/usr/bin/env -S python3 -B
 """Makes each open, read, write and close of command lines of bin/gomod fail in turn, and then two calls at once.
 
-    tools/faults.sh                   with two faults for 20 seconds: what .ci/run runs
-    tools/faults.sh SECONDS [SEED]    for so many seconds, other pairs for another seed (1)
-    tools/faults.sh --whole [SEED]    before a release: with two faults for 300 seconds, then under limits, with odd
+    tools/faults.py                   with two faults for 20 seconds: what .ci/run runs
+    tools/faults.py SECONDS [SEED]    for so many seconds, other pairs for another seed (1)
+    tools/faults.py --whole [SEED]    before a release: with two faults for 300 seconds, then under limits, with odd
                                       streams and signals (tools/limits.py), and for 60 seconds over files that others
                                       change meanwhile (tools/races.py)
-    tools/faults.sh --program FILE .. the same with another program
+    tools/faults.py --program FILE .. the same with another program
 
 There are two command lines or more of each command, which read each kind of file that it has. What is right follows
 from the run without a fault, whose calls the library tells. Each call fails alone, and then with all later ones of its

@@ -5,7 +5,7 @@ definitions and with docs/proof/SPEC.md.
                                copies of the definitions that `list` needs into crates/page/specs, and of those that
                                the other commands need into crates/page_commands/specs
     tools/headline.sh --check  changes nothing, and tells which page or copy is out of step, or too long, and what
-                               tools/private.sh finds wrong
+                               tools/private.py finds wrong
 
 Between the marks `<!-- show .. -->` and `<!-- end -->` of a page stands what the sources say:
 

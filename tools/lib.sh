@@ -10,6 +10,7 @@ case $0 in
   *run) self=.ci/run ;;
   *) [ -e "$self" ] || self=bench/${0##*/} ;;
 esac
+own_name=${self##*/} own_name=${own_name%.*}
 
 # Prints the head comment of the script, and ends, if one of its arguments is -h or --help.
 begin_script() {
@@ -26,13 +27,13 @@ begin_script() {
 
 # Ends with status 1 for a reason.
 refuse() {
-  echo "$(basename "$self" .sh): $*" >&2
+  echo "$own_name: $*" >&2
   exit 1
 }
 
 # Refuses the arguments of the script for a reason. The status is 2.
 misused() {
-  echo "$(basename "$self" .sh): $1; '$self --help' says what it takes" >&2
+  echo "$own_name: $1; '$self --help' says what it takes" >&2
   exit 2
 }
 
@@ -75,7 +76,7 @@ is_last_proved() {
 warn_if_older() {
   local newer
   newer=$(newer_source)
-  [ -z "$newer" ] || echo "$(basename "$self" .sh): bin/gomod is older than $newer: ./build makes it anew" >&2
+  [ -z "$newer" ] || echo "$own_name: bin/gomod is older than $newer: ./build makes it anew" >&2
 }
 
 # Ends with status 1 if there is no bin/gomod, and warns if that is older than a source.

@@ -7,7 +7,7 @@ processes are limited, signals are ignored or blocked, the environment is empty,
 programs read. Readers of a pipe go early or are slow, the program is stopped and goes on, and it writes to terminals.
 
 What is right follows from the run without all this: the same result; status 3 where a stream that it needs fails; or
-`gomod: no memory`. tools/faults.sh runs it if --whole is given.
+`gomod: no memory`. tools/faults.py runs it if --whole is given.
 """
 
 import contextlib

@@ -1,4 +1,4 @@
-"""Compares docs/use/MESSAGES.md with what gomod says, for tools/documents.sh.
+"""Compares docs/use/MESSAGES.md with what gomod says, for tools/documents.py.
 
 Its first table has each line that gomod writes to standard error, with its status; its bullets have the KINDs of a
 go.mod, and its usage errors. What each case prints is a line of the table, and each line of the table is printed by a

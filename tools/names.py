@@ -1,7 +1,8 @@
+#!/usr/bin/env -S python3 -B
 """Checks that each option and each operation is named once: its name stands as a string in one file of src/ and in one
 of specs/, over all crates, and help lists the operations that there are.
 
-    tools/names.sh    prints what is wrong, and how many names it looked for
+    tools/names.py    prints what is wrong, and how many names it looked for
 
 The names are those of the tables: of options in src/table.rt and specs/Table.antt of gomod_words, of operations in
 src/kind.rt and specs/Operations.antt of gm_operation. A name that one table has and the other hasn't is wrong, and so

@@ -1,10 +1,11 @@
+#!/usr/bin/env -S python3 -B
 """Checks that definitions which no public contract reaches stand apart, in specs/Private of their crate, so that who
 opens specs/ finds what the promises of a crate mean.
 
-    tools/private.sh              prints each definition that stands in the wrong folder, each name that definitions in
+    tools/private.py              prints each definition that stands in the wrong folder, each name that definitions in
                                   two files of specs/ have, and each file of src/ or specs/ that doesn't begin with a
                                   comment; the status is 1 if there is one
-    tools/private.sh --why NAME   prints how a public contract reaches the definitions of this name, each after what
+    tools/private.py --why NAME   prints how a public contract reaches the definitions of this name, each after what
                                   reaches it
 
 Public contracts are those of the functions, traits and types that a crate offers, from its root or a public module, the

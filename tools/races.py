@@ -4,7 +4,7 @@
 
 For so many seconds two writers change the files of a proxy: in place, by another file in their place, cut off, longer,
 gone, a folder, a link. A run prints what is right of some state of the files, or reports a fault; with a go.sum the
-list that it prints is the only right one. Then 200 run at once. tools/faults.sh runs it if --whole is given.
+list that it prints is the only right one. Then 200 run at once. tools/faults.py runs it if --whole is given.
 """
 
 import contextlib

@@ -1,4 +1,4 @@
-"""Runs tools/compare-go.sh with recorded answers of go, where there may be no go command.
+"""Runs tools/compare_go.py with recorded answers of go, where there may be no go command.
 
     recorded_go.py FILE REAL WORDS..    what stands in for go: prints the answer to these words that a file has, or, if
                                         REAL isn't empty, asks that go and adds its answer
@@ -25,7 +25,7 @@ from script import read, write
 TOP = os.path.dirname(os.path.dirname(os.path.abspath(__file__)))
 ANSWERS = os.path.join(TOP, "tools", "go_answers.json")
 # What a comparison reads of the repository.
-TOOLS = ("compare-go.sh", "compare_go.py", "go_rows.py", "go_texts.py", "go_worlds.py", "script.py")
+TOOLS = ("compare_go.py", "compare_go.py", "go_rows.py", "go_texts.py", "go_worlds.py", "script.py")
 FILES = [f"tools/{it}" for it in TOOLS] + ["docs/use/GO.md"]
 SECONDS, TEXTS = 900, 2000
 # Mistakes: without the .info of modules that are pruned out; a row with no world; none, where a difference has one.
@@ -129,7 +129,7 @@ def answer(file, real, *words):
 
 
 class Check:
-    """Runs of tools/compare-go.sh in a scratch folder, and how many were right and wrong."""
+    """Runs of tools/compare_go.py in a scratch folder, and how many were right and wrong."""
 
     def __init__(self, room, file, real=""):
         self.room, self.tally = room, script.Tally()
@@ -150,7 +150,7 @@ class Check:
             write(f"{top}/{name}", text.replace(old, new))
         program = shlex.quote(f"{TOP}/bin/gomod")
         write(f"{top}/bin/gomod", f"#!/usr/bin/env bash\nset -o pipefail\n{program} \"$@\" {gomod}\n", 0o755)
-        ran = subprocess.run([f"{top}/tools/compare-go.sh", "--go", f"{self.room}/go/go", *words], cwd=TOP, text=True,
+        ran = subprocess.run([f"{top}/tools/compare_go.py", "--go", f"{self.room}/go/go", *words], cwd=TOP, text=True,
                              stdout=subprocess.PIPE, stderr=subprocess.STDOUT, timeout=SECONDS, check=False)
         return ran.returncode, ran.stdout
 
@@ -200,7 +200,7 @@ def compare_texts(tally):
         print(f"skipped, texts beside go: there is no {wanted}")
         return
     seed = TEXTS * int(script.git("rev-parse", "HEAD", top=TOP)[:6] or "0", 16)
-    words = [f"{TOP}/tools/compare-go.sh", "--go", real, "--texts", str(TEXTS), str(seed)]
+    words = [f"{TOP}/tools/compare_go.py", "--go", real, "--texts", str(TEXTS), str(seed)]
     ran = subprocess.run(words, cwd=TOP, text=True, stdout=subprocess.PIPE, stderr=subprocess.STDOUT, timeout=SECONDS)
     tally.tell("texts beside go", ran.returncode == 0, f"{TEXTS} texts from {seed}:\n{ran.stdout}")
     if ran.returncode == 0:
@@ -209,7 +209,7 @@ def compare_texts(tally):
 
 
 def main(*words):
-    """Does what tools/compare-go.sh does with these words, and returns the status."""
+    """Does what tools/compare_go.py does with these words, and returns the status."""
     match words:
         case ["--check"]:
             real = ""

@@ -1,10 +1,11 @@
+#!/usr/bin/env -S python3 -B
 """Checks that each edit that must fail is refused for the reason that it names, and that a harmless change in the same
 place is still proved.
 
-    tools/refusals.sh                     every edit of every crate
-    tools/refusals.sh NAME.. NAME/EDIT..  those of these crates, or these edits alone
-    tools/refusals.sh --only ..           checks for each edit and twin the function alone that `# clause:` names
-    tools/refusals.sh --table ..          proves nothing, and prints what each edit does, its name, and its clause
+    tools/refusals.py                     every edit of every crate
+    tools/refusals.py NAME.. NAME/EDIT..  those of these crates, or these edits alone
+    tools/refusals.py --only ..           checks for each edit and twin the function alone that `# clause:` names
+    tools/refusals.py --table ..          proves nothing, and prints what each edit does, its name, and its clause
 
 An edit, crates/NAME/must-fail/EDIT.edit, has lines that the merge gate passes over:
 

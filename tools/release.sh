@@ -12,7 +12,7 @@
 # --strip-components=1`); share/doc/gomod/ has README.md, CHANGELOG.md, docs/ and example/, as tools/release.py adapts
 # them, and RELEASE.txt: the version, the commit, the gate's last line, the records below, what the program needs and
 # its sha256. The same files give the same archive. Before it leaves an archive it unpacks it, follows all links of its
-# documents and runs all their examples with its program (tools/readme.sh), and compares the glibc that they name with
+# documents and runs all their examples with its program (tools/readme.py), and compares the glibc that they name with
 # the one that the program needs.
 #
 # It refuses an archive that fails this check and, without --unproved, a program whose version doesn't say that it is
@@ -20,7 +20,7 @@
 # whose tag (as v1.2.0) is at another commit, a program that isn't the one that the last proof left at
 # crates/gomod/out/gomod, a gate that failed or ran with another program, changes that aren't committed, and a program
 # for which tools/refuse-memory.sh, tools/program.sh (where strace is) and `tools/cases.sh --checked` didn't leave
-# bin/refused.txt, bin/opened.txt and bin/checked.txt, nor `tools/compare-go.sh --check` with go 1.19.8 bin/texts.txt,
+# bin/refused.txt, bin/opened.txt and bin/checked.txt, nor `tools/compare_go.py --check` with go 1.19.8 bin/texts.txt,
 # whose first lines it prints.
 #
 # It needs bin/gomod, git, GNU tar, gzip and python3. It prints what the check found, the names of the files, the gate's
@@ -87,7 +87,7 @@ check_archive() {
   local top=$work/unpacked least said
   mkdir "$top"
   tar --extract --gzip --file "$1" --directory "$top" --strip-components=1
-  tools/readme.sh --archive "$top" || refuse "the archive has faulty links or examples"
+  tools/readme.py --archive "$top" || refuse "the archive has faulty links or examples"
   least=$(least_glibc "$top/bin/gomod")
   said=$(grep -rhoE 'glibc [0-9]+(\.[0-9]+)+' "$top/share/doc/gomod" | sort -u)
   [ "$said" = "glibc $least" ] || refuse "the program needs glibc $least, and the documents say: ${said//$'\n'/, }"
@@ -121,7 +121,7 @@ if [ -z "$check" ]; then
   refusals=$(record_of refused tools/refuse-memory.sh "allocations were refused of another program")
   opened=$(record_of opened "tools/program.sh, where strace is" "what another program opens was looked at")
   checked=$(record_of checked "tools/cases.sh --checked" "the cases ran with checks of other sources")
-  texts=$(record_of texts "tools/compare-go.sh --check, where go 1.19.8 is" "texts of another program were compared")
+  texts=$(record_of texts "tools/compare_go.py --check, where go 1.19.8 is" "texts of another program were compared")
 fi
 records="gate: ${gate:-none}
 each allocation refused: ${refusals:-none}

@@ -1,7 +1,4 @@
-"""What the scripts in Python share. Those that are run begin with `script.run(main)`.
-
-What tools/NAME.sh does stands in NAME.py, if there is one with that name.
-"""
+"""What the scripts in Python share. Those that are run begin with `script.run(main)`."""
 
 import collections
 import hashlib
@@ -17,14 +14,14 @@ import tempfile
 
 # how much there is side by side: from 24 on, cases that open descriptors 62 and 63 would meet those of a pool
 AT_ONCE = min(len(os.sched_getaffinity(0)), 16)
-NAME = pathlib.Path(sys.argv[0]).stem.replace("_", "-")
+TOP = pathlib.Path(__file__).resolve().parent.parent  # the root of the repository
+SCRIPT = pathlib.Path("tools", pathlib.Path(sys.argv[0]).name)
+NAME = SCRIPT.stem
 
 
 def misused(reason):
     """Ends with status 2, since the words of the script aren't right."""
-    own = f"tools/{NAME}.sh"
-    asked = own if os.path.exists(own) else sys.argv[0]
-    print(f"{NAME}: {reason}; '{asked} --help' says what it takes", file=sys.stderr)
+    print(f"{NAME}: {reason}; '{SCRIPT} --help' says what it takes", file=sys.stderr)
     sys.exit(2)
 
 
@@ -40,7 +37,7 @@ def program_of(words):
 
 def need_gomod():
     """Ends if there is no bin/gomod, and warns if that is older than a source."""
-    if subprocess.run(["bash", "-c", ". tools/lib.sh; need_gomod", f"tools/{NAME}.sh"]).returncode:
+    if subprocess.run(["bash", "-c", ". tools/lib.sh; need_gomod", SCRIPT]).returncode:
         sys.exit(1)
 
 
@@ -175,10 +172,10 @@ def checksum(text):
     return digits.translate(str.maketrans("0123456789abcdef", "ghijklmnopqrstuv"))
 
 
-def run(main, takes=".*", own=".*"):
-    """Ends with what the main function makes of the words, which have a form, each after a blank; or prints the
-    docstring if one of its own words asks for it: those that this form has, where words of a command follow. If a file
-    can't be read or written, or a command fails, it says so, with status 1."""
+def run(main, takes=".*", own=".*", folder=TOP):
+    """Ends with what the main function makes, in a folder, of the words, which have a form, each after a blank; or
+    prints the docstring if one of its own words asks for it: those that this form has, where words of a command follow.
+    If a file can't be read or written, or a command fails, it says so, with status 1."""
     words = sys.argv[1:]
     if sys.stdout is None:
         sys.exit(f"{NAME}: the standard output is closed")
@@ -190,6 +187,7 @@ def run(main, takes=".*", own=".*"):
     if not re.fullmatch(takes, text):
         misused(f"it doesn't take '{' '.join(words)}'" if words else "it takes arguments")
     try:
+        os.chdir(folder)
         status = main(*words)
         sys.stdout.flush()
     except (OSError, subprocess.CalledProcessError) as fault:

@@ -1,4 +1,4 @@
-"""Keeps sentences of README.md and docs/proof/PROVED.md bound to the laws that state them, for tools/documents.sh.
+"""Keeps sentences of README.md and docs/proof/PROVED.md bound to the laws that state them, for tools/documents.py.
 
 Beside a sentence that names a law, in PROVED.md's "What you can rely on", stands a comment: the laws' names, a checksum
 of the sentence and one of what the laws state. For README.md's "What is verified" tools/readme_sentences.txt has the
@@ -146,11 +146,11 @@ def judged(one):
     unknown = [it for it in one.laws if it != CHECKS and law(it) is None]
     if unknown or not one.laws or one.at is None:
         what = f"bound to {unknown[0]}, which is no law" if unknown else "bound to no law"
-        return False, f"{place}: a sentence is {what}; tools/documents.sh --accept: {one.text[:80]}"
+        return False, f"{place}: a sentence is {what}; tools/documents.py --accept: {one.text[:80]}"
     now = one.now()
     what = " and ".join(it for it, old, new in zip(("the sentence", "its law"), one.sums, now) if old != new)
     more = changed(one) if now[1] != one.sums[1] else ()
-    return now == one.sums, "\n".join([f"{place}: {what} changed; if they say the same, tools/documents.sh --accept "
+    return now == one.sums, "\n".join([f"{place}: {what} changed; if they say the same, tools/documents.py --accept "
                                        f"{one.laws[0]}:", f"  {one.text}", *more])
 
 

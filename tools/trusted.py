@@ -1,8 +1,9 @@
+#!/usr/bin/env -S python3 -B
 """Keeps docs/proof/PROVED.md in step with what the check of gomod says that it trusts: its `axioms` lines and its
 verdict.
 
-    tools/trusted.sh LOG           writes them into PROVED.md, from what `rt ci`, or `rt check` in crates/gomod, printed
-    tools/trusted.sh --check LOG   changes nothing, and says what the page has otherwise
+    tools/trusted.py LOG           writes them into PROVED.md, from what `rt ci`, or `rt check` in crates/gomod, printed
+    tools/trusted.py --check LOG   changes nothing, and says what the page has otherwise
 
 They stand between the marks `<!-- show trusted -->` and `<!-- end -->`. What speeds a check up alone
 (`incremental=trusted`, which the gate's verdict doesn't have) is left out. If a log has no verdict of gomod, as when
@@ -46,7 +47,7 @@ def main(*words):
         print(f"trusted: {PAGE} has what the check of gomod says, {len(lines)} lines")
         return 0
     if len(words) > 1:
-        print(f"trusted: {PAGE} does not have what the check of gomod says; tools/trusted.sh LOG writes it:")
+        print(f"trusted: {PAGE} does not have what the check of gomod says; tools/trusted.py LOG writes it:")
         print(new, end="")
         return 1
     PAGE.write_text(text[: shown.start(1)] + new + text[shown.end(1):])
