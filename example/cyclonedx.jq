@@ -1,6 +1,6 @@
 # The rows of gomod list, split by rows.awk, and the lines of gomod graph as a CycloneDX document with dependencies:
 #
-#   jq -n --rawfile rows FILE --rawfile edges FILE -f cyclonedx.jq
+#   jq -n --rawfile rows FILE --rawfile edges FILE [--arg tool "$(gomod --version)"] [--arg time TIME] -f cyclonedx.jq
 #
 # The first row is the main module. A replaced module is listed as what replaces it; one that a folder replaces is code
 # of your own, so what it requires is a dependency of the main module.
@@ -25,7 +25,10 @@ def purl: "pkg:golang/\(.path)@\(.version | @uri)";
     bomFormat: "CycloneDX",
     specVersion: "1.5",
     version: 1,
-    metadata: {component: {"bom-ref": $main, type: "application", name: $main}},
+    metadata: ({component: {"bom-ref": $main, type: "application", name: $main}}
+      + ($ARGS.named.time | if . then {timestamp: .} else {} end)
+      + ($ARGS.named.tool | if . then split(" ") | {tools: {components: [{type: "application", name: .[0], version: .[1]}]}}
+        else {} end)),
     components: [$listed[].built | values | {type: "library", "bom-ref": purl, name: .path, version, purl: purl}] | unique,
     dependencies: [$needs | to_entries[] | {ref: .key, dependsOn: (.value | unique)}]
   }
