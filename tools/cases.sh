@@ -10,16 +10,14 @@
 #   tools/cases.sh --checked    before a release: all cases, with a program that has Rattle's checks and the address
 #                               sanitizer, which it compiles (tools/unproved.sh --checked)
 #
-# The gate itself runs run_cases on the files that crates/run_cases/args names. In each of the folders sizes and wrong
-# of crates/run_cases/data, and for the cases of the gate in crates/run_cases, `args` has the arguments, `stdout` and
-# `stderr` what the program has to write, and `status` its exit status: nothing and 0 without such a file.
+# In each of the folders sizes and wrong of crates/run_cases/data, and for the cases of the gate in crates/run_cases,
+# `args` has the arguments, `stdout` and `stderr` what the program has to write, and `status` its exit status: nothing
+# and 0 without such a file. As in the gate, a program runs in a copy of the folder, as nobody if root starts it. It has
+# 1,000 seconds of CPU time, one with checks 4,000. All programs and folders run side by side.
 #
-# As in the gate, a program runs in a copy of the folder, as nobody if root starts it. It has 1,000 seconds of CPU
-# time, one with checks 4,000. All programs and folders run side by side. What differs is printed, then how many runs passed and
-# failed. The status is 1 if one failed, or if a folder has a file of cases that its `args` doesn't name. .ci/run runs
-# it after the gate, and .ci/run --quick with --quick: there tools/program.sh runs the cases with sizes, each at its
-# greatest. --checked removes bin/checked.txt, and if nothing fails makes it anew for tools/release.sh: the day, the
-# commit, and a checksum of the sources.
+# What differs is printed, then how many runs passed and failed. The status is 1 if one failed, or if a folder has a
+# file of cases that its `args` doesn't name. --checked removes bin/checked.txt, and if nothing fails makes it anew for
+# tools/release.sh: the day, the commit, and a checksum of the sources.
 set -euo pipefail
 cd "$(dirname "$0")/.."
 # shellcheck source=tools/lib.sh

@@ -7,21 +7,20 @@ is there, that counts are right, and that documents are no longer than their bud
     tools/documents.py FILE..    what these name alone
     tools/documents.py --accept NAME..  writes the checksums anew of the sentences bound to these laws, or to `all`
 
-README.md has at most 600 words outside examples and tables, and names at most eight sentences on what is verified, of
-at most 30 words each; a release has at most 500 words in CHANGELOG.md. The other budgets are a table below; their words
-are what blanks separate, in indented examples too, without the bars of tables, fenced code and comments of HTML, and
-without what other files say: quotes (lines that begin with `>`), and what scripts write between marks (`<!-- show`).
-Each figure that README.md shows of speed is the one of docs/dev/BENCHMARKS.md, and both name the commit that was
-measured, which changed a source. docs/use/MESSAGES.md has each line that a case prints (tools/messages.py).
+What is looked at is a table in docs/dev/DEVELOPING.md ("What a document names"). README.md has at most 600 words
+outside examples and tables, and at most eight sentences on what is verified, of at most 30 words each; a release has at most
+500 words in CHANGELOG.md. The other budgets are a table below, of words without the bars of tables, fenced code,
+comments, quotes (lines that begin with `>`), and what scripts write between marks (`<!-- show`). Each figure that
+README.md shows of speed is the one of docs/dev/BENCHMARKS.md, and both name the commit that was measured, which changed
+a source. docs/use/MESSAGES.md has each line that a case prints (tools/messages.py).
 
 For each sentence of README.md on what is verified, and each of docs/proof/PROVED.md that names a law, there is a
 checksum of the sentence and one of what the law states (tools/sentences.py). If one is no longer right, both texts are
 printed. Who changes one compares them before --accept.
 
-What is looked at is what stands in the notation of docs/dev/DEVELOPING.md ("What a document names"). It needs git and
-python3, but no program. In a clone without its whole history commits are not looked for, and it says so. It prints each
-thing that isn't there, with its file and line, each document that is too long or not there, how many commits changed a
-source since the figures were measured, and how many of each kind it looked at. The status is 1 if one was wrong.
+It needs git and python3, but no program. In a clone without its whole history commits are not looked for, and it says
+so. It prints each thing that is wrong, with its file and line, how many commits changed a source since the figures were
+measured, and how many of each kind it looked at. The status is 1 if one was wrong.
 """
 
 import collections

@@ -20,17 +20,16 @@ All other text is written by hand. A quote (a line that begins with `>`) must st
 A definition stands on one page only. HEADLINE shows a name before what it is made of, REPORTS after that. Section 2 of
 HEADLINE says what each name of the standard library is that the page has.
 
-The copies in crates/page are of all definitions that `ListEnds` reaches, and those in crates/page_commands of all that
-COPIES names, but for those that the crate defines itself: specs/Types.antt, Files.antt and Runs.antt, written by hand,
-stand in for types of the code, for packages, for what bytes say, for the go.sum, and for runs.
+The copies are of all definitions that `ListEnds` or COPIES reaches, but for those that a crate of copies defines by
+hand: specs/Types.antt, Files.antt and Runs.antt, which stand in for types of the code, for what bytes say, for the
+go.sum, and for runs.
 
 Each definition that the contract of `run` reaches must be on HEADLINE or REPORTS, or in a file that DEFINITIONS names.
 Those of crates that know module graphs, if `list` needs them, must be on HEADLINE or REPORTS. On HEADLINE there may be
 45 definitions with 170 lines from `ListEnds` down. No type that its crate doesn't export may be reached.
 
-The last line counts what one reads to believe the contract of `gomod_run::run`, as HEADLINE.md says. A definition is
-reached if a name of it stands in a clause or in a definition that is reached, and it has as many lines as are neither
-empty nor a comment. The status of --check is 1 if a page or a copy is out of step.
+The last line counts what one reads to believe the contract of `run`, as HEADLINE.md says; neither empty lines nor
+comments count. The status of --check is 1 if a page or a copy is out of step.
 """
 
 import functools

@@ -6,35 +6,30 @@
 #   tools/program.sh --unproved ..        the same with a program that tools/unproved.sh made: where a case has the
 #                                         version of a proved one, what it prints has to say that nothing is proved
 #   tools/program.sh --this ..            the same in this world alone
-#   tools/program.sh --other ..           the same in the other one alone, which is told of below
+#   tools/program.sh --other ..           the same in the other one alone (tools/other_world.py)
 #
-# The merge gate runs the same cases inside a process, with outputs in memory. What this adds is standard error and the
-# whole way from the words to the system. Calls, cases with a file at the root of the system, and those of files without
-# permission for root are left out.
+# What this adds to the merge gate, which runs the same cases inside a process, is standard error and the whole way from
+# the words to the system. Calls, cases with a file at the root of the system, and those of files without permission for
+# root are left out.
 #
 # Of a case with a range of sizes it runs the greatest, of one with a list each. Each command then has an address space
-# of 64 MiB and a hundred times the bytes of its words, each with the byte that ends it, and of the files of the case.
-# A case with a line `% memory N` gives N MiB instead. All commands run with the stack that README.md names, and room
-# for their arguments. Standard input stays open, unless it is read. A command that hasn't ended after 100 seconds ends
-# the script.
+# of 64 MiB and a hundred times the bytes of its words and of the files of the case, or what a line `% memory N` gives,
+# and always the stack that README.md names. Standard input stays open, unless it is read. A command that only waits for
+# 100 seconds ends the script.
 #
-# Each command is called by a name that is not UTF-8. The folder of a case, the one above, HOME and TMPDIR must be the
-# same after its commands as before, by names, sizes, modes and contents. Of each command the first run that prints, in
-# each process that runs cases, is tried once more with /dev/full as its output, and the first that reports with it as
-# its report: the status must be 3, and the other stream empty. After the cases `fmt -` reads a pipe, a file, a socket,
-# as a child of Node has it, and a standard input that is closed or a folder.
+# The program's name is not UTF-8. The folder of a case, the one above, HOME and TMPDIR must be the same after its
+# commands as before. Of each command the first run that prints is tried once more with /dev/full as its output, and the
+# first that reports with it as its report: the status must be 3, and the other stream empty. After the cases `fmt -`
+# reads each kind of standard input.
 #
-# Then all cases run once more in another world (tools/other_world.py). There strace, if it is there, shows that a
-# command opens no file but those that the case names, once, to read it, and once it is loaded makes no calls of the
-# system but twelve (tools/opened.py). If there is no strace, or it may not look at processes, the last line says so.
-#
-# If tools/refuse-memory.sh sets REFUSE_MEMORY, each command runs again with each of its allocations refused, and there
-# is no other world.
+# Then all cases run once more in the other world, where strace, if it may look at processes, shows what a command opens
+# and calls (tools/opened.py). If it doesn't, the last line says so. If tools/refuse-memory.sh sets REFUSE_MEMORY, each
+# command runs again with each of its allocations refused, and there is no other world.
 #
 # Without arguments it removes bin/opened.txt, and if all pass and strace is there makes it anew for tools/release.sh:
 # the number of commands, the day and the commit, and the sha256 of bin/gomod. It does neither without git, or in a bin/
 # that it may not write. It needs bin/gomod (./build makes it) and python3, and prints each difference and how many
-# cases passed and failed. The status is 1 if one failed. .ci/run runs it after the merge gate.
+# cases passed and failed. The status is 1 if one failed.
 set -euo pipefail
 cd "$(dirname "$0")/.."
 # shellcheck source=tools/lib.sh

@@ -16,11 +16,10 @@ runs, calls bwrap, curl, dot, git, jq or vim and there is no such command, or bw
 The commands of COMMANDS.md and RECIPES.md run once more, on a stranger's project with hostile texts and links: no file
 outside their scratch folders may change, no text may run, and what is fetched has to have the bytes of the proxy.
 
-It also compares the pieces of code of docs/lib/LIBRARY.md, fenced as rust, with the sources of the crate that is named
-before them (`From CRATE:`). The one that is a whole program is that of crates/library_example; it compiles and runs it
-in a fresh folder, by the commands beside it. Each link of a document to a file of the repository, or to a heading of
-one, has to lead there, and in README.md and docs/use no comment may follow a command, since zsh takes one that is typed
-for words. Of a release the documents and the files of the examples are in share/doc/gomod, and no code is compared.
+The pieces of code of docs/lib/LIBRARY.md, fenced as rust, have to stand in the sources of the crate that is named
+before them (`From CRATE:`); the whole program, that of crates/library_example, is compiled and runs in a fresh folder,
+by the commands beside it. Each link to a file of the repository, or to a heading of one, has to lead there, and in
+README.md and docs/use no comment may follow a command, since zsh takes one that is typed for words.
 
 It needs bin/gomod (./build makes it), bash and python3, and unless --quick is given the toolchain of Rattle and 3.4 GB
 of memory. It prints each difference, how many of each were right and wrong, and how many examples were skipped for want

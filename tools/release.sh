@@ -9,22 +9,19 @@
 #
 # Into FOLDER, which it makes if there is none, it writes gomod-VERSION-x86_64-linux.tar.gz and beside it a file with
 # its sha256. The archive has one folder with bin/ and share/, to be unpacked into a folder such as ~/.local (`tar
-# --strip-components=1`); share/doc/gomod/ has README.md, CHANGELOG.md, docs/ and example/, as tools/release.py adapts
-# them, and RELEASE.txt: the version, the commit, the gate's last line, the records below, what the program needs and
-# its sha256. The same files give the same archive. Before it leaves an archive it unpacks it, follows all links of its
-# documents and runs all their examples with its program (tools/readme.py), and compares the glibc that they name with
-# the one that the program needs.
+# --strip-components=1`); share/doc/gomod/ has the documents and examples, as tools/release.py adapts them, and
+# RELEASE.txt: version, commit, the gate's last line, the records below, what the program needs and its sha256. The same
+# files give the same archive.
 #
-# It refuses an archive that fails this check and, without --unproved, a program whose version doesn't say that it is
-# proved. Unless --check is given, it also refuses a version that isn't the first one in CHANGELOG.md with its day, or
-# whose tag (as v1.2.0) is at another commit, a program that isn't the one that the last proof left at
-# crates/gomod/out/gomod, a gate that failed or ran with another program, changes that aren't committed, and a program
-# for which tools/refuse-memory.sh, tools/program.sh (where strace is) and `tools/cases.sh --checked` didn't leave
-# bin/refused.txt, bin/opened.txt and bin/checked.txt, nor `tools/compare_go.py --check` with go 1.19.8 bin/texts.txt,
-# whose first lines it prints.
+# It unpacks what it made, and refuses an archive with a dangling link, an example that prints something else
+# (tools/readme.py) or another glibc in its documents than the program needs; without --unproved, also a program whose
+# version doesn't say that it is proved. Unless --check is given, it refuses a version that isn't the first one in
+# CHANGELOG.md with its day, or whose tag (as v1.2.0) is at another commit, a program that isn't the one that the last
+# proof left, a gate that failed or ran with another program, changes that aren't committed, and a program without one
+# of its records: bin/refused.txt (tools/refuse-memory.sh), opened.txt (tools/program.sh, where strace is), checked.txt
+# (`tools/cases.sh --checked`) and texts.txt (`tools/compare_go.py --check` with go 1.19.8).
 #
-# It needs bin/gomod, git, GNU tar, gzip and python3. It prints what the check found, the names of the files, the gate's
-# last line and the sha256. The status is 1 if it refuses, and 2 for wrong arguments. .ci/run runs --check at its end.
+# It needs bin/gomod, git, GNU tar, gzip and python3. The status is 1 if it refuses, and 2 for wrong arguments.
 set -euo pipefail
 from=$PWD
 cd "$(dirname "$0")/.."
