@@ -8,8 +8,8 @@ is there, that counts are right, and that documents are no longer than their bud
     tools/documents.py --accept NAME..  writes the checksums anew of the sentences bound to these laws, or to `all`
 
 What is looked at is a table in docs/dev/DEVELOPING.md ("What a document names"). README.md has at most 600 words
-outside examples and tables, and at most eight sentences on what is verified, of at most 30 words each; a release has at most
-500 words in CHANGELOG.md. The other budgets are a table below, of words without the bars of tables, fenced code,
+outside examples and tables, and at most eight sentences on what is verified, of at most 30 words each; a release has at
+most 500 words in CHANGELOG.md. The other budgets are a table below, of words without the bars of tables, fenced code,
 comments, quotes (lines that begin with `>`), and what scripts write between marks (`<!-- show`). Each figure that
 README.md shows of speed is the one of docs/dev/BENCHMARKS.md, and both name the commit that was measured, which changed
 a source. docs/use/MESSAGES.md has each line that a case prints (tools/messages.py).
