@@ -2,11 +2,9 @@
 """Checks that definitions which no public contract reaches stand apart, in specs/Private of their crate, so that who
 opens specs/ finds what the promises of a crate mean.
 
-    tools/private.py              prints each definition that stands in the wrong folder, each name that definitions in
-                                  two files of specs/ have, and each file of src/ or specs/ that doesn't begin with a
-                                  comment; the status is 1 if there is one
-    tools/private.py --why NAME   prints how a public contract reaches the definitions of this name, each after what
-                                  reaches it
+    tools/private.py    prints each definition that stands in the wrong folder, with how a public contract reaches it,
+                        each name that definitions in two files of specs/ have, and each file of src/ or specs/ that
+                        doesn't begin with a comment; the status is 1 if there is one
 
 Public contracts are those of the functions, traits and types that a crate offers, from its root or a public module, the
 laws among them. The model of such a type counts, and what it implements, unless the trait is private; and so do types
@@ -198,8 +196,9 @@ class Program:
         """The definitions that stand in the wrong folder."""
         for it in (one for file in own_files() for one in definitions(file).values()):
             if (it in self.parents) == ("Private" in it.file.parts):
+                how = ", by ".join(self.why(it))
                 yield f"{it.file}:{it.line}: {it.name}: " + (
-                    "a public contract reaches it" if it in self.parents else "no public contract reaches it")
+                    f"a public contract reaches it, by {how}" if how else "no public contract reaches it")
 
     def unread(self):
         texts = [(it.file, it.text) for it in self.sources.values()]
@@ -208,13 +207,14 @@ class Program:
             for form, found in ((form, it) for form, rule in UNREAD.items() for it in re.finditer(f"(?m){rule}", text)):
                 yield f"{file}:{text.count(chr(10), 0, found.start()) + 1}: {form}"
 
-    def why(self, name):
-        """How a public contract reaches the definitions of this name, a line for each step."""
-        for now in [it for it in self.parents if isinstance(it, Definition) and it.name == name]:
-            while now in self.parents:
-                yield f"{now.file} {now.name}" if isinstance(now, Definition) else f"the type {now[2]} of {now[0]}"
-                now = self.parents[now]
-            yield now
+    def why(self, one):
+        """How a public contract reaches a definition, by each step, or nothing."""
+        while one in self.parents:
+            one = self.parents[one]
+            if isinstance(one, Definition):
+                yield f"{one.file} {one.name}"
+            else:
+                yield one if isinstance(one, str) else f"the type {one[2]} of {one[0]}"
 
 
 def own_files():
@@ -230,13 +230,9 @@ def shared():
     return [f"{name} stands in {' and '.join(it)}" for name, it in sorted(found.items()) if len(it) > 1]
 
 
-def main(*words):
-    """Compares the folders of all definitions, or says why one is reached."""
+def main():
+    """Compares the folders of all definitions."""
     program = Program()
-    if words:
-        lines = list(program.why(words[1]))
-        print(*lines or [f"no public contract reaches {words[1]}"], sep="\n")
-        return 0 if lines else 1
     wrong = [*program.misplaced(), *shared(), *program.unread()]
     read = [*(it.file for it in program.sources.values()), *own_files()]
     wrong += [f"{it}: no comment at its head says what it has" for it in read
@@ -246,4 +242,4 @@ def main(*words):
 
 
 if __name__ == "__main__":
-    script.run(main, r"( --why \S+)?")
+    script.run(main, "")
