@@ -24,7 +24,7 @@ from script import checksum, read
 
 MAN = "share/man/gomod.1"
 # what the man page and all help say, when they were last read beside one another: who changes one reads them again
-READ = "vlhvjoqq"
+READ = "mntjthrp"
 BASH, ZSH, FISH = (f"share/completions/{it}" for it in ("gomod.bash", "_gomod", "gomod.fish"))
 HELP = {"-h", "--help"}
 
