@@ -65,10 +65,12 @@ BUDGETS = """
 """
 NUMBERS = "one two three four five six seven eight nine ten eleven twelve".split()
 MISTAKES, FIGURES = "crates/run_cases/MISTAKES.md", "docs/dev/BENCHMARKS.md"
+LIBRARY = "docs/lib/LIBRARY.md"
 
 # names in backquotes one after another, each with a remark in brackets or without
 LIST = r"`\w+`(?: \([^()]*\))?(?:(?:, and |, | and )`\w+`(?: \([^()]*\))?)*"
 CALL = r"`(\w+(?:::\w+)*)`"
+DERIVE = r"#\[derive\((.*)\)\]\n(?:#.*\n)*(?:pub(?:\(crate\))? )?(?:struct|enum) (\w+)"
 SHOWN = r"^<!-- show [^\n]*? -->\n.*?^<!-- end -->$"
 PATH = re.compile(r"(?<![\w/.@:~$!-])\.?\w[\w.-]*(?:/[\w.*-]+)*/?")
 COMMIT = re.compile(r"(?<![\w.=-])(?=\d*[a-f])(?=[a-f]*\d)(?:[0-9a-f]{40}|[0-9a-f]{7,12})(?![\w-])")
@@ -424,6 +426,18 @@ def keep_figures(tally):
             print(f"{FIGURES}: measured at {commit}, before {len(later)} commits that changed .rt files")
 
 
+def keep_derives(tally):
+    """Whether types derive no Hash, and Debug if they are errors or docs/lib/LIBRARY.md names them: each is proved."""
+    named = re.findall(CALL, re.search(r"`Debug` is derived by errors and by (.*), `Hash`", read(LIBRARY))[1])
+    derives = {name: words.split(", ") for path in glob.glob("crates/*/src/**/*.rt", recursive=True)
+               for words, name in re.findall(DERIVE, read(path))}
+    for name in sorted({it for it, words in derives.items() if "Debug" in words and "Error" not in words} ^ {*named}):
+        tally.tell("derives", False, f"{LIBRARY}: {name} derives Debug or is named there, and not both")
+    for name in (it for it, words in derives.items() if "Hash" in words):
+        tally.tell("derives", False, f"{LIBRARY}: {name} derives Hash, and nothing is named there")
+    tally.tell("derives", True, "")
+
+
 def main(*given):
     """Looks up what the documents name, prints what isn't there, and returns the status."""
     if given[:1] == ("--accept",):
@@ -435,7 +449,7 @@ def main(*given):
     documents = ["README.md", *glob.glob("docs/**/*.md", recursive=True), *glob.glob("crates/*/PROOFS.md"), MISTAKES]
     for name in given or sorted(documents):
         Document(name, sources, tally).read()
-    for keep in () if given else (keep_budgets, keep_figures, messages.keep):
+    for keep in () if given else (keep_budgets, keep_figures, keep_derives, messages.keep):
         keep(tally)
     return int(tally.status() or wrong)
 
