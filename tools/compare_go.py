@@ -144,7 +144,7 @@ class Commands:
             "PATH": os.path.dirname(go) + ":/usr/bin:/bin", "HOME": room, "GOPATH": f"{room}/gopath",
             "GOMODCACHE": self.cache, "GOCACHE": f"{room}/build", "GOENV": "off", "GOWORK": "off",
             "GOPROXY": f"file://{proxy}", "GOSUMDB": "off", "GONOSUMDB": "*", "GOPRIVATE": "", "GONOPROXY": "",
-            "GOTOOLCHAIN": "local", "GOVCS": "*:off", "GO111MODULE": "on", "GOTELEMETRY": "off",
+            "GOTOOLCHAIN": "local", "GOVCS": "*:off", "GO111MODULE": "on", "GOTELEMETRY": "off", "GOMAXPROCS": "1",
         }
 
     def ask_go(self, folder, *words, mod="readonly", flags=None):
@@ -630,25 +630,6 @@ def compare_row_world(go, row, room, found):
         print(it, flush=True)
 
 
-def lay_text(it, proxy, main):
-    """Writes the world of a text, with all that one of the two reads of it."""
-    texts = {name: it.text if go_texts.OTHERS.get(it.place) == name else text for name, text in go_texts.FILES.items()}
-    known = [(f"example.com/{name}", version) for name in texts for version in go_texts.SHOWN]
-    for reader in go_texts.Reader(it, True), go_texts.Reader(it, False):
-        for path, version in known + reader.pairs:
-            if is_import_path(path):
-                text = texts.get(path.removeprefix("example.com/"), f"module {path}\n")
-                lay_version(proxy, path, version, text)
-        for folder in ["r", *reader.folders]:
-            place = os.path.normpath(f"{main}/{folder}/go.mod")
-            if place.startswith(os.path.dirname(main)) and folder[0] != "/":
-                write(place, texts["r"])
-    write(f"{proxy}/example.com/p/@v/list", it.text if it.place == "list" else "v1.0.0\nv1.1.0\n")
-    write(f"{main}/go.mod", it.text if it.place == "main" else go_texts.MAIN)
-    if it.place == "sum":
-        write(f"{main}/go.sum", it.text)
-
-
 def questions(it, proxy):
     """What go and gomod are asked, and the GOFLAGS."""
     if it.place == "operation":
@@ -675,37 +656,71 @@ def answer(ran):
     return "\n".join(sorted(found))
 
 
-def compare_text(go, it, room, found):
-    """One text: whether go and gomod answer what is read of it as each of them does, and differ if that does."""
-    proxy, main = f"{room}/proxy", f"{room}/main"
-    lay_text(it, proxy, main)
-    asked, words, flags = questions(it, proxy)
-    commands = Commands(go, room, proxy)
-    theirs = answer(commands.ask_go(main, *asked, flags=flags))
-    ours = answer(commands.ask(main, *words))
-    is_same = theirs == ours or all(text.startswith("refused") for text in (theirs, ours))
-    as_go, as_gomod, shown = go_texts.judged(it)
-    said = [(text.startswith("refused"), reader.value is None) for text, reader in ((theirs, as_go), (ours, as_gomod))]
-    if is_same == bool(shown) or shown and not (all(one == two for one, two in said) and as_gomod.kind in ours):
-        rows = "; ".join(sorted(shown))
-        found.report(it, words[0], ours, theirs, rows and f"{as_gomod.kind or 'not'} what the rows say: {rows}")
-    for kind in shown or [SAME if theirs == ours else BOTH]:
-        found.count(it.place, kind)
+class TextWorlds:
+    """The worlds of texts, one after another. They share a proxy, where only what differs is written."""
+
+    def __init__(self, go, room):
+        self.go, self.room, self.proxy, self.laid = go, room, f"{room}/proxy", {}
+
+    def lay(self, it, readers, main):
+        """Writes the world of a text, with all that one of the two reads of it."""
+        texts = {name: it.text if go_texts.OTHERS.get(it.place) == name else text
+                 for name, text in go_texts.FILES.items()}
+        known = [(f"example.com/{name}", version) for name in texts for version in go_texts.SHOWN]
+        self.lay_proxy({(path, version): texts.get(path.removeprefix("example.com/"), f"module {path}\n")
+                        for path, version in sum((reader.pairs for reader in readers), known) if is_import_path(path)})
+        write(f"{self.proxy}/example.com/p/@v/list", it.text if it.place == "list" else "v1.0.0\nv1.1.0\n")
+        for folder in {"r"}.union(*(reader.folders for reader in readers)):
+            place = os.path.normpath(f"{main}/{folder}/go.mod")
+            if place.startswith(os.path.dirname(main)) and folder[0] != "/":
+                write(place, texts["r"])
+        write(f"{main}/go.mod", it.text if it.place == "main" else go_texts.MAIN)
+        if it.place == "sum":
+            write(f"{main}/go.sum", it.text)
+
+    def lay_proxy(self, files):
+        """Writes the files of versions, and removes those of versions that only the world before had."""
+        for path, version in self.laid.keys() - files.keys():
+            for ending in "info", "mod":
+                os.remove(f"{self.proxy}/{escaped(path)}/@v/{escaped(version)}.{ending}")
+        for (path, version), text in files.items():
+            if self.laid.get((path, version)) != text:
+                lay_version(self.proxy, path, version, text)
+        self.laid = files
+
+    def compare(self, it, judged, found):
+        """One text: whether go and gomod answer what is read of it as each of them does, and differ if that does."""
+        *readers, shown = judged
+        as_go, as_gomod = readers
+        with tempfile.TemporaryDirectory(dir=self.room) as room:
+            main, commands = f"{room}/main", Commands(self.go, room, self.proxy)
+            self.lay(it, readers, main)
+            asked, words, flags = questions(it, self.proxy)
+            theirs = answer(commands.ask_go(main, *asked, flags=flags))
+            ours = answer(commands.ask(main, *words))
+        is_same = theirs == ours or all(text.startswith("refused") for text in (theirs, ours))
+        said = [text.startswith("refused") == (reader.value is None)
+                for text, reader in ((theirs, as_go), (ours, as_gomod))]
+        if is_same == bool(shown) or shown and not (all(said) and as_gomod.kind in ours):
+            rows = "; ".join(sorted(shown))
+            found.report(it, words[0], ours, theirs, rows and f"{as_gomod.kind or 'not'} what the rows say: {rows}")
+        for kind in shown or [SAME if theirs == ours else BOTH]:
+            found.count(it.place, kind)
 
 
-def compare_texts(go, count, seed, found):
+def compare_texts(go, count, seed, room, found):
     """So many texts from a number on, and one for each row that they ask about and that none of them shows."""
-    asked, seen = set(go_rows.ALONE), set()
+    asked, seen, worlds = set(go_rows.ALONE), set(), TextWorlds(go, room)
     for number in range(seed, seed + count + 100000):
         it = go_texts.make(number)
-        as_go, as_gomod, shown = go_texts.judged(it)
+        as_go, as_gomod, shown = judged = go_texts.judged(it)
         if number < seed + count:
             asked |= as_go.asked | as_gomod.asked
         elif asked <= seen:
             break
         if number < seed + count or shown - seen:
             seen |= shown
-            in_scratch(compare_text, go, it, found)
+            worlds.compare(it, judged, found)
     for row in sorted(asked - seen):
         found.unexplained += 1
         print(f"tools/go_texts.py: there is no text that shows the row '{row}'")
@@ -765,7 +780,7 @@ def main(*words):
     if asked.rows is not None:
         compare_rows(go, asked.rows, found)
     elif asked.texts:
-        compare_texts(go, asked.worlds, asked.seed, found)
+        in_scratch(compare_texts, go, asked.worlds, asked.seed, found)
     elif asked.cache:
         in_scratch(compare_cache, go, asked.cache, asked.mod, asked.worlds, asked.seed, found)
     else:
