@@ -710,18 +710,20 @@ class TextWorlds:
 
 def compare_texts(go, count, seed, room, found):
     """So many texts from a number on, and one for each row that they ask about and that none of them shows."""
-    asked, seen, worlds = set(go_rows.ALONE), set(), TextWorlds(go, room)
+    asked, seen, worlds = {row: set() for row in go_rows.ALONE}, set(), TextWorlds(go, room)  # the places of each row
     for number in range(seed, seed + count + 100000):
-        it = go_texts.make(number)
-        as_go, as_gomod, shown = judged = go_texts.judged(it)
-        if number < seed + count:
-            asked |= as_go.asked | as_gomod.asked
-        elif asked <= seen:
+        it, is_more, missing = go_texts.make(number), number >= seed + count, asked.keys() - seen
+        if is_more and not missing:
             break
-        if number < seed + count or shown - seen:
+        if is_more and not any(it.place in (asked[row] or go_texts.ODD) for row in missing):
+            continue
+        as_go, as_gomod, shown = judged = go_texts.judged(it)
+        for row in () if is_more else as_go.asked | as_gomod.asked:
+            asked.setdefault(row, set()).add(it.place)
+        if not is_more or shown & missing:
             seen |= shown
             worlds.compare(it, judged, found)
-    for row in sorted(asked - seen):
+    for row in sorted(asked.keys() - seen):
         found.unexplained += 1
         print(f"tools/go_texts.py: there is no text that shows the row '{row}'")
 
