@@ -1,65 +1,117 @@
 """Compares docs/use/MESSAGES.md with what gomod says, for tools/documents.py.
 
-Its first table has each line that gomod writes to standard error, with its status; its bullets have the KINDs of a
-go.mod, and its usage errors. What each case prints is a line of the table, and each line of the table is printed by a
-case. The lines of help's texts are there, with their statuses, and those of the man page stand for all of them.
+Its first table has each line that gomod writes to standard error, once, with its status; its bullets have the KINDs of
+a go.mod. What a case prints is in the table and in the command's help, and each line of the table and each KIND is
+printed by a case. Each line of help and of the man page is in the table, and the man page's stand for all of them. A
+KIND of line 0 has no other line. A checksum tells if a condition changes in one of the three.
 """
 
+import collections
 import glob
 import re
 
-from script import read
+from script import checksum, read
 
-PAGE, HELP, MAN = "docs/use/MESSAGES.md", "crates/gomod_words/src/help.rt", "share/man/gomod.1"
+PAGE, MAN = "docs/use/MESSAGES.md", "share/man/gomod.1"
+HELP = "crates/run_cases/data/words.txt"  # cases that print it
 # what stands for a part of a line
-PARTS = {"LINE": r"(\d+|\{N\+1\}|LINE)", "N": r"(\d+|\{N\+1\}|N)", "KIND": r"\w+(?: LINE KIND)?",
-         "PATH": "[^@ :]+", "VERSION": "[^@ :]+",
-         "FOLDER": "[./F].*", "NAME": ".*", "VALUE": ".*", "P": ".*", "..": ".*", "TEXT": ".*"}
+PARTS = {"LINE": r"(?:\d+|\{N\+1\}|LINE)", "N": r"(?:\d+|\{N\+1\}|N)", "KIND": r"\w+(?: LINE KIND)?",
+         "PATH": "[^@ :]+", "VERSION": "[^@ :]+", "FOLDER": "[./F].*", "bad path PATH": "bad path .*"}
+PARTS |= dict.fromkeys(["NAME", "VALUE", "P", "DIR", "FILE", "..", "TEXT"], ".*")
+AT = re.compile(r"(go\.mod:|go\.sum:|.*: Malformed )(\S+?):? (\w+)")
 
 
 def pattern(form):
     """What a line of a form matches."""
-    return re.compile("".join(PARTS.get(it) or re.escape(it) for it in re.split(r"(\b[A-Z]+\b|\.\.)", form)))
+    pieces = re.split(r"(bad path PATH|\b[A-Z]+\b|\.\.)", form)
+    return re.compile("".join(PARTS.get(it) or re.escape(it) for it in pieces))
+
+
+class Lines:
+    """Forms of lines, with their statuses."""
+
+    def __init__(self, forms):
+        self.forms = [(form, pattern(form), int(status)) for form, status in forms]
+
+    def of(self, text, status):
+        """The forms that a line with this status has."""
+        return {form for form, fits, its in self.forms if fits.fullmatch(text) and its == status}
+
+    def repeated(self):
+        return [it for it, number in collections.Counter(form for form, _, _ in self.forms).items() if number > 1]
 
 
 def reports(path):
-    """The number, the text and the status of the first line of each report in the cases of a file."""
-    number, text, status = 0, None, 0
+    """The number, the command, the text and the status of each line that a case reports: of a usage error the first."""
+    command, lines, status = "", [], 0
     for at, line in enumerate([*read(path).split("\n"), "$ "], 1):
         if line.startswith(("$ ", "=== ", "-- ")):
-            if text is not None:
-                yield number, text, status
-            text = None
-        elif re.match(r"!(\*\S+|\\)? ", line) and text is None:
-            number, text, status = at, line.split(" ", 1)[1], 0
+            for number, text in lines[:1] if lines and lines[0][1].startswith(("error: ", "Work with ")) else lines:
+                yield number, command, text.removesuffix("\\n"), status
+            command, lines, status = line.removeprefix("$ gomod ").split(" ")[0], [], 0
+        elif re.match(r"!(\*\S+|\\)? ", line):
+            lines.append((at, line.split(" ", 1)[1]))
         elif line.startswith("? "):
             status = int(line[2:])
 
 
+def errors_of_help():
+    """The errors of each command, as its help has them, and all that text."""
+    asked = r"(?m)^\$ gomod (?:help )?(\w+)(?: --help)?\n(?:>.*\n)*?> Errors,.*\n((?:>   .*\n)+)"
+    errors, found = {}, re.findall(asked, read(HELP))
+    for command, text in found:
+        lines = re.findall(r"(?m)^>   (\S.*?)  +(.*(?:\n> {20}.*)*)", text)
+        errors[command] = Lines((form, (re.search(r"status (\d)\)", more) or "11")[1]) for form, more in lines)
+    return errors, "".join(text for _, text in found)
+
+
 def keep(tally):
     """Compares the table with cases, help and man page."""
-    page = read(PAGE)
-    rows = re.findall(r"(?m)^\| \[?`(.*?)`(?:\]\S*)? \| (\d) \|", page)
-    forms = [(form, pattern(form), int(status)) for form, status in rows]
-    kinds, printed = set(re.findall(r"(?m)^- `(\w+)`", page)), set()
-    errors = tuple(it.rstrip() for it in re.findall(r"`(error: [^'`]*[^'`A-Z])", page))
+    page, (helps, help_text) = read(PAGE), errors_of_help()
+    table = Lines(re.findall(r"(?m)^\| \[?`(.*?)`(?:\]\S*)? \| (\d) \|", page))
+    kinds = re.findall(r"(?m)^- `(\w+)`( \(line 0\))?:", page.partition("## The main file")[2].partition("\n## ")[0])
+    whole = {kind for kind, is_whole in kinds if is_whole}
+    printed, usage = set(), tuple(it.rstrip() for it in re.findall(r"`(error: [^'`]*[^'`A-Z])", page))
+
+    def tell(is_right, message):
+        tally.tell("messages", is_right, message)
+
+    def is_known(text, status):
+        """Whether the table has a line, whose KIND, if it has one, there is on such a line."""
+        place, line, kind = found.groups() if (found := AT.fullmatch(text)) else ("", "", "")
+        is_kind = place in ("", "go.sum:") or kind in {"KIND", *dict(kinds)}
+        return table.of(text, status) and is_kind and (line == "0") == (kind in whole)
+
     for path in sorted(glob.glob("crates/run_cases/data/**/*.txt", recursive=True)):
-        for number, text, status in () if "/wrong/" in path else reports(path):
-            found = {form for form, fits, its in forms if fits.fullmatch(text.removesuffix("\\n")) and its == status}
-            printed |= found
-            is_right = found and (not text.startswith("error: ") or text.startswith(errors))
-            is_right = is_right or text.startswith("Work with ")  # help
-            tally.tell("messages", is_right, f"{path}:{number}: {PAGE} has no '{text}'")
-    for form, _, _ in forms:
-        tally.tell("messages", form in printed, f"{PAGE}: no case prints '{form}'")
-    for text, more in re.findall(r"(?m)^  ((?:go\.|edit N|PATH|gomod: ).*?)  +(.*(?:\n {20}.*)*)", read(HELP)):
-        status = re.search(r"status (\d)\)", more)
-        is_right = any(fits.fullmatch(text) and its == int(status[1] if status else 1) for _, fits, its in forms)
-        kind = re.match(r"go\.mod:\w+: (\w+)", text)
-        is_right = is_right and (not kind or kind[1] in kinds | {"KIND"})
-        tally.tell("messages", is_right, f"{HELP}: {PAGE} has no '{text}' with that status")
-    told = read(MAN).partition("DIAGNOSTICS")[2].partition(".Sh ")[0].replace("\\&", "")
-    told = [re.sub("(Sy|Ar) ", "", re.sub(" Ns( Sy| Ar)? ", "", it)) for it in re.findall(r"(?m)^\.It (.*)", told)]
-    for form, _, _ in forms:
-        is_there = any(pattern(it).fullmatch(form) for it in told)
-        tally.tell("messages", is_there, f"{MAN}: there is no '{form}'")
+        for number, command, text, status in () if "/wrong/" in path else reports(path):
+            if text.startswith("Work with "):  # help
+                continue
+            is_usage = text.startswith("error: ")
+            printed |= table.of(text, status) | set(re.findall(r"^go\.mod:.*: (\w+)", text))
+            is_right = is_known(text, status) and (not is_usage or text.startswith(usage))
+            tell(is_right, f"{path}:{number}: {PAGE} has no '{text}' with status {status}")
+            is_there = is_usage or command not in helps or helps[command].of(text, status)
+            tell(is_there, f"{path}:{number}: the help of {command} has no '{text}' with status {status}")
+    for it in [form for form, _, _ in table.forms] + [kind for kind, _ in kinds]:
+        tell(it in printed, f"{PAGE}: no case prints '{it}'")
+    for form, _, status in table.forms:
+        tell(is_known(form, status), f"{PAGE}: '{form}' is of line 0, or isn't")
+    for kind, _ in kinds:
+        tell(helps["edit"].of(f"go.mod:{int(kind not in whole)}: {kind}", 1), f"the help of edit has no {kind}")
+    for command, errors in helps.items():
+        for form, _, status in errors.forms:
+            tell(is_known(form, status), f"help of {command}: {PAGE} has no '{form}' with status {status}")
+    section = read(MAN).partition("DIAGNOSTICS")[2].partition(".Sh ")[0].replace("\\&", "")
+    told = re.findall(r"(?m)^\.It (.*)", section)
+    told = Lines((re.sub("(Sy|Ar) ", "", re.sub(" Ns( Sy| Ar)? ", "", it)), 0) for it in told)
+    stood_for = {form: told.of(form, 0) for form, _, _ in table.forms}
+    for form, found in stood_for.items():
+        tell(found, f"{MAN}: there is no '{form}'")
+    for form, _, _ in told.forms:
+        tell(any(form in found for found in stood_for.values()), f"{PAGE}: there is no '{form}' of {MAN}")
+    for name, lines in [(PAGE, table), (MAN, told), *((f"help of {it}", helps[it]) for it in helps)]:
+        tell(not lines.repeated(), f"{name}: {', '.join(lines.repeated())} stands there twice")
+    tell(len(kinds) == len(dict(kinds)), f"{PAGE}: a KIND stands there twice")
+    stamp = checksum("".join(re.findall(r"(?m)^\| .*\n", page)) + help_text + section)
+    tell(f"beside one another: {stamp}\n" in page, f"{PAGE}: its tables, help's errors or the man page's diagnostics "
+         f"changed: read them beside one another, and write {stamp}")
