@@ -4,19 +4,25 @@ command, each operation of edit, and nothing else.
 
     tools/check_help.py
 
-Of share/man/gomod.1 it reads the forms of SYNOPSIS and the lists of COMMANDS, OPTIONS and OPERATIONS. What else the
-man page and all help say, limits, statuses and examples, was read side by side, and has a checksum here. It calls the
-completion for bash, and reads those for zsh and fish, so neither of them has to be installed. Then it completes lines
-in bash, and in zsh and fish where they are installed (tools/completions.py): folders, also after a comma, go's cache,
-and the paths of a go.mod, also after an operation's `=`.
+Of share/man/gomod.1 it reads the forms of SYNOPSIS and the lists of COMMANDS, OPTIONS and OPERATIONS. The limits are
+those of all help, and what help says of a status the man page says of it too. Its EXAMPLES run in a scratch folder:
+they print what README.md shows, and leave an edited go.mod. What else the man page and all help say was read side by
+side, and has a checksum here. It calls the completion for bash, and reads those for zsh and fish, so neither of them
+has to be installed. Then it completes lines in bash, and in zsh and fish where they are installed
+(tools/completions.py): folders, also after a comma, go's cache, and the paths of a go.mod, also after an operation's
+`=`.
 
 It needs bin/gomod (./build makes it), bash and python3. It prints each difference, what was compared, and what was
 skipped for want of which shell. The status is 1 if there is a difference.
 """
 
+import os
 import re
 import shlex
+import shutil
 import subprocess
+import tempfile
+import textwrap
 
 import completions
 import script
@@ -24,7 +30,7 @@ from script import checksum, read
 
 MAN = "share/man/gomod.1"
 # what the man page and all help say, when they were last read beside one another: who changes one reads them again
-READ = "mntjthrp"
+READ = "plnvgmku"
 BASH, ZSH, FISH = (f"share/completions/{it}" for it in ("gomod.bash", "_gomod", "gomod.fish"))
 HELP = {"-h", "--help"}
 
@@ -177,6 +183,42 @@ def compare_all(name, wanted, has):
     return wrong + compare(name, "operations", wanted.operations, has.operations)
 
 
+def limits(text):
+    """The great numbers in a text, with what they count."""
+    return set(re.findall(r"\d{5,}(?: bytes| module versions)?", " ".join(text.split())))
+
+
+def statuses(text, form):
+    """What a text says of each status, in small letters and without the macros of a man page."""
+    found = re.findall(form, re.sub(r"(?m)^\.(?!It)[A-Z][a-z] ?", "", text))
+    return {number: " ".join(meaning.lower().split()) for number, meaning in found}
+
+
+def compare_statuses():
+    """Prints what help says of a status and the man page doesn't, and returns how much that is."""
+    wanted = statuses(section(help_of(), "Exit status"), r"(?ms)^  (\d)  (.*?)(?=^  \d|\Z)")
+    has = statuses(read(MAN), r"(?ms)^\.It (\d)\n(.*?)(?=^\.It|^$)")
+    parts = {f"{number}: {part}" for number, it in wanted.items() for part in re.split(", or |, ", it)}
+    return compare(MAN, "EXIT STATUS", parts, {it for it in parts if it[3:] in has.get(it[0], "")})
+
+
+def run_examples():
+    """Runs the examples of the man page in a folder with a module, and returns how many are wrong."""
+    wrong, readme, path = 0, read("README.md"), os.path.abspath("bin")
+    with tempfile.TemporaryDirectory(prefix="gomod-help-") as home:
+        shutil.copytree("example", f"{home}/go/pkg/mod")
+        given = {"cwd": f"{home}/go/pkg/mod", "env": {"HOME": home, "PATH": f"{path}:{os.environ['PATH']}"}}
+        for line in re.findall(r"(?m)^\.Dl (.*)", read(MAN)):
+            ran = subprocess.run(["bash", "-c", line], **given, capture_output=True, text=True)
+            if ran.returncode or ran.stderr or textwrap.indent(ran.stdout, "    ") not in readme:
+                wrong += 1
+                print(f"{MAN}: {line}: status {ran.returncode}, and not what README.md shows: {ran.stdout}{ran.stderr}")
+        if read(f"{home}/go/pkg/mod/go.mod") != read("example/go.mod").replace("go 1.16", "go 1.22"):
+            wrong += 1
+            print(f"{MAN}: EXAMPLES don't leave a go.mod with another go version")
+    return wrong
+
+
 def main():
     """Compares each file, prints what was compared, and returns the status."""
     script.need_gomod()
@@ -188,10 +230,12 @@ def main():
     wrong += compare_all(BASH, wanted, from_bash(wanted.commands))
     wrong += compare_all(ZSH, wanted, from_zsh())
     wrong += compare_all(FISH, wanted, from_fish(wanted.commands))
-    said = checksum(read(MAN) + "".join(help_of(*it.split()) for it in ["", *sorted(wanted.commands - {"help"})]))
+    helps = "".join(help_of(*it.split()) for it in ["", *sorted(wanted.commands - {"help"})])
+    wrong += compare(MAN, "limits", limits(helps), limits(read(MAN))) + compare_statuses() + run_examples()
+    said = checksum(read(MAN) + helps)
     if said != READ:
         wrong += 1
-        print(f"{MAN} or --help has changed: read both, limits, statuses and examples too, and set READ to {said}")
+        print(f"{MAN} or --help has changed: read both beside one another, and set READ to {said}")
     counts = len(wanted.commands), sum(map(len, wanted.options.values())), len(wanted.operations)
     print("%d commands, %d options and %d operations" % counts, end=", ")
     print(f"in the man page and three completions: {wrong} wrong")
