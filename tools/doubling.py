@@ -12,8 +12,8 @@ which a row has few, and one file under many names. What many operations on many
 instructions, whatever the names are; without valgrind it isn't measured.
 
 It prints each row, and at last how many were wrong. The status is 1 if one was wrong, or ended with another status
-than it should. It needs python3 and bin/gomod (./build makes it), and takes 60 s of CPU time, on all processors if it
-has valgrind. Without valgrind it takes several minutes, most of them to write files.
+than it should. It needs python3 and bin/gomod (./build makes it), and takes 80 s of CPU time, on all processors if it
+has valgrind. Without valgrind it takes several minutes. It writes files to /dev/shm, if a gigabyte is free there.
 """
 
 import concurrent.futures
@@ -41,6 +41,9 @@ LIMIT = 120
 TAGS = os.path.join(os.path.dirname(os.path.abspath(__file__)), "../crates/gm_graph/src/cache/list_index.rt")
 TAG_STEP = "tag = (tag.rotate_left(5) ^ *number).wrapping_mul(SPREAD);"
 NUMBERS = 16_384
+# where files are laid: in memory, if a gigabyte is free there, since thousands take long on a disk
+IN_MEMORY = "/dev/shm"
+FOLDER = IN_MEMORY if os.path.isdir(IN_MEMORY) and shutil.disk_usage(IN_MEMORY).free > 2**30 else None
 COUNTED = re.compile(r"I\s+refs:\s+([\d,]+)")
 
 
@@ -196,9 +199,9 @@ ROWS = [
     Row("operations", 1000, "edit go.mod *go=1.22", lambda n: {"go.mod": "module example.com/m\n"}),
     # so few and so long that to look at the key of each line for each operation takes little, and at its words much
     Row("lines and operations", 20, "edit go.mod *droprequire=a.c/x", long_lines),
-    Row("modules", 200, f"list {PROXY}", wide),
-    Row("modules with sums", 200, f"list {PROXY} --sum go.sum --limit 1", wide),
-    Row("missing modules", 500, f"list {PROXY}", lines, 1),
+    Row("modules", 1000, f"list {PROXY}", wide),
+    Row("modules with sums", 1000, f"list {PROXY} --sum go.sum --limit 1", wide),
+    Row("missing modules", 1000, f"list {PROXY}", lines, 1),
     Row("requirements of a dependency", 2000, f"list {PROXY}", pruned),
     Row("lists of one tag", 1000, f"list {PROXY}", one_tag),
     Row("excludes and replaces", 1000, f"list {PROXY}", replaced),
@@ -206,9 +209,9 @@ ROWS = [
     Row("proxy folders", 500, "list --proxy {p,}proxy", lambda n: wide(4)),
     Row("words that are left out", 500, f"list {PROXY} *x", lambda n: {}, 2),
     Row("words and options that are left out", 500, f"list {PROXY} *x *--json", lambda n: {}, 2),
-    Row("modules in a ring", 200, f"graph {PROXY}", ring),
+    Row("modules in a ring", 1000, f"graph {PROXY}", ring),
     Row("requirements of a dependency", 2000, f"graph {PROXY}", pruned),
-    Row("modules in a ring", 200, f"chain a.c/1 {PROXY}", ring),
+    Row("modules in a ring", 1000, f"chain a.c/1 {PROXY}", ring),
     Row("versions", 4000, "versions a.c", lambda n: {"stdin": "\n".join(numbered(n, "v1.0.{}"))}),
     Row("versions and retractions", 2000, f"versions a.c {PROXY}", retracted),
 ]
@@ -227,7 +230,7 @@ class Meter:
 
     def cost(self, words, files):
         """What a command line takes over these files, its status, and the first line of its report."""
-        with tempfile.TemporaryDirectory(prefix="gomod-doubling-") as folder:
+        with tempfile.TemporaryDirectory(prefix="gomod-doubling-", dir=FOLDER) as folder:
             for name, text in files.items():
                 write(os.path.join(folder, name), text)
             stdin = files.get("stdin", "").encode()
