@@ -27,7 +27,7 @@ LINES = [
     "list --proxy P --sum go.sum",
     "list --proxy P",
     "graph --proxy P",
-    "chain q.x/m0 --proxy P",
+    "chain q.x/m5 --proxy P",
     "list --proxy P|P --sum go.sum",
 ]
 
@@ -36,11 +36,52 @@ def place(number):
     return f"P/q.x/m{number}/@v/v1.0.0.mod"
 
 
+def ends_of(number, is_other):
+    """What the file of a module requires: two others, or one of its own."""
+    return [f"extra{number}"] if is_other else [f"m{(number + it) % MODULES}" for it in (1, 3)]
+
+
 def text_of(number, is_other):
-    """The file of a module, of more bytes than are read at once: it requires two others, or one of its own."""
-    ends = [f"extra{number}"] if is_other else [f"m{(number + it) % MODULES}" for it in (1, 3)]
-    required = "".join(f"require q.x/{it} v1.0.0\n" for it in ends)
+    """The file of a module, of more bytes than are read at once."""
+    required = "".join(f"require q.x/{it} v1.0.0\n" for it in ends_of(number, is_other))
     return f"module q.x/m{number}\n\ngo 1.16\n\n//{'c' * 5000}\n{required}//{'d' * 70_000}\n"
+
+
+# what each module may require in some state of the files: the first ones of either list, since a file may be cut
+MAY_REQUIRE = {
+    f"m{number}": [set(ends[:count]) for ends in (ends_of(number, False), ends_of(number, True)) for count in range(3)]
+    for number in range(MODULES)
+}
+
+
+def vertex(name):
+    return f"q.x/{name}@v1.0.0"
+
+
+def edges_of(required):
+    """The lines of a graph in which modules require these: those of each one that the main module leads to."""
+    reached = ["m0"]
+    for name in reached:
+        reached += sorted(required.get(name, set()).difference(reached))
+    edges = [(vertex(it), vertex(end)) for it in sorted(reached) for end in sorted(required.get(it, ()))]
+    return [" ".join(it) for it in [("m.x/m", vertex("m0")), *edges]]
+
+
+def is_graph(lines):
+    """Whether some state of the files has these lines, in this order."""
+    required = {}
+    for line in lines[1:]:
+        step, _, end = line.replace("q.x/", "").replace("@v1.0.0", "").partition(" ")
+        required.setdefault(step, set()).add(end)
+    return lines == edges_of(required) and all(it in MAY_REQUIRE.get(step, []) for step, it in required.items())
+
+
+def is_chain(lines):
+    """Whether these lines lead from the main module to the last one, by requirements of some state of the files."""
+    leads = {(vertex(it), vertex(end)) for it, states in MAY_REQUIRE.items() for end in set().union(*states)}
+    steps = list(zip(lines[1:], lines[2:]))
+    is_ended = lines[:2] == ["m.x/m", vertex("m0")] and lines[-1] == vertex("m5")
+    return is_ended and leads.issuperset(steps) and len(set(lines)) == len(lines)
 
 
 def replace(name, text, seed):
@@ -125,7 +166,8 @@ class Race(Trial):
             return got == self.right
         if line.startswith("list"):
             return out.startswith(b"m.x/m\n") and set(out.splitlines()) <= self.rows
-        return True
+        is_right = is_graph if line.startswith("graph") else is_chain
+        return is_right(out.decode().splitlines())
 
     def run_for(self, seconds):
         """Runs the command lines for so long, many side by side."""
