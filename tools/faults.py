@@ -10,16 +10,17 @@
 
 There are two command lines or more of each command, which read each kind of file that it has. What is right follows
 from the run without a fault, whose calls the library tells. Each call fails alone, and then with all later ones of its
-kind, with every error that Linux documents for it, and each read and write moves fewer bytes than it may, down to 1, or
-to none for a write. A file that can't be read has to be the one that is reported, with status 3; one that isn't found
-is missing; a failed write leaves what was written before, with status 3; a close that fails changes nothing, and
-neither does a short read or write. With two faults, allocations among them, the result is one that one of them has, or
-a beginning of it. tools/refuse-memory.sh refuses each allocation.
+kind, with every error that Linux documents for it; on some lines the first call on each kind of file fails with every
+error that Linux has. Each read and write moves fewer bytes than it may, down to 1, or to none for a write. A file that
+can't be read has to be the one that is reported, with status 3; one that isn't found is missing; a failed write leaves
+what was written before, with status 3; a close that fails changes nothing, and neither does a short read or write. With
+two faults, allocations among them, the result is one that one of them has, or a beginning of it. tools/refuse-memory.sh
+refuses each allocation.
 
 It prints each fault after which a result is wrong, as a value of FAULTS (tools/faults.c), and how many runs there were.
 The status is 1 if one was wrong, or if the library sees no call of a command line. It needs a C compiler (`cc`, or what
-CC names), python3 and bin/gomod (./build makes it), and takes 30 s of CPU time beside the seconds for two faults, on
-all processors.
+CC names), python3 and bin/gomod (./build makes it), and takes 80 s of CPU time on a busy machine beside the seconds for
+two faults, on all processors.
 """
 
 import concurrent.futures
@@ -40,41 +41,47 @@ from go_worlds import unescaped
 from script import AT_ONCE, read, write
 
 # the errors that the manual pages of Linux name for each call: open(2), read(2), write(2), close(2)
-ERRORS = {
+DOCUMENTED = {
     "open": """EACCES EBADF EBUSY EDQUOT EEXIST EFAULT EFBIG EINTR EINVAL EISDIR ELOOP EMFILE ENAMETOOLONG ENFILE ENODEV
-        ENOENT ENOMEM ENOSPC ENOTDIR ENXIO EOPNOTSUPP EOVERFLOW EPERM EROFS ETXTBSY EAGAIN""".split(),
-    "read": "EAGAIN EBADF EFAULT EINTR EINVAL EIO EISDIR".split(),
-    "write": "EAGAIN EBADF EDESTADDRREQ EDQUOT EFAULT EFBIG EINTR EINVAL EIO ENOSPC EPERM EPIPE".split(),
-    "close": "EBADF EDQUOT EINTR EIO ENOSPC".split(),
+        ENOENT ENOMEM ENOSPC ENOTDIR ENXIO EOPNOTSUPP EOVERFLOW EPERM EROFS ETXTBSY EAGAIN""",
+    "read": "EAGAIN EBADF EFAULT EINTR EINVAL EIO EISDIR",
+    "write": "EAGAIN EBADF EDESTADDRREQ EDQUOT EFAULT EFBIG EINTR EINVAL EIO ENOSPC EPERM EPIPE",
+    "close": "EBADF EDQUOT EINTR EIO ENOSPC",
 }
+ERRORS = {call: [getattr(errno, it) for it in names.split()] for call, names in DOCUMENTED.items()}
+# all errors of Linux
+EVERY = range(1, 134)
 # how few bytes a read or write may move; a read of none is the end of a file, so only writes may move none
 LENGTHS = {"read": range(1, 20), "write": range(20)}
 # files that are standard input
 MAIN, SUMS = "example/go.mod", "example/go.sum"
-# Two command lines or more of each command, each with its standard input. Together those of a command read each kind of
-# file that it has: by name and from standard input, of a proxy and a folder, with and without sums. E is example/, D
-# and V are of the cases. What is printed of L and reported of M takes three writes or more: their paths are long.
+# a file of 500 KB, whose layout has 200 KB
+LARGE = "".join(f"require{60 * ' '}local/{it:020} v1.0.0\n" for it in range(5000)).encode()
+# Two command lines or more of each command, each with its standard input, and some with more errors for the first call
+# on each kind of file. Together those of a command read each kind of file that it has: by name and from standard input,
+# of a proxy and a folder, with and without sums. E is example/, D and V are of the cases. What is printed of L and
+# reported of M takes three writes or more: their paths are long.
 LONG = ["local" + 600 * "/long-name" + f"/{it}" for it in range(6)]
 LINES = [
-    ("fmt E/hand-written.mod", b""),
-    ("fmt -", MAIN),
-    ("edit E/go.mod go=1.22 require=example.com/q@v1.3.0 droprequire=rsc.io/quote", b""),
+    ("fmt E/hand-written.mod", b"", EVERY),
+    ("fmt -", LARGE, EVERY),
+    ("edit E/go.mod go=1.22 require=example.com/q@v1.3.0 droprequire=rsc.io/quote", b"", EVERY),
     ("edit - go=1.22 require=example.com/q@v2.3.0", MAIN),
-    ("graph --mod D/go.mod --proxy D/proxy", b""),
+    ("graph --mod D/go.mod --proxy D/proxy", b"", EVERY),
     ("graph --mod - --proxy E/cache/download --sum E/go.sum", MAIN),
-    ("list --mod E/go.mod --proxy E/cache/download --sum E/go.sum", b""),
+    ("list --mod E/go.mod --proxy E/cache/download --sum E/go.sum", b"", EVERY),
     ("list --mod E/go.mod --proxy E/cache/download|E/cache/download --sum -", SUMS),
     ("list --mod E/go.mod --proxy E/none", b""),
-    ("list --mod D/go.mod --proxy D/proxy", b""),
+    ("list --mod D/go.mod --proxy D/proxy|D/proxy", b"", EVERY),
     ("list --mod M/go.mod --proxy M", b""),
     ("graph --mod L/go.mod --proxy L", b""),
     ("list --mod L/go.mod --proxy L", b""),
     (f"chain {LONG[-1]} --mod L/go.mod --proxy L", b""),
-    ("chain rsc.io/sampler --mod E/go.mod --proxy E/none,E/cache/download --sum E/go.sum", b""),
+    ("chain rsc.io/sampler --mod E/go.mod --proxy E/none,E/cache/download --sum E/go.sum", b"", EVERY),
     ("chain example.com/Upper --mod D/go.mod --proxy D/proxy", b""),
     ("chain rsc.io/sampler --mod - --proxy E/cache/download", MAIN),
     ("versions example.com/p", b"v1.10.0\nv1.9.0\n\njunk\nv2.0.0\n"),
-    ("versions example.com/p --proxy V/cache,V/mirror", b""),
+    ("versions example.com/p --proxy V/cache,V/mirror", b"", EVERY),
     ("list --limit 0 --proxy D/proxy", b""),
     ("edit --help", b""),
 ]
@@ -117,8 +124,8 @@ class Call(NamedTuple):
 class Line:
     """A command line, the result that it has without a fault, and its calls."""
 
-    def __init__(self, trial, text, stdin):
-        self.trial, self.text, self.words = trial, text, text.split()
+    def __init__(self, trial, text, stdin, errors=()):
+        self.trial, self.text, self.words, self.errors = trial, text, text.split(), errors
         self.stdin = read(stdin).encode() if isinstance(stdin, str) else stdin
         *self.plain, told = trial.run(self, [])
         if not told[:-1]:
@@ -144,6 +151,10 @@ class Line:
     def is_named(self, file):
         return file in (*self.words[1:2], self.value_of("--mod"), self.value_of("--sum"), "-")
 
+    def kind_of(self, file):
+        """Whether the words name a file, a proxy folder has it, or neither: one that replaces a module, or a stream."""
+        return "named" if self.is_named(file) else "proxy" if "/@v/" in file else "other"
+
     def refusal(self, file):
         told = f"cannot read {file}" if self.is_named(file) else f"device at {self.name_of(file)}"
         return b"", f"gomod: {told}\n".encode(), 3
@@ -164,16 +175,17 @@ class Line:
         """Whether a result is right with one fault."""
         calls = self.of_kind(fault.call)[fault.at - 1 :]
         file = calls[0].file
-        falls_back = "|" in self.value_of("--proxy") and not self.is_named(file) and not fault.later
+        falls_back = "|" in self.value_of("--proxy") and self.kind_of(file) == "proxy" and not fault.later
+        of_open = fault.error if fault.call == "open" else 0
         if fault.does_nothing():
             return got == self.plain
         if fault.call == "write":
             return got == self.cut(fault.at)
-        if fault.error == errno.ENOMEM:
+        if of_open == errno.ENOMEM:
             return got == NO_MEMORY
         if falls_back:
             return got == self.plain
-        if fault.error == errno.ENOENT and not self.is_named(file):
+        if of_open == errno.ENOENT and not self.is_named(file):
             return self.is_missing(calls if fault.later else calls[:1], got)
         return got == self.refusal(file)
 
@@ -200,22 +212,27 @@ class Line:
     def faults(self):
         """Each fault that is tried alone."""
         for call, errors in ERRORS.items():
-            for at, later in itertools.product(range(1, len(self.of_kind(call)) + 1), (0, 1)):
-                for name in errors:
-                    # an open that is interrupted for ever is tried for ever
-                    if not (later and call == "open" and name == "EINTR"):
-                        yield Fault(call, at, later, getattr(errno, name), -1)
+            kinds = [self.kind_of(it.file) for it in self.of_kind(call)]
+            # many bytes are not moved one by one
+            step = max(1, sum(it.result for it in self.of_kind(call)) // 10_000)
+            for at, later in itertools.product(range(1, len(kinds) + 1), (0, 1)):
+                more = self.errors if not later and kinds.index(kinds[at - 1]) + 1 == at else ()
+                # an open that is interrupted for ever is tried for ever
+                not_tried = {errno.EINTR} if later and call == "open" else set()
+                for error in {*errors, *more} - not_tried:
+                    yield Fault(call, at, later, error, -1)
                 for length in LENGTHS.get(call, ()):
-                    yield Fault(call, at, later, 0, length)
+                    yield Fault(call, at, later, 0, length * step)
 
     def some_fault(self, chance):
         """A fault at random, for a pair."""
         call = chance.choice(["memory", "open", "read", "write", "close"])
         at = chance.randint(1, 300 if call == "memory" else max(1, len(self.of_kind(call))))
-        error = "ENOMEM" if call == "memory" else chance.choice([it for it in ERRORS[call] if it != "ENOENT"])
-        later = chance.randint(0, 0 if call == "open" and error == "EINTR" else 1)
+        errors = [errno.ENOMEM] if call == "memory" else [it for it in ERRORS[call] if it != errno.ENOENT]
+        error = chance.choice(errors)
+        later = chance.randint(0, 0 if call == "open" and error == errno.EINTR else 1)
         length = chance.choice(LENGTHS[call]) if call in LENGTHS and chance.random() < 0.5 else -1
-        return Fault(call, at, later, getattr(errno, error), length)
+        return Fault(call, at, later, error, length)
 
 
 class Trial(script.Trial):
@@ -229,24 +246,24 @@ class Trial(script.Trial):
 
     def run(self, line, faults):
         """The output, the report and the status of a command line with these faults, and what the library told."""
-        told = os.memfd_create("told")
-        try:
-            got = script.run_within(
-                ["gomod", *line.words],
-                LIMIT,
-                executable=self.program,
-                cwd=self.folder,
-                env={**self.environment, "FAULTS": " ".join(map(str, faults)), "FAULTS_TOLD": str(told)},
-                pass_fds=[told],
-                input=line.stdin,
-                capture_output=True,
-            )
-            text = os.pread(told, os.fstat(told).st_size, 0).decode()
-            return got.stdout, got.stderr, got.returncode, text.splitlines()
-        except subprocess.TimeoutExpired:
-            return b"", f"only waits, for {LIMIT} seconds".encode(), -1, ["changed 1"]
-        finally:
-            os.close(told)
+        # standard input is a file, since how much a pipe gives at once is chance
+        with open(os.memfd_create("told"), "rb") as told, script.holding(line.stdin) as stdin:
+            number = told.fileno()
+            try:
+                got = script.run_within(
+                    ["gomod", *line.words],
+                    LIMIT,
+                    executable=self.program,
+                    cwd=self.folder,
+                    env={**self.environment, "FAULTS": " ".join(map(str, faults)), "FAULTS_TOLD": str(number)},
+                    pass_fds=[number],
+                    stdin=stdin,
+                    capture_output=True,
+                )
+            except subprocess.TimeoutExpired:
+                return b"", f"only waits, for {LIMIT} seconds".encode(), -1, ["changed 1"]
+            told.seek(0)
+            return got.stdout, got.stderr, got.returncode, told.read().decode().splitlines()
 
     def try_one(self, line, faults, is_right):
         """Runs a command line with faults: the result is right, and a call was changed."""
