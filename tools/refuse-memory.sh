@@ -2,25 +2,26 @@
 # Refuses each allocation of each command of the cases and of each test in turn, and lists what goes wrong then.
 #
 #   tools/refuse-memory.sh                     all below: before a release
-#   tools/refuse-memory.sh --check             the cases of tools/refused_cases.txt: what .ci/run runs
+#   tools/refuse-memory.sh --check             the cases of tools/refused_cases.txt, the calls of refused_calls.txt and
+#                                              the tests but those of reports: what .ci/run runs
 #   tools/refuse-memory.sh --cases             all cases but the large ones
 #   tools/refuse-memory.sh --cases FILE.txt..  the cases of these files, but the large ones
 #   tools/refuse-memory.sh --cases TITLE..     the cases whose titles have one of these texts
 #   tools/refuse-memory.sh NAME..              the tests of these crates
 #
-# A command whose memory is refused has to say so, or to have the result of its case. A test has to end well, or to fail
-# and say that memory ran out. What does otherwise, crashes or hangs is printed with the number of the refused
-# allocation. The status is 1 if that happened.
+# A command whose memory is refused has to say so, or to have the result of its case. A test, and run_cases, which makes
+# the calls of libraries, has to end well, or to fail and say that memory ran out. What does otherwise, crashes or hangs
+# is printed with the number of the refused allocation. The status is 1 if that happened.
 #
-# --check refuses each allocation alone and then together with all later ones, until a run meets no refusal. In each run
-# before that one the output has to be empty, the report `gomod: no memory` and the status 3. It takes 55 s of CPU time,
-# on all processors.
+# --check refuses each allocation of the cases alone and then together with all later ones, until a run meets no
+# refusal. In each run before that one the output has to be empty, the report `gomod: no memory` and the status 3.
 #
 # Without arguments it removes bin/refused.txt, and if nothing goes wrong makes it anew for tools/release.sh: the number
-# of runs, the day and the commit, and the sha256 of bin/gomod.
+# of runs, the day and the commit, and the sha256 of bin/gomod. The number and the commit are written into PROVED.md.
 #
-# It needs a C compiler (`cc`, or what CC names), bin/gomod (./build makes it) and python3 for the cases, and `rt` for a
-# crate whose tests are not built: `rt test` leaves them in out/NAME_tests.
+# It needs a C compiler (`cc`, or what CC names), bin/gomod (./build makes it) and python3 for the cases, run_cases for
+# the calls (`rt ci` leaves it in out/), and `rt` for a crate whose tests are not built: `rt test` leaves them in
+# out/NAME_tests.
 set -euo pipefail
 cd "$(dirname "$0")/.."
 # shellcheck source=tools/lib.sh
@@ -28,6 +29,7 @@ cd "$(dirname "$0")/.."
 begin_script "$@"
 
 readonly DATA=crates/run_cases/data LISTED=tools/refused_cases.txt RECORD=bin/refused.txt
+readonly CALLS=tools/refused_calls.txt RUN_CASES=crates/run_cases/out/run_cases PROVED=docs/proof/PROVED.md
 readonly MOST=200000 # more allocations than any test makes: a guard against a count that doesn't end
 
 command -v "${CC:-cc}" > /dev/null || refuse "there is no command ${CC:-cc}: install a C compiler, or name one by CC"
@@ -88,13 +90,13 @@ refuse_each() {
   echo "$crate: $test: still asks for memory after $MOST allocations"
 }
 
-# The tests of a crate.
+# The tests of a crate, but those whose names have the second argument.
 refuse_in_tests() {
   local crate=$1 binary=$PWD/crates/$1/out/${1}_tests before=$runs tests=0 test
   if [ ! -x "$binary" ]; then
     (cd "crates/$crate" && rt test)
   fi
-  for test in $("$binary" --list | sed -n 's/: test$//p'); do
+  for test in $("$binary" --list | sed -n 's/: test$//p' | grep -v "${2-^$}"); do
     tests=$((tests + 1))
     refuse_each "$crate" "$binary" "$test"
   done
@@ -111,19 +113,30 @@ crates_with_tests() {
   done
 }
 
-# All of it, and the record.
+# The calls of libraries, which run_cases makes, and all tests but those whose names have the argument.
+refuse_in_libraries() {
+  local crate before=$runs
+  [ -x "$RUN_CASES" ] || refuse "there is no $RUN_CASES: rt ci leaves it"
+  refuse_each run_cases "$PWD/$RUN_CASES" "$PWD/$CALLS"
+  echo "run_cases: calls of libraries, $((runs - before)) runs"
+  for crate in $(crates_with_tests); do refuse_in_tests "$crate" "$@"; done
+}
+
+# All of it, and the record, whose figures PROVED.md has.
 refuse_everywhere() {
-  local crate program commit
+  local program commit shown
   need_gomod
   rm -f "$RECORD"
   program=$(sha256sum bin/gomod) commit=$(commit_here)
   refuse_in_listed
   refuse_in_cases "$DATA"/*.txt
-  for crate in $(crates_with_tests); do refuse_in_tests "$crate"; done
+  refuse_in_libraries
   [ "$failures" -eq 0 ] || return 0
   sha256sum --check --status <<< "$program" || refuse "bin/gomod isn't the program that it was at the start"
   echo "$runs runs, none wrong, on $(date --utc +%F) at commit $commit" | tee "$RECORD"
   echo "$program" >> "$RECORD"
+  shown=$(sed ':a; s/\B[0-9]\{3\}\>/,&/; ta' <<< "$runs")
+  sed -Ei "s/at [0-9a-f]{8} none of [0-9,]+ runs was wrong/at ${commit:0:8} none of $shown runs was wrong/" "$PROVED"
 }
 
 case $#:${1-} in
@@ -131,6 +144,8 @@ case $#:${1-} in
   *:--check)
     [ $# -eq 1 ] || misused "--check takes nothing"
     refuse_in_listed
+    # the reports of commands, which the cases have, would be nine tenths of the runs
+    refuse_in_libraries ::reports::
     ;;
   *:--cases)
     shift
