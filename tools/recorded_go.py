@@ -25,7 +25,7 @@ from script import read, write
 TOP = os.path.dirname(os.path.dirname(os.path.abspath(__file__)))
 ANSWERS = os.path.join(TOP, "tools", "go_answers.json")
 # What a comparison reads of the repository.
-TOOLS = ("compare_go.py", "compare_go.py", "go_rows.py", "go_texts.py", "go_worlds.py", "script.py")
+TOOLS = ("compare_go.py", "go_rows.py", "go_texts.py", "go_worlds.py", "script.py")
 FILES = [f"tools/{it}" for it in TOOLS] + ["docs/use/GO.md"]
 SECONDS, TEXTS = 900, 2000
 # Mistakes: without the .info of modules that are pruned out; a row with no world; none, where a difference has one.
@@ -227,4 +227,4 @@ def main(*words):
 
 
 if __name__ == "__main__":
-    script.run(answer, r" \S+ \S*( .*)?", r"( \S+)?")
+    script.run(answer, r" \S+ \S*( .*)?", r"( \S+)?", folder=".")
