@@ -19,7 +19,8 @@
 # CHANGELOG.md with its day, or whose tag (as v1.2.0) is at another commit, a program that isn't the one that the last
 # proof left, a gate that failed or ran with another program, changes that aren't committed, and a program without one
 # of its records: bin/refused.txt (tools/refuse-memory.sh), opened.txt (tools/program.sh, where strace is), checked.txt
-# (`tools/cases.sh --checked`) and texts.txt (`tools/compare_go.py --check` with go 1.19.8).
+# (`tools/cases.sh --checked`), mistakes.txt (tools/mistakes.py) and texts.txt (`tools/compare_go.py --check` with go
+# 1.19.8).
 #
 # It needs bin/gomod, git, GNU tar, gzip and python3. The status is 1 if it refuses, and 2 for wrong arguments.
 set -euo pipefail
@@ -34,11 +35,10 @@ least_glibc() { grep -aoE 'GLIBC_[0-9]+(\.[0-9]+)+' "$1" | cut -d _ -f 2 | sort 
 
 # Whether the last line of a file of bin/ is of bin/gomod, or of its sources.
 is_current() {
-  if [ "$1" = checked ]; then
-    [ "$(tail -n 1 bin/checked.txt)" = "$(checksum_of_program)" ]
-  else
-    tail -n 1 "bin/$1.txt" | sha256sum --check --status
-  fi
+  case $1 in
+    checked | mistakes) [ "$(tail -n 1 "bin/$1.txt")" = "$(checksum_of_program)" ] ;;
+    *) tail -n 1 "bin/$1.txt" | sha256sum --check --status ;;
+  esac
 }
 
 # Prints the first line of a file of bin/, which a script has to leave first, and refuses it if it is of something else.
@@ -91,7 +91,7 @@ check_archive() {
   echo "glibc: $least is the least"
 }
 
-to=$from gate='' refusals='' opened='' checked='' texts='' check='' unproved=''
+to=$from gate='' refusals='' opened='' checked='' mistakes='' texts='' check='' unproved=''
 case $#:${1-}:${2-} in
   1:--check:) check=yes ;;
   2:--check:--unproved) check=yes unproved=yes ;;
@@ -118,12 +118,14 @@ if [ -z "$check" ]; then
   refusals=$(record_of refused tools/refuse-memory.sh "allocations were refused of another program")
   opened=$(record_of opened "tools/program.sh, where strace is" "what another program opens was looked at")
   checked=$(record_of checked "tools/cases.sh --checked" "the cases ran with checks of other sources")
+  mistakes=$(record_of mistakes tools/mistakes.py "the wrong bodies were those of other sources")
   texts=$(record_of texts "tools/compare_go.py --check, where go 1.19.8 is" "texts of another program were compared")
 fi
 records="gate: ${gate:-none}
 each allocation refused: ${refusals:-none}
 what each command opens: ${opened:-none}
 cases with checks: ${checked:-none}
+wrong bodies: ${mistakes:-none}
 texts beside go: ${texts:-none}"
 
 version=$(bin/gomod --version)
