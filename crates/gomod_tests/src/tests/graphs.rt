@@ -9,7 +9,7 @@ ghost use Rattle.gm_graph.specs.Cached.{Knows, KnowsLender, file_count};
 ghost use Rattle.gm_graph.specs.Places.{place_limit};
 
 use super::{File, OUT_OF_MEMORY, assert_same, path, store_of, version};
-use gm_file::MainFile;
+use gm_file::{MainFile, MainModule};
 use gm_graph::{Cache, Depth, Known, Turn, load};
 use gm_name::ModVer;
 use gm_store::{FileName, MemoryFiles};
@@ -127,7 +127,7 @@ fn asked_counts(
 fn required_counts(
     rt: &impl Abort,
     alloc: Global,
-    main: &MainFile<'_>,
+    main: &MainModule,
     vertex: &ModVer,
 ) -> (usize, usize) {
     let mut store = store_of(rt, alloc, FILES);
@@ -136,7 +136,7 @@ fn required_counts(
 }
 
 /// How many modules a.io at a version requires, when a cache is asked once and again.
-fn counts_of(rt: &impl Abort, alloc: Global, main: &MainFile<'_>, number: &str) -> (usize, usize) {
+fn counts_of(rt: &impl Abort, alloc: Global, main: &MainModule, number: &str) -> (usize, usize) {
     let pair = ModVer::pair(path(rt, alloc, "a.io"), version(rt, alloc, number));
     required_counts(rt, alloc, main, &pair.expect(rt, number))
 }
@@ -146,9 +146,9 @@ fn counts_of(rt: &impl Abort, alloc: Global, main: &MainFile<'_>, number: &str) 
 fn assert_counts(rt: &impl Abort, alloc: Global, text: &str, turns: (usize, usize)) {
     let main = MainFile::read_bytes(alloc, text.as_bytes()).expect(rt, text);
     assert_same(rt, text, &turn_counts(rt, alloc, &main), &turns);
-    let known = counts_of(rt, alloc, &main, "v1.0.0");
+    let known = counts_of(rt, alloc, main.main_module(), "v1.0.0");
     assert_same(rt, "a module with a file", &known, &(2, 2));
-    let missing = counts_of(rt, alloc, &main, "v1.1.0");
+    let missing = counts_of(rt, alloc, main.main_module(), "v1.1.0");
     assert_same(rt, "a module without one", &missing, &(0, 0));
 }
 
