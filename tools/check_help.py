@@ -183,6 +183,18 @@ def compare_all(name, wanted, has):
     return wrong + compare(name, "operations", wanted.operations, has.operations)
 
 
+def compare_descriptions():
+    """Prints what zsh and fish say of a command if its line of help doesn't begin so, and returns how much that is."""
+    lines = dict(re.findall(r"(?m)^  (\w+) +(.*)", section(help_of(), "Commands").lower()))
+    found = [(ZSH, *it) for it in re.findall(r"(?m)^    '(\w+):(.*)'$", read(ZSH))]
+    found += [(FISH, *it) for it in re.findall(r"(?m)-n __fish_use_subcommand -a (\w+) -d '(.*)'$", read(FISH))]
+    # of the command help the parser says more
+    others = [it for it in found if it[1] != "help" and not lines.get(it[1], "").startswith(it[2].lower())]
+    for name, command, described in others:
+        print(f"{name}: {command}: '{described}', which --help does not say of it")
+    return len(others)
+
+
 def limits(text):
     """The great numbers in a text, with what they count."""
     return set(re.findall(r"\d{5,}(?: bytes| module versions)?", " ".join(text.split())))
@@ -229,7 +241,7 @@ def main():
     wrong += compare(MAN, "OPTIONS", set().union(*wanted.options.values()), listed_options)
     wrong += compare_all(BASH, wanted, from_bash(wanted.commands))
     wrong += compare_all(ZSH, wanted, from_zsh())
-    wrong += compare_all(FISH, wanted, from_fish(wanted.commands))
+    wrong += compare_all(FISH, wanted, from_fish(wanted.commands)) + compare_descriptions()
     helps = "".join(help_of(*it.split()) for it in ["", *sorted(wanted.commands - {"help"})])
     wrong += compare(MAN, "limits", limits(helps), limits(read(MAN))) + compare_statuses() + run_examples()
     said = checksum(read(MAN) + helps)

@@ -21,7 +21,9 @@ from script import read, write
 
 TOP = os.path.dirname(os.path.dirname(os.path.abspath(__file__)))
 SECONDS = 300
-GO_MOD = """module example.com/hello
+GO_MOD = f"""module example.com/hello
+
+// {"a long comment " * 7_000}
 
 go 1.21
 
@@ -37,11 +39,14 @@ require ( // two
 
 require(
 \texample.com/three v1.0.0
+\t`example.com/grave` v1.0.0
+\tgithub.com/Azure/five v1.0.0
 )
 
 replace example.com/replaced => ./first
 """
-# What is typed before TAB, a bar, and the line that it becomes. HOME is the path of the home.
+# What is typed before TAB, a bar, and the line that it becomes. HOME is the path of the home. A third part has the shells
+# that complete it so: zsh takes no option with `=`, and it and fish don't expand $HOME.
 LINES = """
 gomod li|gomod list
 gomod list --prox|gomod list --proxy
@@ -71,8 +76,16 @@ gomod chain "example.com/o|gomod chain "example.com/one
 gomod versions --proxy ../first rs|gomod versions --proxy ../first rsc.io/quote
 gomod list --limit 3 --prox|gomod list --limit 3 --proxy
 gomod list --limit rs|gomod list --limit rs
+gomod list --sum ma|gomod list --sum main.mod
+gomod list --proxy=../fi|gomod list --proxy=../first|bash fish
+gomod chain --proxy=../first rs|gomod chain --proxy=../first rsc.io/quote|bash fish
+gomod list --proxy ../first,$HOME/go/pkg/mo|gomod list --proxy ../first,HOME/go/pkg/mod|bash
+gomod chain example.com/g|gomod chain example.com/grave
+gomod chain github.com/A|gomod chain github.com/Azure/five
+gomod fmt ma|gomod fmt main.mod
+gomod edit ma|gomod edit main.mod
+gomod help ver|gomod help versions
 """
-PAIRS = [it.split("|") for it in LINES.strip().split("\n")]
 # Beside the good path a.b/c, and as the only folder: no file `ran` may appear.
 HOSTILE = ("$(id>ran)", "`id>ran`", "a;id>ran;", "a|id>ran", "a&id>ran", "<(id>ran)", "~root", "${HOME}", "*", "!!",
            "-m", "a'b", 'a"b', "a\\b", "a\nid>ran")
@@ -84,7 +97,8 @@ BESIDE = (("chain ", "chain a.b/c"), ("list --proxy ", "list --proxy TEXT"), ("l
 
 def lay_room(room):
     """Lays the files of the scratch folder."""
-    for it in ("module", "first", "second", "'quo\nted", "home/go/pkg/mod/cache/download", "kept/cache/download"):
+    for it in ("module", "first", "second", "'quo\nted", "home/go/pkg/mod/cache/download", "kept/cache/download",
+               "path/pkg/mod/cache/download"):
         os.makedirs(f"{room}/{it}")
     os.mkfifo(f"{room}/first/go.mod")
     for name in ("go.mod", "main.mod"):
@@ -166,24 +180,38 @@ def in_fish(room):
 
 
 SHELLS = {"bash": in_bash, "zsh": in_zsh, "fish": in_fish}
+# the variables that move go's cache, in the order in which they are set, and where it is then
+MOVED = (("GOPATH", "{0}/path:{0}/first", "path/pkg/mod"), ("GOMODCACHE", "{0}/kept", "kept"))
 
 
-def differences(shell, room):
+def pairs_of(name):
+    """What is typed in a shell, and what it becomes."""
+    lines = [it.split("|") for it in LINES.strip().split("\n")]
+    return [(typed, wanted) for typed, wanted, *shells in lines if not shells or name in shells[0].split()]
+
+
+def count_of(name):
+    """How many lines a shell completes."""
+    return len(pairs_of(name)) + len(MOVED) + len(HOSTILE) * len(BESIDE)
+
+
+def differences(name, shell, room):
     """The lines that a shell completes wrongly, each with what comes out and what is wanted."""
     try:
         if shell.wait_for_file() != ["ready"]:
             yield "(it doesn't start)", "", ""
             return
-        for typed, wanted in PAIRS:
-            typed, wanted = (re.sub("HOME", f"{room}/home", it) for it in (typed, wanted))
+        for typed, wanted in pairs_of(name):
+            typed, wanted = (re.sub(r"(?<!\$)HOME", f"{room}/home", it) for it in (typed, wanted))
             came = "".join(shell.completed(typed))
             # what follows a completed word, a slash, a quote or a blank, is the shell's affair
             if came.rstrip(" /'\"") != wanted:
                 yield typed, came, wanted
-        shell.completed(f"export GOMODCACHE={room}/kept; gomod", "\r")
-        came = "".join(shell.completed("gomod list --proxy "))
-        if came.rstrip("/ ") != f"gomod list --proxy {room}/kept/cache/download":
-            yield "gomod list --proxy (with GOMODCACHE)", came, "end with kept/cache/download"
+        for variable, value, cache in MOVED:
+            shell.completed(f"export {variable}={value.format(room)}; gomod", "\r")
+            came = "".join(shell.completed("gomod list --proxy "))
+            if came.rstrip("/ ") != f"gomod list --proxy {room}/{cache}/cache/download":
+                yield f"gomod list --proxy (with {variable})", came, f"end with {cache}/cache/download"
         shutil.rmtree(f"{room}/kept")
         shutil.rmtree(f"{room}/home/go")
         shell.completed(f"cd {room}/first; gomod", "\r")
@@ -209,17 +237,17 @@ def differences(shell, room):
 def main():
     """Completes all lines in all shells."""
     tried = [it for it in SHELLS if shutil.which(it)]
-    wrong, count = 0, len(PAIRS) + 1 + len(HOSTILE) * len(BESIDE)
+    wrong, count = 0, sum(map(count_of, tried))
     with contextlib.ExitStack() as rooms, concurrent.futures.ThreadPoolExecutor() as pool:
         begun = [rooms.enter_context(tempfile.TemporaryDirectory(prefix="gomod-completion-")) for _ in tried]
         for room in begun:
             lay_room(room)
         shells = [SHELLS[name](room) for name, room in zip(tried, begun)]
-        for name, found in zip(tried, pool.map(lambda *it: list(differences(*it)), shells, begun)):
+        for name, found in zip(tried, pool.map(lambda *it: list(differences(*it)), tried, shells, begun)):
             wrong += len(found)
             for typed, came, wanted in found:
                 print(f"{name}: '{typed}' becomes {came!r}, and should {wanted!r}")
-    print(f"lines completed in {', '.join(tried)}: {len(tried) * count - wrong} right, {wrong} wrong")
+    print(f"lines completed in {', '.join(tried)}: {count - wrong} right, {wrong} wrong")
     for name in (it for it in SHELLS if it not in tried):
-        print(f"skipped, for want of {name}: {count} completed lines")
+        print(f"skipped, for want of {name}: {count_of(name)} completed lines")
     return wrong > 0
