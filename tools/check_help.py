@@ -5,12 +5,12 @@ command, each operation of edit, and nothing else.
     tools/check_help.py
 
 Of share/man/gomod.1 it reads the forms of SYNOPSIS and the lists of COMMANDS, OPTIONS and OPERATIONS. The limits are
-those of all help, and what help says of a status the man page says of it too. Its EXAMPLES run in a scratch folder:
-they print what README.md shows, and leave an edited go.mod. What else the man page and all help say was read side by
-side, and has a checksum here. It calls the completion for bash, and reads those for zsh and fish, so neither of them
-has to be installed. Then it completes lines in bash, and in zsh and fish where they are installed
-(tools/completions.py): folders, also after a comma, go's cache, and the paths of a go.mod, also after an operation's
-`=`.
+those of all help, as are those of README.md and other documents, and what help says of a status the man page says of it
+too. Its EXAMPLES run in a scratch folder: they print what README.md shows, and leave an edited go.mod. What else the
+man page and all help say was read side by side, and has a checksum here. It calls the completion for bash, and reads
+those for zsh and fish, so neither of them has to be installed. Then it completes lines in bash, and in zsh and fish
+where they are installed (tools/completions.py): folders, also after a comma, go's cache, and the paths of a go.mod,
+also after an operation's `=`.
 
 It needs bin/gomod (./build makes it), bash and python3. It prints each difference, what was compared, and what was
 skipped for want of which shell. The status is 1 if there is a difference.
@@ -32,6 +32,8 @@ MAN = "share/man/gomod.1"
 # what the man page and all help say, when they were last read beside one another: who changes one reads them again
 READ = "plnvgmku"
 BASH, ZSH, FISH = (f"share/completions/{it}" for it in ("gomod.bash", "_gomod", "gomod.fish"))
+# the documents whose limits are those of help
+DOCUMENTS = ["README.md", *(f"docs/use/{it}.md" for it in ("COMMANDS", "GO", "MESSAGES")), "docs/proof/PROVED.md"]
 HELP = {"-h", "--help"}
 
 
@@ -200,6 +202,13 @@ def limits(text):
     return set(re.findall(r"\d{5,}(?: bytes| module versions)?", " ".join(text.split())))
 
 
+def limits_of(page):
+    """The limits that a document has: great numbers, how many versions, and MiB as bytes."""
+    text = read(page)
+    found = re.findall(r"\b\d+(?:,\d{3}){2,}\b|\b\d+,\d{3}(?= (?:opened |module )*versions)", text)
+    return {it.replace(",", "") for it in found} | {str(int(it) << 20) for it in re.findall(r"\b(\d+) MiB", text)}
+
+
 def statuses(text, form):
     """What a text says of each status, in small letters and without the macros of a man page."""
     found = re.findall(form, re.sub(r"(?m)^\.(?!It)[A-Z][a-z] ?", "", text))
@@ -244,6 +253,9 @@ def main():
     wrong += compare_all(FISH, wanted, from_fish(wanted.commands)) + compare_descriptions()
     helps = "".join(help_of(*it.split()) for it in ["", *sorted(wanted.commands - {"help"})])
     wrong += compare(MAN, "limits", limits(helps), limits(read(MAN))) + compare_statuses() + run_examples()
+    known = set(re.findall(r"\d{5,}", helps))
+    for page in DOCUMENTS:
+        wrong += compare(page, "limits", limits_of(page) & known, limits_of(page))
     said = checksum(read(MAN) + helps)
     if said != READ:
         wrong += 1

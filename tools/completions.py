@@ -45,8 +45,8 @@ require(
 
 replace example.com/replaced => ./first
 """
-# What is typed before TAB, a bar, and the line that it becomes. HOME is the path of the home. A third part has the shells
-# that complete it so: zsh takes no option with `=`, and it and fish don't expand $HOME.
+# What is typed before TAB, a bar, and the line that it becomes. HOME is the path of the home. A third part has the
+# shells that complete it so: zsh takes no option with `=`, and it and fish don't expand $HOME.
 LINES = """
 gomod li|gomod list
 gomod list --prox|gomod list --proxy

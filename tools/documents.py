@@ -12,7 +12,8 @@ outside examples and tables, and at most eight sentences on what is verified, of
 most 500 words in CHANGELOG.md. The other budgets are a table below, of words without the bars of tables, fenced code,
 comments, quotes (lines that begin with `>`), and what scripts write between marks (`<!-- show`). Each figure that
 README.md shows of speed is the one of docs/dev/BENCHMARKS.md, and both name the commit that was measured, which changed
-a source. docs/use/MESSAGES.md has each line that a case prints (tools/messages.py).
+a source. docs/use/MESSAGES.md has each line that a case prints (tools/messages.py). Versions and calls of the system
+are those of the scripts that have them, too.
 
 For each sentence of README.md on what is verified, and each of docs/proof/PROVED.md that names a law, there is a
 checksum of the sentence and one of what the law states (tools/sentences.py). If one is no longer right, both texts are
@@ -64,6 +65,11 @@ BUDGETS = """
   800 docs/dev/BENCHMARKS.md
 """
 NUMBERS = "one two three four five six seven eight nine ten eleven twelve".split()
+# what a document has, and the file that has the same
+ALIKE = (
+    ("docs/use/RECIPES.md", r"curl (\d+\.\d+) or newer", "example/fetch-missing.sh", r"curl \((\d+\.\d+) or newer"),
+    ("docs/proof/PROVED.md", r"calls of the system alone: ([\w, ]+?) \|", "tools/opened.py", r"OWN = set\(\"([\w ]+)"),
+)
 MISTAKES, FIGURES = "crates/run_cases/MISTAKES.md", "docs/dev/BENCHMARKS.md"
 LIBRARY = "docs/lib/LIBRARY.md"
 
@@ -408,6 +414,13 @@ def cells_of(lines):
     return cells
 
 
+def keep_alike(tally):
+    """Whether documents have the versions and names that another file has."""
+    for page, form, other, its_form in ALIKE:
+        here, there = (" ".join(re.findall(it, read(file))) for it, file in ((form, page), (its_form, other)))
+        tally.tell("figures", here and here.replace(",", "") == there, f"{page}: '{here}', where {other} has '{there}'")
+
+
 def keep_figures(tally):
     """Whether README.md shows of speed what docs/dev/BENCHMARKS.md has, and both name a commit that was measured."""
     readme, page = shown_in("README.md"), shown_in(FIGURES)
@@ -449,7 +462,7 @@ def main(*given):
     documents = ["README.md", *glob.glob("docs/**/*.md", recursive=True), *glob.glob("crates/*/PROOFS.md"), MISTAKES]
     for name in given or sorted(documents):
         Document(name, sources, tally).read()
-    for keep in () if given else (keep_budgets, keep_figures, keep_derives, messages.keep):
+    for keep in () if given else (keep_budgets, keep_figures, keep_alike, keep_derives, messages.keep):
         keep(tally)
     return int(tally.status() or wrong)
 

@@ -3,7 +3,8 @@
 Its first table has each line that gomod writes to standard error, once, with its status; its bullets have the KINDs of
 a go.mod. What a case prints is in the table and in the command's help, and each line of the table and each KIND is
 printed by a case. Each line of help and of the man page is in the table, and the man page's stand for all of them. A
-KIND of line 0 has no other line. A checksum tells if a condition changes in one of the three.
+KIND of line 0 has no other line, and the KINDs that its bullet on `Malformed` rules out are those that no case prints
+so. A checksum tells if a condition changes in one of the three.
 """
 
 import collections
@@ -71,7 +72,7 @@ def keep(tally):
     table = Lines(re.findall(r"(?m)^\| \[?`(.*?)`(?:\]\S*)? \| (\d) \|", page))
     kinds = re.findall(r"(?m)^- `(\w+)`( \(line 0\))?:", page.partition("## The main file")[2].partition("\n## ")[0])
     whole = {kind for kind, is_whole in kinds if is_whole}
-    printed, usage = set(), tuple(it.rstrip() for it in re.findall(r"`(error: [^'`]*[^'`A-Z])", page))
+    printed, malformed, usage = set(), set(), tuple(it.rstrip() for it in re.findall(r"`(error: [^'`]*[^'`A-Z])", page))
 
     def tell(is_right, message):
         tally.tell("messages", is_right, message)
@@ -88,12 +89,15 @@ def keep(tally):
                 continue
             is_usage = text.startswith("error: ")
             printed |= table.of(text, status) | set(re.findall(r"^go\.mod:.*: (\w+)", text))
+            malformed |= set(re.findall(r": Malformed \S+ (\w+)$", text))
             is_right = is_known(text, status) and (not is_usage or text.startswith(usage))
             tell(is_right, f"{path}:{number}: {PAGE} has no '{text}' with status {status}")
             is_there = is_usage or command not in helps or helps[command].of(text, status)
             tell(is_there, f"{path}:{number}: the help of {command} has no '{text}' with status {status}")
     for it in [form for form, _, _ in table.forms] + [kind for kind, _ in kinds]:
         tell(it in printed, f"{PAGE}: no case prints '{it}'")
+    ruled_out = set(re.findall(r"`(\w+)`", page.partition(", but never ")[2].partition(".")[0]))
+    tell(ruled_out == {*dict(kinds)} - malformed, f"{PAGE}: `Malformed` rules out other KINDs than no case prints so")
     for form, _, status in table.forms:
         tell(is_known(form, status), f"{PAGE}: '{form}' is of line 0, or isn't")
     for kind, _ in kinds:
