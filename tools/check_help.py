@@ -28,7 +28,7 @@ import completions
 import script
 from script import checksum, read
 
-MAN = "share/man/gomod.1"
+MAN, HINTS = "share/man/gomod.1", "crates/gomod_words/src/hints.rt"
 # what the man page and all help say, when they were last read beside one another: who changes one reads them again
 READ = "plnvgmku"
 BASH, ZSH, FISH = (f"share/completions/{it}" for it in ("gomod.bash", "_gomod", "gomod.fish"))
@@ -197,6 +197,37 @@ def compare_descriptions():
     return len(others)
 
 
+def rows_of_hints():
+    """Each name of the tables of hints, and how what is said of it begins. Of rows with one name the first counts."""
+    found = {}
+    for names, text in re.findall(r'(?ms)^    hint!\(((?:"[^"]*"\s*)+);(.*?)\),\n(?=    hint|\];)', read(HINTS)):
+        for name in re.findall(r'"([^"]*)"', names):
+            found.setdefault(name, re.search(r'"((?:[^"\\]|\\.)*)"', text)[1].partition("\\n")[0])
+    return found
+
+
+def tip_on(word):
+    """The tip of a command line that this word makes wrong: an option after list, another one in a command's place."""
+    words = ["list", word] if word.startswith("-") and not word.endswith("=") else [word]
+    said = subprocess.run(["bin/gomod", *words], capture_output=True, text=True).stderr
+    return (re.search(r"(?s)\n\n  tip: (.*?)\n\nUsage", said) or "  ")[1]
+
+
+def compare_hints():
+    """Prints for which names of a row its tip isn't there, or none with two letters swapped, and returns how many."""
+    rows, wrong = rows_of_hints(), []
+    for name, text in rows.items():
+        # the parser takes -h and help; a form is no word
+        if name == "help" or name.startswith("-h") or "*" in name:
+            continue
+        wrong += [] if text in tip_on(name) else [name]
+        swapped = name[:-2] + name[:-3:-1]
+        if len(name.strip("-=")) >= 4 and not name.endswith("=") and swapped not in rows:
+            wrong += [] if tip_on(swapped).strip() else [swapped]
+    print(*(f"{HINTS}: there is no such tip on {it}" for it in wrong), sep="\n", end="\n" * bool(wrong))
+    return len(wrong)
+
+
 def limits(text):
     """The great numbers in a text, with what they count."""
     return set(re.findall(r"\d{5,}(?: bytes| module versions)?", " ".join(text.split())))
@@ -253,6 +284,7 @@ def main():
     wrong += compare_all(FISH, wanted, from_fish(wanted.commands)) + compare_descriptions()
     helps = "".join(help_of(*it.split()) for it in ["", *sorted(wanted.commands - {"help"})])
     wrong += compare(MAN, "limits", limits(helps), limits(read(MAN))) + compare_statuses() + run_examples()
+    wrong += compare_hints()
     known = set(re.findall(r"\d{5,}", helps))
     for page in DOCUMENTS:
         wrong += compare(page, "limits", limits_of(page) & known, limits_of(page))
