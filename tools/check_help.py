@@ -30,7 +30,7 @@ from script import checksum, read
 
 MAN, HINTS = "share/man/gomod.1", "crates/gomod_words/src/hints.rt"
 # what the man page and all help say, when they were last read beside one another: who changes one reads them again
-READ = "plnvgmku"
+READ = "inhvthup"
 BASH, ZSH, FISH = (f"share/completions/{it}" for it in ("gomod.bash", "_gomod", "gomod.fish"))
 # the documents whose limits are those of help
 DOCUMENTS = ["README.md", *(f"docs/use/{it}.md" for it in ("COMMANDS", "GO", "MESSAGES")), "docs/proof/PROVED.md"]
