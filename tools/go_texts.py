@@ -361,7 +361,7 @@ class Reader:
                 return [text]
             self.check(not must_quote(version.strip(SPACES)))
             return [path.strip(SPACES), version.strip(SPACES)]
-        if re.match(r"\.{0,2}\\|.:", path):
+        if re.match(r"\.{0,2}\\|[A-Za-z]:", path):
             self.check(False, "Spelling", "Windows")
             return [text]
         self.check(at)
