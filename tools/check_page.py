@@ -10,7 +10,7 @@ hides the list. tools/evaluate.py computes by the definitions which files are ne
 the files say is known, since they are written from that.
 
 It prints each world in which the program and the definitions differ, and a line with the counts. The status is 1 if there
-is one. It needs bin/gomod (./build makes it) and python3. A world takes some 0.4 s of CPU time.
+is one. It needs bin/gomod (./build makes it) and python3. A world takes some 0.8 s of CPU time.
 """
 
 import dataclasses
@@ -21,7 +21,7 @@ import subprocess
 import tempfile
 
 import script
-from evaluate import MANY, NONE, Made, Page, record
+from evaluate import MANY, NONE, Made, Page, record, text
 from go_worlds import hash_of
 from script import write
 
@@ -33,6 +33,25 @@ GO = [(1, 9), (1, 15), (1, 16), (1, 16), (1, 17), (1, 17), (1, 19), (1, 21), (2,
 ODD = ["local", "-a.org/x", "Example.com/a", MAIN, MAIN, MAIN]  # no proxy has the module of the first three
 FOLDERS = ["./x", "./y"]
 MALFORMED = "require example.com/a\n"
+PAGE = Page(few=MANY)
+
+
+def value(it):
+    """What the definitions are of: texts, lists, pairs and records."""
+    if isinstance(it, (str, list)):
+        return text(it) if isinstance(it, str) else tuple(map(value, it))
+    if isinstance(it, tuple):
+        return Made("", *map(value, it))
+    return record(**{name: value(one) for name, one in it.items()}) if isinstance(it, dict) else it
+
+
+def option(it):
+    return NONE if it is None else Made("Some", value(it))
+
+
+def named(name, folder, module):
+    """The name of a file, or a right side: a folder's, or that of a module at a version."""
+    return Made(folder if len(name) == 1 else module, *map(text, name))
 
 
 @dataclasses.dataclass
@@ -45,15 +64,29 @@ class File:
     excludes: list = dataclasses.field(default_factory=list)
     replaces: dict = dataclasses.field(default_factory=dict)
     is_malformed: bool = False
+    is_main: bool = False
 
+    def said(self):
+        """The record that the definitions have of it."""
+        common = {"go": self.go, "requirements": self.requirements}
+        if not self.is_main:
+            return value({"declared": option(self.declared), **common})
+        replaces = [({"path": path, "version": option(version)}, named(right, "Folder", "Module"))
+                    for (path, version), right in self.replaces.items()]
+        return value({"path": self.declared, "excludes": self.excludes, "replaces": replaces, **common})
+
+    @functools.cached_property
     def text(self):
-        """The text of the file."""
-        lines = [f"module {self.declared}"] * (self.declared is not None)
-        lines += [f"go {self.go[0]}.{self.go[1]}"] * (self.go != (1, 16))
-        lines += [f"require {path} {version}" for path, version in self.requirements]
-        lines += [f"exclude {path} {version}" for path, version in self.excludes]
-        lines += ["replace " + " ".join([*filter(None, left), "=>", *right]) for left, right in self.replaces.items()]
-        return "\n".join([*lines, MALFORMED if self.is_malformed else ""])
+        """The text of the file, as crates/page writes it; without a go directive it has go 1.16."""
+        name = "main_bytes" if self.is_main else "file_bytes"
+        written = bytes(PAGE.of("Files.TableFiles", name, self.said())).decode().replace("go 1.16\n", "")
+        return written + MALFORMED * self.is_malformed
+
+    def teach(self):
+        """Tells the page what the bytes of the file say, or the line of a fault and its kind."""
+        misread = Made("", self.text.count("\n"), Made("WrongArguments"))
+        PAGE.results_of_files["Rattle.page.specs.Files", "main_in" if self.is_main else "said_in", text(self.text)] = (
+            Made("Err", misread) if self.is_malformed else Made("Ok", self.said()))
 
 
 class World:
@@ -73,7 +106,7 @@ class World:
                 self.files[folder,] = self.module_file(self.random.choice([None, MAIN, *PATHS]))
         if self.is_sound or self.chance(0.9):
             self.files[MAIN, "v1.0.0"] = self.module_file(MAIN)
-        self.main = File(MAIN, self.go(), [self.module() for _ in range(self.random.randint(1, 3))])
+        self.main = File(MAIN, self.go(), [self.module() for _ in range(self.random.randint(1, 3))], is_main=True)
         self.main.excludes = [self.module() for _ in range(self.random.choice([0, 0, 1, 2, 3]))]
         if self.chance(0.15):
             self.require_twice()
@@ -138,7 +171,7 @@ class World:
     def add_sums(self):
         """Makes a go.sum, or none, with some lines left out, wrong, doubled or invalid; the main file may be so, too."""
         if self.chance(0.45):
-            self.sums = {name: [hash_of(file.text())] for name, file in self.files.items() if len(name) == 2}
+            self.sums = {name: [hash_of(file.text)] for name, file in self.files.items() if len(name) == 2}
             for name, hashes in self.sums.items():
                 file, other = self.files[name], hash_of("other")
                 if self.chance(0.7 if file.is_malformed or file.declared != name[0] else 0.03):
@@ -156,92 +189,50 @@ class World:
         os.mkdir(f"{room}/proxy")
         for name, file in self.files.items():
             path = f"{room}/{name[0]}/go.mod" if len(name) == 1 else f"{room}/proxy/{name[0]}/@v/{name[1]}.mod"
-            write(path, file.text())
+            write(path, file.text)
         if self.sums is not None:
             write(f"{room}/go.sum", self.sums_text)
             words += ["--sum", f"{room}/go.sum"]
-        write(f"{room}/go.mod", self.main.text())
+        write(f"{room}/go.mod", self.main.text)
         words += ["--after", self.after] if self.after else []
         return words + (["--limit", str(self.limit)] if self.limit else [])
 
 
-# ---- a world as the values that the definitions are of
-
-
-def text_of(text):
-    return tuple(text.encode())
-
-
-def option_of(text):
-    return NONE if text is None else Made("Some", text_of(text))
-
-
-def pair_of(pair):
-    return Made("", *map(text_of, pair))
-
-
-def named(name, folder, module):
-    """The name of a file, or a right side: a folder's, or that of a module at a version."""
-    return Made(folder if len(name) == 1 else module, *map(text_of, name))
-
-
-def said_by(file, is_main):
-    """What a file says, as the record that the definitions have."""
-    common = {"go": Made("", *file.go), "requirements": tuple(map(pair_of, file.requirements))}
-    if not is_main:
-        return record(declared=option_of(file.declared), **common)
-    replaces = tuple(Made("", record(path=text_of(left[0]), version=option_of(left[1])), named(right, "Folder", "Module"))
-                     for left, right in file.replaces.items())
-    return record(path=text_of(file.declared), excludes=tuple(map(pair_of, file.excludes)), replaces=replaces, **common)
-
-
-def reading_of(file, is_main):
-    """What the bytes of a file say, or the line of a fault and its kind."""
-    misread = Made("", file.text().count("\n"), Made("WrongArguments"))
-    return Made("Err", misread) if file.is_malformed else Made("Ok", said_by(file, is_main))
-
-
-def teach(page, world):
-    """Tells the page what the bytes of a world say."""
-    page.results = {("main_in", text_of(world.main.text())): reading_of(world.main, True)}
-    for file in world.files.values():
-        page.results["said_in", text_of(file.text())] = reading_of(file, False)
-    if world.sums is not None:
-        texts = {hash_of(it): it for it in ["other", *(file.text() for file in world.files.values())]}
-        lines = [Made("", *map(text_of, (*name, texts[it]))) for name, all in world.sums.items() for it in all]
-        said = Made("Err", text_of(world.bad_sum)) if world.bad_sum else Made("Ok", tuple(lines))
-        page.results["sums_in", text_of(world.sums_text)] = said
-
-
-def expected(page, world):
+def expected(world):
     """The outcomes by the definitions: what is printed, what is reported, and the status."""
-    teach(page, world)
-    contents = {named(name, "folder_file", "mod_file"): text_of(file.text()) for name, file in world.files.items()}
+    PAGE.results, PAGE.results_of_files, PAGE.kept = {}, {}, {}
+    world.main.teach()
+    for file in world.files.values():
+        file.teach()
+    if world.sums is not None:
+        texts = {hash_of(it): it for it in ["other", *(file.text for file in world.files.values())]}
+        lines = [(*name, texts[it]) for name, all in world.sums.items() for it in all]
+        said = Made("Err", text(world.bad_sum)) if world.bad_sum else Made("Ok", value(lines))
+        PAGE.results_of_files["Rattle.page.specs.Types", "sums_in", text(world.sums_text)] = said
+    contents = {named(name, "folder_file", "mod_file"): text(file.text) for name, file in world.files.items()}
 
     def run(names):
-        replies = (Made("bytes", contents[name]) if name in contents else Made("absent") for name in names)
-        asked, sums = tuple(map(functools.partial(Made, ""), names, replies)), world.sums_text
-        return record(file=text_of(world.main.text()), sums=option_of(None if world.sums is None else sums),
-                      answers=record(asked=asked, failed=()))
+        asked = [(it, Made("bytes", contents[it]) if it in contents else Made("absent")) for it in names or ()]
+        sums = option(None if world.sums is None else world.sums_text)
+        return value({"file": world.main.text, "sums": sums, "answers": {"asked": asked, "failed": []}})
 
-    limit = Made("Some", world.limit) if world.limit else NONE
-    found = page.outcomes(run(page.needed(run(contents))), option_of(world.after), limit)
+    found = PAGE.outcomes(option(world.after), option(world.limit), run(PAGE.needed(run(contents))))
     return [(*(bytes(it.part(field)).decode() for field in ("text", "report")), it.part("status")) for it in found]
 
 
 def compare(program, count, seed):
     """Compares the program with the definitions in each world."""
-    page, differing, printed = Page(few=MANY), 0, 0
+    differing, printed = 0, 0
     for number in range(seed, seed + count):
         world = World(number)
         with tempfile.TemporaryDirectory() as room:
             words = world.lay(room)
             done = subprocess.run([program, *words], capture_output=True, text=True, encoding="utf-8", errors="replace")
-        got, want = [(done.stdout, done.stderr, done.returncode)], expected(page, world)
+        got, want = [(done.stdout, done.stderr, done.returncode)], expected(world)
         printed += done.returncode == 0
         if got != want:
             differing += 1
-            print(f"check-page: world {number}: {' '.join(words)}\n  the definitions: {want}\n  the program: {got}")
+            print(f"check_page: world {number}: {' '.join(words)}\n  the definitions: {want}\n  the program: {got}")
     print(f"{count} worlds, {printed} of them with a list, {differing} differ")
     return int(differing > 0 or printed * 4 < count)
 

@@ -3,15 +3,24 @@
 For tools/evaluate.py, which computes them, and tools/page_rules.py, which changes them.
 """
 
+import functools
 import re
 
-TOKEN = re.compile(r'\s+|--[^\n]*|"(?P<text>(?:\\.|[^"\\])*)"|(?P<number>\d+)|(?P<part>(?<=\S)\.(?=\w))'
+from sources import definitions_in, scope_of
+
+# a word in braces, as `{R}`, gives an implicit argument, which counts for nothing
+TOKEN = re.compile(r'(?:\s|--[^\n]*|\{\w+\})+|"(?P<text>(?:\\.|[^"\\])*)"|(?P<number>\d+)|(?P<part>(?<=\S)\.(?=\w))'
                    r"|(?P<sign>\+\+|&&|\|\||==|[()\[\]{},;:=.λ→×⊎↔¬≡≢≤<∷+])|(?P<name>[^\W\d][\w']*|[⊥⊤])")
 KEYWORDS = {"if", "then", "else"}
-# Operators, those that bind least first, and those of them that group to the right.
-LEVELS = [("→",), ("↔",), ("×", "⊎"), ("≡", "≢", "≤", "<"), ("||",), ("&&",), ("==",), ("++", "∷", "+")]
+# operators, those that bind least first, and those of them that group to the right
+POWER = {sign: power for power, signs in enumerate(["→", "↔", "× ⊎", "≡ ≢ ≤ <", "||", "&&", "==", "++ ∷ +"])
+         for sign in signs.split()}
 TO_THE_RIGHT = {"→", "×", "⊎", "++", "∷", "+"}
-BINDERS, FACTS = 2, 3  # the levels at which a binder or a negation may begin
+BINDER, FACT = POWER["×"], POWER["≡"]  # how much binds what follows a binder's `×`, or a `¬`
+
+
+# types of fields that a record has; all others are facts about them
+OF_VALUES = {"List", "Option", "ℕ"}
 
 
 class Unreadable(Exception):
@@ -19,15 +28,10 @@ class Unreadable(Exception):
 
 
 class Node:
-    """A piece of a definition: its kind, its parts, its place, and that of the parentheses around it."""
+    """A piece of a definition: its kind, its parts, and from where to where it goes in the file."""
 
-    __slots__ = ("kind", "parts", "place", "outer", "known")
-
-    def __init__(self, kind, parts, place):
-        self.kind, self.parts, self.place, self.outer, self.known = kind, parts, place, place, None
-
-    def is_name(self, *names):
-        return self.kind == "name" and (not names or self.parts[0] in names)
+    def __init__(self, kind, parts, start=0, end=0):
+        self.kind, self.parts, self.start, self.end = kind, parts, start, end
 
     def head(self):
         """The name that it is, or that it calls."""
@@ -41,14 +45,26 @@ class Node:
         """The nodes of which it is made."""
         return [*nodes_in(self.parts)]
 
+    @functools.cached_property
     def names(self):
         """The names in it, in their order."""
-        if self.known is None:
-            found = {self.parts[0]: None} if self.kind == "name" else {}
-            for node in self.below():
-                found.update(dict.fromkeys(node.names()))
-            self.known = tuple(found)
-        return self.known
+        own = [self.parts[0]] if self.kind == "name" else []
+        return dict.fromkeys([*own, *(name for node in self.below() for name in node.names)])
+
+    def result(self):
+        """What stands behind the last arrow of a type, and the nodes before that, of which a binder has one each name."""
+        if self.kind == "→":
+            last, before = self.parts[1].result()
+            return last, [self.parts[0], *before]
+        if self.kind == "all":
+            last, before = self.parts[1].result()
+            return last, [*explicit(self.parts[0]).values(), *before]
+        return self, []
+
+
+def explicit(bound):
+    """The bound names that are no types, with their types: a type is always an implicit argument."""
+    return {name: type_ for name, type_ in bound.items() if type_.head() != "Type"}
 
 
 def nodes_in(parts):
@@ -56,93 +72,81 @@ def nodes_in(parts):
     for part in parts:
         if isinstance(part, Node):
             yield part
-        elif isinstance(part, (list, tuple)):
-            yield from nodes_in(part)
+        elif isinstance(part, (list, tuple, dict)):
+            yield from nodes_in(part.values() if isinstance(part, dict) else part)
 
 
 class Parser:
     """Reads expressions, patterns and types. Places count from `at`, where the text begins in its file."""
 
     def __init__(self, text, at=0):
-        self.tokens, self.here, self.at, end = [], 0, at, 0
+        self.tokens, self.here, end = [], 0, 0
         while end < len(text):
             found = TOKEN.match(text, end)
             if not found:
                 raise Unreadable(f"what is {text[end:end + 20]!r}?")
             if found.lastgroup:
-                self.tokens.append((found.lastgroup, found[found.lastgroup], found.start(), found.end()))
+                self.tokens.append((found.lastgroup, found[found.lastgroup], at + found.start(), at + found.end()))
             end = found.end()
+        self.tokens += [("end", "", 0, 0)] * 2
 
-    def kind(self, ahead=0):
-        at = self.here + ahead
-        return self.tokens[at][0] if at < len(self.tokens) else None
+    def kind(self):
+        return self.tokens[self.here][0]
 
-    def sign(self, ahead=0):
-        """The text of a token that isn't a string."""
-        at = self.here + ahead
-        return self.tokens[at][1] if at < len(self.tokens) and self.tokens[at][0] != "text" else None
+    def sign(self):
+        """The text of the next token, if it isn't a string."""
+        return self.tokens[self.here][1] if self.kind() != "text" else None
 
     def take(self, *expected):
         """The text of the next token, which is one of these."""
-        token = self.tokens[self.here] if self.here < len(self.tokens) else ("end", "", 0, 0)
-        if expected and token[1] not in expected:
-            raise Unreadable(f"{token[1]!r} stands where {' or '.join(expected)} is expected")
+        word = self.tokens[self.here][1]
+        if expected and word not in expected:
+            raise Unreadable(f"{word!r} stands where {' or '.join(expected)} is expected")
         self.here += 1
-        return token[1]
+        return word
 
     def node(self, kind, first, *parts):
         """A node that began with this token, and ends before the next."""
-        return Node(kind, parts, (self.at + self.tokens[first][2], self.at + self.tokens[self.here - 1][3]))
+        return Node(kind, parts, self.tokens[first][2], self.tokens[self.here - 1][3])
 
     def whole(self):
         """An expression that takes all of the text."""
         found = self.expression()
-        if self.kind():
+        if self.kind() != "end":
             raise Unreadable(f"{self.sign()!r} stands after an expression")
         return found
 
-    def is_binder(self):
-        ahead = 1
-        while self.kind(ahead) == "name":
-            ahead += 1
-        return self.sign() in ("(", "{") and ahead > 1 and self.sign(ahead) == ":"
-
     def binders(self):
-        """Bound names, each with its type: `(x y : T) (z : U)`."""
-        found = []
-        while self.is_binder():
-            found += self.binder()
+        """Bound names, each with its type: `(x y : T) {z : U}`."""
+        found = {}
+        while self.sign() in ("(", "{"):
+            ahead = self.here + 1
+            while self.tokens[ahead][0] == "name":
+                ahead += 1
+            if ahead == self.here + 1 or self.tokens[ahead][1] != ":":
+                break
+            self.take()
+            names = [self.take() for _ in range(ahead - self.here)]
+            self.take(":")
+            found |= dict.fromkeys(names, self.expression())
+            self.take("}", ")")
         return found
 
-    def binder(self):
-        """The names of one pair of parentheses or braces."""
-        end, names = {"(": ")", "{": "}"}[self.take()], []
-        while self.kind() == "name":
-            names.append(self.take())
-        self.take(":")
-        type_ = self.expression()
-        self.take(end)
-        return [(name, type_) for name in names]
-
     def expression(self, level=0):
-        """An expression of operators that bind as much as this level's, or more."""
-        if level == len(LEVELS):
-            return self.call()
-        first = self.here
-        if level == FACTS and self.sign() == "¬":
+        """An expression of operators that bind as much as this level, or more."""
+        first, bound = self.here, self.binders()
+        if bound and self.take("→", "×") == "→":
+            left = self.node("all", first, bound, self.expression())
+        elif bound:
+            left = self.node("some", first, bound, self.expression(BINDER))
+        elif self.sign() == "¬":
             self.take()
-            return self.node("¬", first, self.expression(level))
-        if level in (0, BINDERS) and self.is_binder():
-            bound = self.binders()
-            if self.take("→", "×") == "→":
-                return self.node("all", first, bound, self.expression())
-            left = self.node("some", first, bound, self.expression(BINDERS))
+            left = self.node("¬", first, self.expression(FACT))
         else:
-            left = self.expression(level + 1)
-        while self.kind() == "sign" and self.sign() in LEVELS[level]:
+            left = self.call()
+        while self.kind() == "sign" and POWER.get(self.sign(), -1) >= level:
             sign = self.take()
-            to_the_right = sign in TO_THE_RIGHT
-            left = self.node(sign, first, left, self.expression(level if to_the_right else level + 1))
+            left = self.node(sign, first, left, self.expression(POWER[sign] + (sign not in TO_THE_RIGHT)))
         return left
 
     def call(self):
@@ -150,9 +154,9 @@ class Parser:
         first = self.here
         if self.sign() == "λ":
             self.take()
-            bound = []
+            bound = {}
             while self.sign() != ".":
-                bound += self.binders() if self.is_binder() else [(self.take(), None)]
+                bound |= self.binders() or {self.take(): None}
             self.take(".")
             return self.node("lambda", first, bound, self.expression())
         if self.sign() == "if":
@@ -162,47 +166,33 @@ class Parser:
                 parts.append(self.expression())
             return self.node("if", first, *parts)
         function, arguments = self.atom(), []
-        while self.begins_atom():
-            if self.sign() == "{" and not self.is_binder():
-                self.skip_braces()
-            else:
-                arguments.append(self.call() if self.sign() in ("λ", "if") else self.atom())
+        while self.begins_atom() or self.sign() in ("λ", "if"):
+            arguments.append(self.atom() if self.begins_atom() else self.call())
         return self.node("call", first, function, arguments) if arguments else function
 
     def begins_atom(self):
-        return self.kind() in ("text", "number") or self.sign() in ("(", "[", "λ", "{", "if") or (
+        return self.kind() in ("text", "number") or self.sign() in ("(", "[") or (
             self.kind() == "name" and self.sign() not in KEYWORDS)
-
-    def skip_braces(self):
-        depth = 1
-        self.take("{")
-        while depth:
-            depth += {"{": 1, "}": -1}.get(self.take(), 0)
 
     def atom(self):
         """A name, a number, a text, a list, a tuple or a record, with the parts that are taken of it."""
         first, kind = self.here, self.kind()
-        if self.sign() == "record":
+        if not self.begins_atom():
+            raise Unreadable(f"{self.sign()!r} begins nothing")
+        word = self.take()
+        if word == "record" and kind != "text":
             found = self.record(first)
-        elif self.sign() == "(":
-            self.take()
+        elif word == "(" and kind != "text":
             items = [self.expression()]
-            while self.take(",", ")") == "," and self.sign() != ")":
-                items.append(self.expression())
-            if self.tokens[self.here - 1][1] == ",":
-                self.take(")")
+            while self.take(",", ")") == ",":
+                items += [] if self.sign() == ")" else [self.expression()]
             found = self.node("tuple", first, items) if len(items) > 1 else items[0]
-            found.outer = self.node("", first).place
-        elif self.sign() == "[":
-            self.take()
+        elif word == "[" and kind != "text":
             self.take("]")
             found = self.node("nil", first)
-        elif kind in ("text", "number", "name") and self.sign() not in KEYWORDS:
-            word = self.take()
-            value = {"text": lambda it: it.encode().decode("unicode_escape"), "number": int, "name": str}[kind](word)
-            found = self.node(kind, first, value)
         else:
-            raise Unreadable(f"{self.sign()!r} begins nothing")
+            value = {"text": lambda: word.encode().decode("unicode_escape"), "number": lambda: int(word)}
+            found = self.node(kind, first, value.get(kind, lambda: word)())
         while self.kind() == "part":
             self.take()
             found = self.node("part", first, found, self.take())
@@ -210,7 +200,6 @@ class Parser:
 
     def record(self, first):
         """`record { name = value; }`, or one that is changed: `record x { .. }`."""
-        self.take("record")
         base, fields = None if self.sign() == "{" else self.atom(), []
         self.take("{")
         while self.sign() != "}":
@@ -223,75 +212,89 @@ class Parser:
         return self.node("record", first, base, fields)
 
 
-class Clause:
-    """An equation of a function: its patterns, and what it is then."""
+class Function:
+    """A definition by equations: its type, and its clauses, each with its patterns and what it is then."""
 
-    def __init__(self, patterns, body):
-        self.patterns, self.body = patterns, body
+    def __init__(self, type_, clauses):
+        self.type, self.clauses = type_, clauses
+        self.count = len(clauses[0][0])
+        last, before = type_.result()
+        self.is_fact = last.head() == "Type"  # what it gives is a fact, or a type
+        self.is_constant = not (before or self.is_fact)
+        self.takes = before  # the types of its arguments
+
+
+class Rule:
+    """A rule of a data type: its bound names with their types, its premises, and of what it is then. A record has one, which
+    binds its fields that are values, and whose premises are those that are facts."""
+
+    def __init__(self, type_):
+        self.bound, self.premises = {}, []
+        while type_.kind in ("all", "→"):
+            if type_.kind == "all":
+                self.bound |= type_.parts[0]
+            else:
+                self.premises.append(type_.parts[0])
+            type_ = type_.parts[1]
+        self.result = type_
 
 
 class Relation:
-    """A record or a data type: its parameters, its fields or rules with their types and places, and its other sides."""
+    """A record or a data type: its parameters, the types of all its arguments, its fields or rules with their types, and
+    the rules."""
 
-    def __init__(self, is_data, parameters, fields, indices):
-        self.is_data, self.parameters, self.fields, self.indices = is_data, parameters, fields, indices
+    def __init__(self, kind, parameters, indices, fields):
+        self.is_data, self.fields = kind == "data", fields
+        self.parameters = explicit(parameters)
+        self.takes = [*self.parameters.values(), *indices]
+        self.count = len(self.takes)
+        self.rules = [Rule(type_) for type_ in fields.values()]
+        if not self.is_data:
+            rule = Rule(Node("call", (Node("name", ("",)), [Node("name", (it,)) for it in self.parameters])))
+            rule.bound = {name: type_ for name, type_ in fields.items() if type_.head() in OF_VALUES}
+            rule.premises = [type_ for name, type_ in fields.items() if name not in rule.bound]
+            self.rules = [rule]
 
 
 class Module:
-    """What a file defines, imports and calls by other names; the texts of its functions' types."""
+    """What a file defines: functions, relations, and constructors, each as how many arguments it takes; the texts of the
+    definitions; and what the names mean that it imports: a module, and the name there or None."""
 
     def __init__(self, name, text):
-        self.name, self.text = name, text
-        self.functions, self.types, self.relations, self.rules = {}, {}, {}, {}
-        self.imports, self.aliases = {}, {}
-        for found in re.finditer(r"(?m)^(?!--|\s|})(.*(?:\n(?:[ }].*|(?=\n)))*)", text):
-            self.read(found[1], found.start())
+        self.name, self.text, self.imports, self.names, self.texts = name, text, scope_of(text), {}, {}
+        at = 0
+        for one in definitions_in(None, text).values():
+            self.texts[one.name] = one.text
+            at = text.index("\n" + one.text, max(at - 1, 0)) + 1 if at or not text.startswith(one.text) else 0
+            self.read(one, at)
+            at += len(one.text)
 
-    def read(self, block, at):
-        """Reads a declaration, which begins here in the file."""
-        if block.startswith(("use ", "pub mod ", "mod ")):
-            return self.read_use(block)
-        if found := re.match(r"(?:pub )?(data|record) (\w+)(.*?)\bwhere\b", block, re.S):
-            return self.read_relation(found, block, at)
-        if found := re.match(r"(?:abbrev |unfoldable )?(?:pub )?(\w+) : ", block):
-            self.types[found[1]] = block[found.end():]
-        elif found := re.match(r"(\w+)([^=]*?)\s=\s", block):
-            parser, patterns = Parser(found[2], at + found.start(2)), []
-            while parser.kind():
-                if parser.sign() == "{":
-                    parser.skip_braces()
-                else:
-                    patterns.append(parser.atom())
-            body = Parser(block[found.end():], at + found.end()).whole()
-            self.functions.setdefault(found[1], []).append(Clause(patterns, body))
+    def read(self, one, at):
+        """Reads a definition that begins here in the file."""
+        text = one.text
+        if not one.kind:
+            starts = [text.index(" : ") + 3, *(it.end() for it in re.finditer(rf"(?m)^{one.name}(?=[ {{])", text))]
+            ends = [*(it - len(one.name) for it in starts[1:]), len(text)]
+            type_, *clauses = (Parser(text[start:end], at + start) for start, end in zip(starts, ends))
+            self.names[one.name] = Function(type_.whole(), [self.clause(it) for it in clauses])
+            return
+        head, body = text[:text.index("where")], text.index("where") + 5
+        parser = Parser(head[head.index(one.name) + len(one.name):])
+        parameters = parser.binders()
+        parser.take(":")
+        starts = [*re.finditer(r"(?m)^  (?:pub )?(\w+) : ", text[body:]), None]
+        fields = {}
+        for start, following in zip(starts, starts[1:]):
+            end = body + following.start() if following else len(text)
+            fields[start[1]] = Parser(text[body + start.end():end], at + body + start.end()).whole()
+        self.names[one.name] = Relation(one.kind, parameters, parser.expression().result()[1], fields)
+        if one.kind == "data":
+            self.names |= {name: len(type_.result()[1]) for name, type_ in fields.items()}
 
-    def read_use(self, block):
-        """Reads an import, of names or of a module by another name."""
-        if found := re.match(r"use ([\w.]+)\.\{(.*)\}\s*$", block, re.S):
-            for item in found[2].split(","):
-                name, _, alias = item.strip().partition(" as ")
-                self.imports[alias or name] = (found[1], name)
-        elif found := re.match(r"use ([\w.]+) as (\w+)", block):
-            self.aliases[found[2]] = found[1]
-
-    def read_relation(self, found, block, at):
-        """Reads a record or a data type; implicit parameters count for nothing."""
-        parser, parameters = Parser(found[3]), []
-        while parser.is_binder():
-            is_implicit, bound = parser.sign() == "{", parser.binder()
-            parameters += [] if is_implicit else bound
-        fields, starts = [], [*re.finditer(r"(?m)^  (?:pub )?(\w+) : ", block)]
-        for start, end in zip(starts, [*(it.start() for it in starts[1:]), len(block)]):
-            type_ = Parser(block[start.end():end], at + start.end()).whole()
-            fields.append((start[1], type_, (at + start.start(), type_.place[1])))
-        indices = found[3].rsplit(":", 1)[1].count("→")
-        self.relations[found[2]] = Relation(found[1] == "data", parameters, fields, indices)
-        if found[1] == "data":
-            self.rules.update({name: (found[2], arity(type_)) for name, type_, _ in fields})
-
-
-def arity(type_):
-    """How many arguments a constructor of a type takes."""
-    if type_.kind == "→":
-        return 1 + arity(type_.parts[1])
-    return len(type_.parts[0]) + arity(type_.parts[1]) if type_.kind == "all" else 0
+    @staticmethod
+    def clause(parser):
+        patterns = []
+        while parser.sign() != "=":
+            patterns.append(parser.atom())
+        parser.take()
+        return patterns, parser.whole()

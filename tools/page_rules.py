@@ -1,228 +1,201 @@
 """Changes of the definitions that crates/page copies, made by rule from their syntax; for tools/change_page.py."""
 
-import dataclasses
 import re
 
-from definitions import nodes_in
-from evaluate import OWN
+from definitions import OF_VALUES, Function, Parser, nodes_in
 
 COPY = "-- A copy from "
-# what is exchanged: comparisons, connectives, functions and constructors of the same type, fields
-SIGNS = {"≡": "≢", "≢": "≡", "<": "≤", "≤": "<", "&&": "||", "||": "&&", "×": "⊎", "⊎": "×"}
-NAMES = {
-    "nat_lt": ["nat_le"], "nat_le": ["nat_lt"], "list_any": ["list_all"], "list_all": ["list_any"],
-    "is_ascii_digit": ["is_ascii_lowercase"], "is_ascii_lowercase": ["is_ascii_digit"],
-    "text_outcome": ["refusal_outcome"], "failure_outcome": ["refusal_outcome"],
-    "refusal_outcome": ["text_outcome", "failure_outcome"],
-    "IsTop": ["IsDeep", "IsOpened"], "IsDeep": ["IsTop", "IsOpened"], "IsOpened": ["IsTop", "IsDeep"],
-    "true": ["false"], "false": ["true"], "Less": ["Greater", "Equal"], "Missing": ["TooLong"], "TooLong": ["Missing"],
-    "NotFetchable": ["Missing"], "WrongPath": ["Missing"], "Strict": ["Lax"], "Lax": ["Strict"],
-    "folder_file": ["list_file"], "⊥": ["⊤"],
-}
-PARTS = {"requirements": "excludes", "excludes": "requirements"}
-# whose last two arguments are of one type, and what may be left out of which call, by the place of what is kept
-SWAPPED = set("""nat_lt nat_le slice_cmp version_cmp pair_cmp path_cmp is_same_left is_same_version then_cmp ordering_then
-    option_or list_line""".split())
-KEPT = {"filter": [1], "map": [1], "take": [1], "before_first": [1], "option_or": [0, 1], "then_cmp": [0, 1],
-        "ordering_then": [0, 1], "line": [0], "not": [0], "without_excluded": [1], "up_to": [1]}
+# What becomes what else, or each the other: in a pattern, a letter stands for any expression. What depends on types is in
+# Maker.
+RULES = """
+a ≡ b ⇔ a ≢ b
+a < b ⇔ a ≤ b
+a < b ⇒ b < a
+a ≤ b ⇒ b ≤ a
+a && b ⇔ a || b
+a && b ⇒ a; b
+a || b ⇒ a; b
+a × b ⇔ a ⊎ b
+a × b ⇒ a; b
+a ⊎ b ⇒ a; b
+a ++ b ⇒ a; b; b ++ a
+a ∷ b ⇒ b; a ∷ []
+a == b ⇒ not (a == b)
+not a ⇒ a
+¬ a ⇒ a
+a ↔ b ⇒ a → b; b → a
+a → b ⇒ b
+if a then b else c ⇒ if a then c else b; b; c
+filter f ⇒ λ xs. xs
+filter f x ⇒ x
+map f ⇒ λ xs. xs
+map f x ⇒ x
+before_first f x ⇒ x
+take n x ⇒ x; []; take (n + 1) x
+up_to n x ⇒ x
+without_excluded m x ⇒ x
+line x ⇒ x
+then_cmp a b ⇒ a; b
+ordering_then a b ⇒ a; b
+option_or a b ⇒ a; b
+replacement_in m x ⇒ None
+Says r x ⇒ FileSays r (file_of r.main x)
+decimal n ⇒ codes "0"
+list_any f x ⇒ list_any f (take 1 x)
+flat_map f x ⇒ flat_map f (take 1 x)
+slice_cmp f a b ⇒ slice_cmp f b a
+Requires r a b ⇒ Requires r b a
+Some x ⇒ None
+r.sums ⇒ None
+main.replaces ⇒ []
+main.excludes ⇒ main.requirements
+r.main.requirements ⇔ r.main.excludes
+nat_lt ⇔ nat_le
+list_any ⇔ list_all
+version_cmp ⇒ slice_cmp nat_cmp
+is_ascii_digit ⇔ is_ascii_lowercase
+text_outcome ⇔ refusal_outcome
+failure_outcome ⇔ refusal_outcome
+IsTop ⇔ IsDeep
+IsTop ⇔ IsOpened
+IsDeep ⇔ IsOpened
+true ⇔ false
+Less ⇒ Greater; Equal
+Missing ⇔ TooLong
+NotFetchable ⇒ Missing
+WrongPath ⇒ Missing
+Strict ⇔ Lax
+folder_file ⇒ list_file
+⊥ ⇒ ⊤
+""" + "".join(f"{it} a b ⇒ {it} b a\n" for it in (
+    "nat_lt", "nat_le", "version_cmp", "pair_cmp", "path_cmp", "is_same_left", "is_same_version", "then_cmp",
+    "ordering_then", "option_or", "list_line"))
+TABLE = [(Parser(one).whole(), others.split("; ")) for left, sign, right in re.findall("(.+) ([⇒⇔]) (.+)", RULES)
+         for one, others in [(left, right), *([(right, left)] if sign == "⇔" else [])]]
+# the items of a type that are of one type
+ITEMS = {"ModuleVersion": "01", "ℕ × ℕ": "01", "Parts": "012"}
+# what the names are that a constructor's pattern has, if they are no texts
+OF_PATTERNS = {"Of": "ModuleVersion", "Ok": None, "Err": None}
 
 
-@dataclasses.dataclass
-class Change:
-    """A change by a rule: the rule, the definition, its file, what goes from there to here, and what comes."""
-
-    rule: str
-    name: str
-    file: str
-    start: int
-    end: int
-    new: str
-
-    def applied(self, text):
-        return text[:self.start] + self.new + text[self.end:]
-
-    def marked(self, text):
-        """The lines that it changes, with a mark around what goes and what comes; it shows where the change is."""
-        start, end = text.rfind("\n", 0, self.start) + 1, text.find("\n", self.end)
-        old, new = (" ".join(it.split()) for it in (text[self.start:self.end], self.new))
-        return f"{text[start:self.start]}⟪{old} ⇒ {new}⟫{text[self.end:end]}".strip()
-
-
-def children(node):
-    """The nodes below, but for the types of what is bound."""
-    return [node.parts[1]] if node.kind in ("all", "some", "lambda") else node.below()
+def fits(pattern, node, found):
+    """Whether a node is of a pattern; puts there what the pattern's letters stand for."""
+    if pattern.kind == "name" and re.fullmatch("[a-z]", pattern.parts[0]):
+        found[pattern.parts[0]] = node
+        return True
+    own, others = ([it for it in one.parts if isinstance(it, str)] for one in (pattern, node))
+    return pattern.kind == node.kind and own == others and len(pattern.below()) == len(node.below()) and all(
+        fits(*it, found) for it in zip(pattern.below(), node.below()))
 
 
 class Maker:
-    """Makes changes of one expression; `scope` has names with the texts of their types."""
+    """Makes changes of expressions of a text; `scope` has names with the texts of their types."""
 
     def __init__(self, text):
-        self.text, self.found = text, []
+        self.text = text
 
     def of(self, node):
-        """The text of a node, with the parentheses around it."""
-        return self.text[slice(*node.outer)]
+        """The text of a node, in parentheses if it needs any."""
+        text = self.text[node.start:node.end]
+        return text if node.kind in ("name", "number", "text", "nil", "part", "tuple") else f"({text})"
 
-    def put(self, rule, node, new):
-        self.found.append((rule, *node.place, new))
-
-    def look(self, node, scope):
-        """Makes the changes of a node, and of those below it."""
-        kind, parts = node.kind, node.parts
+    def changes(self, node, scope):
+        """The changes of a node and of those below it: from where to where, and what comes."""
+        kind, parts, below = node.kind, node.parts, node.below()
         if kind in ("all", "some", "lambda"):
-            scope = {**scope, **{name: self.of(of).strip("()") if of else None for name, of in parts[0]}}
-        if kind in SIGNS:
-            self.put("sign", node, f"({self.of(parts[0])} {SIGNS[kind]} {self.of(parts[1])})")
-        if kind in ("&&", "||", "×", "⊎", "++"):
-            for part in parts:
-                self.put("side dropped", node, f"({self.of(part)})")
-        if kind in ("<", "≤", "++"):
-            self.put("sides exchanged", node, f"({self.of(parts[1])} {kind} {self.of(parts[0])})")
-        make = {"number": self.number, "text": self.string, "call": self.call, "name": self.name, "part": self.part}
-        if kind in make:
-            make[kind](node, scope)
-        elif kind == "==":
-            self.put("negation", node, f"not ({self.of(node)})")
-        elif kind == "¬":
-            self.put("negation", node, self.of(parts[0]))
-        elif kind == "↔":
-            for one, other in (parts, parts[::-1]):
-                self.put("one direction", node, f"({self.of(one)} → {self.of(other)})")
-        elif kind == "→":
-            self.put("premise dropped", node, f"({self.of(parts[1])})")
-        elif kind == "if":
-            self.put("branches", node, f"(if {self.of(parts[0])} then {self.of(parts[2])} else {self.of(parts[1])})")
-        elif kind == "record" and {"text", "report"} <= dict(parts[1]).keys():
+            bound = {name: self.of(of).strip("()") if of else None for name, of in parts[0].items()}
+            scope, below = {**scope, **bound}, [parts[1]]
+        for pattern, templates in TABLE:
+            found = {}
+            for template in templates if fits(pattern, node, found) else ():
+                new = re.sub(r"(?<![\w.\"])[a-z](?![\w'])", lambda it: self.of(found[it[0]]), template)
+                yield node.start, node.end, f"({new})" if " " in template else new
+        for new in TYPED.get(kind, lambda *_: ())(self, parts, scope):
+            yield node.start, node.end, new
+        if kind == "record" and {"text", "report"} <= dict(parts[1]).keys():
             text, report = (dict(parts[1])[it] for it in ("text", "report"))
-            self.put("fields", text, self.of(report))
-            self.put("fields", report, self.of(text))
-        if kind != "part" or parts[0].kind == "part" or parts[0].is_name(*scope):
-            for child in children(node):
-                self.look(child, scope)
+            for one, other in ((text, report), (report, text)):
+                yield one.start, one.end, self.of(other)
+        if kind != "part" or parts[0].kind == "part" or parts[0].head() in scope:
+            for child in below:
+                yield from self.changes(child, scope)
 
-    def number(self, node, scope):
-        for new in (node.parts[0] + 1, node.parts[0] - 1):
-            if new >= 0:
-                self.put("number", node, str(new))
+    def number(self, parts, _):
+        return (str(it) for it in (parts[0] + 1, parts[0] - 1) if it >= 0)
 
-    def string(self, node, scope):
-        if node.parts[0]:
-            begin = node.parts[0][:-1].replace("\n", "\\n")
-            self.put("text", node, f'"{begin}#"')
-            self.put("text", node, f'"{begin}"')
+    def string(self, parts, _):
+        """A text with another last letter, and one without it."""
+        begin = parts[0][:-1].replace("\n", "\\n")
+        return [f'"{begin}{it}"' for it in ("#", "")] if parts[0] else []
 
-    def call(self, node, scope):
-        """Leaves out a call, or exchanges its last arguments."""
-        function, given = node.parts
-        head = node.head()
-        for at in KEPT.get(head, []):
-            if len(given) > at and (len(given) == 2 or head in ("line", "not", "then_cmp")):
-                self.put("call dropped", node, f"({self.of(given[at])})")
-        if head in ("filter", "map") and len(given) == 1:
-            self.put("call dropped", node, "(λ xs. xs)")
-        if head == "take":
-            self.put("call dropped", node, "[]")
-        if head in SWAPPED and len(given) >= 2 or head == "Requires":
-            order = [*given[:-2], given[-1], given[-2]]
-            self.put("arguments exchanged", node, " ".join(map(self.of, [function, *order])))
-
-    def name(self, node, scope):
+    def name(self, parts, scope):
         """Another name of the same type."""
-        name = node.parts[0]
-        others = [it for it, of in scope.items() if it != name and of and of == scope[name]] if name in scope else NAMES.get(
-            name, [])
-        for other in others:
-            self.put("name", node, other)
+        own = scope.get(parts[0])
+        return (it for it, of in scope.items() if own and of == own and it != parts[0])
 
-    def part(self, node, scope):
-        """Another part of the same value."""
-        base, field = node.parts
-        type_ = scope.get(base.parts[0]) if base.is_name() else None
-        others = [PARTS[field]] if field in PARTS and (type_ == "Main" or base.kind == "part" or base.is_name("main")) else []
-        if type_ == "Parts" and field in ("0", "1", "2"):
-            others = [it for it in ("0", "1", "2") if it != field]
-        elif field in ("0", "1") and type_ in ("ModuleVersion", "ℕ × ℕ") or base.kind == "part":
-            others += [str(1 - int(field))] if field in ("0", "1") else []
-        for other in others:
-            self.put("part", node, f"{self.of(base)}.{other}")
+    def part(self, parts, scope):
+        """Another item of the same value."""
+        items = ITEMS.get(scope.get(parts[0].head()), "01" if parts[0].kind == "part" else "")
+        return (f"{self.of(parts[0])}.{it}" for it in items if parts[1] in items and it != parts[1])
 
 
-def types_of(text):
-    """The types between the arrows of a function's type, but for implicit ones."""
-    depth, found = 0, [""]
-    for letter in " ".join(text.split()):
-        depth += (letter in "([{") - (letter in ")]}")
-        if letter == "→" and not depth:
-            found.append("")
-        else:
-            found[-1] += letter
-    return [it.strip() for it in found if not it.strip().startswith("{")]
+TYPED = {"number": Maker.number, "text": Maker.string, "name": Maker.name, "part": Maker.part}
 
 
-def of_function(page, module, name, text):
+def of_function(page, module, one, maker):
     """The changes of a function: those of each clause, and that a clause has its neighbour's body."""
-    types, clauses = types_of(module.types[name]), module.functions[name]
-    if types[0] in ("Type 0", "Type 1"):
-        return  # a type
-    for index, clause in enumerate(clauses):
-        scope, own = {}, {it for pattern in clause.patterns for it in pattern.names()}
-        for pattern, type_ in zip(clause.patterns, types):
-            if pattern.is_name() and pattern.parts[0] != "_" and not page.is_rule(module, pattern.parts[0]):
-                scope[pattern.parts[0]] = type_
-            for node in nodes_in(pattern.arguments()):
-                if node.is_name() and not page.is_rule(module, node.parts[0]):
-                    is_text = pattern.head() in ("Module", "mod_file", "folder_file", "list_file", "Folder", "Some")
-                    scope[node.parts[0]] = "List ℕ" if is_text else {"Of": "ModuleVersion"}.get(pattern.head())
-        maker = Maker(text)
-        maker.look(clause.body, scope)
-        yield from maker.found
-        for other in clauses[max(index - 1, 0):index] + clauses[index + 1:index + 2]:
-            needed = {it for pattern in other.patterns for it in pattern.names()} & {*other.body.names()}
-            if needed <= own:
-                yield "case", *clause.body.place, text[slice(*other.body.outer)]
+    for index, (patterns, body) in enumerate(one.clauses):
+        scope = {}
+        for pattern, type_ in zip(patterns, one.takes):
+            for node in [pattern, *nodes_in(pattern.arguments())]:
+                if page.is_variable(node, module) and node.head() != "_":
+                    of = maker.of(type_).strip("()") if node is pattern else OF_PATTERNS.get(pattern.head(), "List ℕ")
+                    scope[node.head()] = of
+        yield from maker.changes(body, scope)
+        for patterns_of_other, other in one.clauses[max(index - 1, 0):index] + one.clauses[index + 1:index + 2]:
+            needed = {name for it in patterns_of_other for name in it.names} & other.names.keys()
+            if needed <= {name for it in patterns for name in it.names}:
+                yield body.start, body.end, maker.of(other)
 
 
-def of_relation(page, module, name, text):
+def of_relation(_, __, one, maker):
     """The changes of a record or data type: a field or rule less, a premise less, and those of its facts."""
-    relation = module.relations[name]
-    parameters = {it: text[slice(*of.place)] for it, of in relation.parameters}
-    for _, type_, place in relation.fields:
-        maker, scope = Maker(text), dict(parameters)
-        if relation.is_data:
-            yield "rule dropped", *place, ""
+    parameters = {name: maker.text[of.start:of.end] for name, of in one.parameters.items()}
+    for name, type_ in one.fields.items():
+        scope = dict(parameters)
+        if one.is_data:
+            start = maker.text.rindex(name, 0, type_.start)
+            yield start, type_.end, ""
             while type_.kind in ("all", "→"):
                 if type_.kind == "all":
-                    scope |= {it: text[slice(*of.place)].strip("()") for it, of in type_.parts[0]}
+                    scope |= {it: maker.of(of).strip("()") for it, of in type_.parts[0].items()}
                 else:
-                    yield "premise dropped", type_.place[0], type_.parts[1].outer[0], ""
-                    maker.look(type_.parts[0], scope)
+                    yield type_.start, type_.parts[1].start, ""
+                    yield from maker.changes(type_.parts[0], scope)
                 type_ = type_.parts[1]
             for side in type_.arguments():
-                if not side.is_name(*relation_names(relation)):
-                    maker.look(side, scope)
-        elif page.is_fact(type_, module):
-            yield "field dropped", *type_.place, "⊤"
-            maker.look(type_, scope)
-        yield from maker.found
-
-
-def relation_names(relation):
-    return [it for it, _ in relation.parameters] or ["_"]
+                if side.head() not in parameters:
+                    yield from maker.changes(side, scope)
+        elif type_.head() not in OF_VALUES:
+            yield type_.start, type_.end, "⊤"
+            yield from maker.changes(type_, scope)
 
 
 def changes(page):
-    """All changes by rule of what crates/page copies, by their files; each once."""
-    for module_name, module in sorted(page.modules.items()):
-        if not module.text.startswith(COPY):
-            continue
-        file, seen = module_name.removeprefix(OWN).replace(".", "/") + ".antt", set()
-        for make, names in ((of_function, module.functions.keys() & module.types.keys()), (of_relation, module.relations)):
-            for name in sorted(names, key=module.text.index):
-                relation = module.relations.get(name)
-                if relation and (not relation.parameters or re.search(rf"\bdata {name} : ", module.text)):
-                    continue  # a type
-                for rule, start, end, new in make(page, module, name, module.text):
-                    key = start, end, re.sub(r"[()\s]", "", new)
-                    if key not in seen and key[2] != re.sub(r"[()\s]", "", module.text[start:end]):
-                        seen.add(key)
-                        yield Change(rule, name, file, start, end, new)
+    """All changes by rule of what crates/page copies, each once: the module, the name, from where to where, what comes."""
+    for module in page.modules.values():
+        seen = {bare(module.text)}
+        for name, one in module.names.items() if module.text.startswith(COPY) else ():
+            if isinstance(one, int) or (one.type.head() == "Type" if isinstance(one, Function) else not one.count):
+                continue  # a constructor or a type
+            make = of_function if isinstance(one, Function) else of_relation
+            for start, end, new in make(page, module, one, Maker(module.text)):
+                text = bare(module.text[:start] + new + module.text[end:])
+                if text not in seen:
+                    seen.add(text)
+                    yield module, name, start, end, new
+
+
+def bare(text):
+    """A text without what may stand in it or not."""
+    return re.sub(r"[()\s]", "", text)

@@ -11,7 +11,7 @@ use Rattle.page.specs.Files.{main_in}
 use Rattle.page.specs.Files.RowFiles.{at, full_file, many_file, many_text, versions_below}
 use Rattle.page.specs.Main.{Main, without_excluded}
 use Rattle.page.specs.ModuleVersion.{ModuleVersion, pair_eq}
-use Rattle.page.specs.Queries.{too_many}
+use Rattle.page.specs.Queries.{bad_sums, too_many}
 use Rattle.page.specs.Run.{AreTooMany, IsDeep, IsOpened, IsTop, Requires, Run, answered, from_deep, from_main, from_top, run_of, sound}
 use Rattle.page.specs.Types.{Misreading, Missing, Unknown}
 use Rattle.page.specs.Worlds.Rows.{TooManyAreReported, all_absent}
@@ -108,4 +108,5 @@ too_many_are_reported = record {
   asked = too_many many_file None (record { main_file = is_main; sums = tt })
       (all_read many_file None many_absent (absent_read (versions_below (suc most_opened)))) (are_too_many many_absent) refl refl;
   full = not_too_many;
+  sums = bad_sums many_file _ is_main refl (refl, refl) refl;
 }

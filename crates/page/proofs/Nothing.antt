@@ -144,13 +144,23 @@ not_read : (table : Option Sums) → AreSums bad table → ⊥
 not_read None is = is
 not_read (Some table) is = cc is
 
-none_beside : HasNoOutcome (given_with alone_text bad (a_bare ∷ []))
-none_beside outcome (bad_main place misread unasked is) = not_both alone_file place misread
-none_beside outcome (bad_sums main report is invalid unasked says) = no_cons a_bare [] unasked.0
-none_beside outcome (device main table name read due failed is) = not_read table read.sums
-none_beside outcome (too_many main table read readable over unfailed is) = not_read table read.sums
-none_beside outcome (faulty main table first others found is) = not_read table found.read.sums
-none_beside outcome (no_fault main table found prints) = not_read table found.read.sums
+-- a file was asked for beside it, or the device failed on one
+beside_bad : (content : List ℕ) (main : Main) (asked : List (Name × Reply)) (failed : List Name) → main_in content ≡ Ok main
+    → ((asked ≡ []) × (failed ≡ []) → ⊥)
+    → HasNoOutcome (record { file = content; sums = bad; answers = record { asked = asked; failed = failed } })
+beside_bad content main asked failed is_main asks outcome (bad_main place misread unasked is) = not_both main place (sym is_main ∙ misread)
+beside_bad content main asked failed is_main asks outcome (bad_sums other report is invalid unasked says) = asks unasked
+beside_bad content main asked failed is_main asks outcome (device other table name read due fails is) = not_read table read.sums
+beside_bad content main asked failed is_main asks outcome (too_many other table read readable over unfailed is) = not_read table read.sums
+beside_bad content main asked failed is_main asks outcome (faulty other table first others found is) = not_read table found.read.sums
+beside_bad content main asked failed is_main asks outcome (no_fault other table found prints) = not_read table found.read.sums
 
 pub others_have_none : OthersHaveNone
-others_have_none = record { unasked = none_unasked; unneeded = none_unneeded; twice = none_twice; failed = none_failed; beside_sums = none_beside }
+others_have_none = record {
+  unasked = none_unasked;
+  unneeded = none_unneeded;
+  twice = none_twice;
+  failed = none_failed;
+  beside_sums = beside_bad alone_text alone_file (a_bare ∷ []) [] refl (λ unasked. no_cons a_bare [] unasked.0);
+  failed_beside_sums = beside_bad one_text one_file [] (a_name ∷ []) refl (λ unasked. no_cons a_name [] unasked.1);
+}

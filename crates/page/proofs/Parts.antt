@@ -1,20 +1,23 @@
 -- What single definitions say, each from its own rules.
-use Rattle.std.proofs.Common.{◌≡◌, ℕ, false, List, [], ◌∷◌, Contains, None, Ok, arith, codes, inl, inr, refl, subst, sym}
+use Rattle.std.proofs.Common.{◌≡◌, ℕ, Bool, true, false, List, [], ◌∷◌, Contains, Option, Some, None, Result, Ok, Err, arith, codes, inl, inr, refl, subst, sym}
+use Rattle.std.specs.Prelude.{if◌then◌else◌}
 use Rattle.std.specs.Ordering.{is_gt}
-use Rattle.page.specs.Asked.{bytes}
+use Rattle.std.proofs.lemmas.Option.{same_Some}
+use Rattle.page.specs.Asked.{Reply, bytes, folder_file, list_file, mod_file, same_name}
 use Rattle.page.specs.BuildList.{main_entry, path_of}
 use Rattle.page.specs.Entries.{Entry}
 use Rattle.page.specs.Fields.{Dependency}
 use Rattle.page.specs.Files.{folder_says, folder_text, end_one, low_ten, mid_file, mid_nine, mid_ten, mid_text, top_file, top_one, top_text}
-use Rattle.page.specs.Files.RowFiles.{file_requiring, first_of, going, malformed_text, requiring, three_file}
+use Rattle.page.specs.Files.RowFiles.{file_requiring, first_of, going, huge_text, malformed_text, one_file, requiring, three_file}
 use Rattle.page.specs.Graph.{IsEdgeEnd}
 use Rattle.page.specs.ModuleVersion.{ModuleVersion}
 use Rattle.page.specs.Path.{is_fetchable}
-use Rattle.page.specs.Run.{IsDeep, IsOpened, Says, answered, faulty, from_deep, from_main, from_top, run_of, sound, wrong_path}
-use Rattle.page.specs.Types.{Main, Of}
+use Rattle.page.specs.Reading.{IsFileReading}
+use Rattle.page.specs.Run.{IsDeep, IsOpened, IsRead, Says, answered, faulty, from_deep, from_main, from_top, run_of, sound, wrong_path}
+use Rattle.page.specs.Types.{Class, Main, NoSum, Of}
 use Rattle.page.specs.Version.{version_cmp}
-use Rattle.page.specs.Worlds.Parts.{PartsAreShown, pruned_run, two_paths, two_versions}
-use Rattle.page.specs.Worlds.Rows.{malformed_answers}
+use Rattle.page.specs.Worlds.Parts.{PartsAreShown, huge_answers, pruned_run, two_paths, two_versions}
+use Rattle.page.specs.Worlds.Rows.{a_name, malformed_answers}
 use Rattle.page.proofs.Members.{differ, member_cases, no_member}
 
 top_says : Says pruned_run top_one (Ok top_file)
@@ -55,6 +58,19 @@ greatest_of_path : (y : ModuleVersion) → IsEdgeEnd two_paths y → y.0 ≡ mid
 greatest_of_path y (step, inl e) same = subst (λ (z : ModuleVersion). is_gt (version_cmp z.1 mid_nine.1) ≡ false) (sym e) refl
 greatest_of_path y (step, inr e) same = absurd (differ low_ten.0 mid_nine.0 refl (subst (λ (z : ModuleVersion). z.0 ≡ mid_nine.0) e same))
 
+-- whatever has the answer, the go.sum lists nothing
+huge_says : (is : Bool) (path version : List ℕ) (reply : Reply) → (if is then Some (bytes huge_text) else None) ≡ Some reply
+    → (said : Result Dependency Class) × IsFileReading (Some []) (mod_file path version) reply said
+huge_says true path version reply at =
+    subst (λ (r : Reply). (said : Result Dependency Class) × IsFileReading (Some []) (mod_file path version) r said)
+    (same_Some (bytes huge_text) reply at) (Err NoSum, refl)
+huge_says false path version reply at = absurd (cc at)
+
+huge_is_read : IsRead (run_of one_file (Some []) huge_answers)
+huge_is_read (mod_file path version) reply at = huge_says (same_name (mod_file path version) a_name) path version reply at
+huge_is_read (folder_file text) reply at = absurd (cc at)
+huge_is_read (list_file path) reply at = absurd (cc at)
+
 pub parts_are_shown : PartsAreShown
 unfolding is_fetchable
 parts_are_shown = record {
@@ -63,6 +79,7 @@ parts_are_shown = record {
   long = refl;
   first = refl;
   lax = refl;
+  read = huge_is_read;
   left = refl;
   unlisted = answered _ refl refl refl;
   wrong = wrong_path top_file (answered (bytes top_text) refl refl refl) refl;

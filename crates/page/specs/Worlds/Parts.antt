@@ -65,6 +65,8 @@ pub record PartsAreShown : Type 0 where
   pub lax : IsContentReading malformed_text (Err (Malformed 3 WrongArguments))
   pub unlisted : FileSays (run_of three_file (Some sums_table) sums_answers) (name_at (codes "b") (codes "v1.1.0"))
       (Err NoSum)
+  -- bytes that say nothing have a hash, so a go.sum that lists nothing tells what is wrong with them
+  pub read : IsRead (run_of one_file (Some []) huge_answers)
   -- one version is excluded, and neither another one of its path nor that version of another path
   pub left : without_excluded main_file (low_nine ∷ mid_ten ∷ low_ten ∷ []) ≡ low_nine ∷ mid_ten ∷ []
   -- a file of a wrong path

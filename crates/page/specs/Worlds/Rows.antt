@@ -236,13 +236,14 @@ pub record FolderDeviceIsReported : Type 0 where
   pub answered : HasNoOutcome (failing one_text (a_bare ∷ []) a_name)
 
 -- A run has no outcome if a needed file was not asked for, if another was, or the same one twice; if the device failed
--- on a file that is not needed; or if a file was asked for beside a go.sum that is invalid.
+-- on a file that is not needed; or if a file was asked for beside a go.sum that is invalid, or the device failed on it.
 pub record OthersHaveNone : Type 0 where
   pub unasked : HasNoOutcome (given_by one_text [])
   pub unneeded : HasNoOutcome (given_by alone_text (a_bare ∷ []))
   pub twice : HasNoOutcome (given_by one_text (a_bare ∷ a_bare ∷ []))
   pub failed : HasNoOutcome (failing alone_text [] a_name)
   pub beside_sums : HasNoOutcome (given_with alone_text (Some (codes "a b\n")) (a_bare ∷ []))
+  pub failed_beside_sums : HasNoOutcome (record (failing one_text [] a_name) { sums = Some (codes "a b\n") })
 
 -- ---- the go.sum, and too many modules
 
@@ -277,8 +278,11 @@ pub record SumsAreReported : Type 0 where
 abbrev pub all_absent : List ModuleVersion → List (Name × Reply)
 all_absent = map (λ (x : ModuleVersion). (mod_file x.0 x.1, absent))
 
--- A main file requires one module too many, whether files were asked for or not, and one as many as may be opened.
+-- A main file requires one module too many, whether files were asked for or not, and one as many as may be opened. An
+-- invalid go.sum is reported first.
 pub record TooManyAreReported : Type 0 where
   pub over : IsReportedAs many_text [] (codes "gomod: TooMany\n")
   pub asked : IsReportedAs many_text (all_absent (versions_below 65537)) (codes "gomod: TooMany\n")
   pub full : AreTooMany (run_of full_file None []) → ⊥
+  pub sums : ListEnds None None (given_with many_text (Some (codes "a b\n")) []) (reporting
+      (codes "go.sum:1: BadSum\n"))
