@@ -43,7 +43,8 @@ pub enum Directive {
 /// The path of a `module` entry with these arguments.
 fn read_module(alloc: Global, names: &mut KnownNames, words: &[Token]) -> Result<ModPath, LineFault>
     ensures kept { KeepsNames names.old names.new }
-    ensures read { IsPartRead (λ path. path) DirectiveKind.WrongArguments path_kinds (one_of (words_of words.now)) result }
+    ensures read { IsPartRead (λ path. path) DirectiveKind.WrongArguments path_kinds
+        (one_of (words_of words.now)) result }
 {
     let path = borrowed_one(alloc, words)?;
     read_path(names, path.as_str())

@@ -90,7 +90,8 @@ pub(crate) fn pair_of_texts(
     version: &str,
 ) -> Result<ModVer, LineFault>
     ensures kept { KeepsNames names.old names.new }
-    ensures read { IsPartRead (λ pair. pair) DirectiveKind.WrongArguments pair_kinds (Some (path.now, version.now)) result }
+    ensures read { IsPartRead (λ pair. pair) DirectiveKind.WrongArguments pair_kinds
+        (Some (path.now, version.now)) result }
 {
     Ok(names.pair(path, version)?)
 }
@@ -119,7 +120,8 @@ pub(crate) fn read_pair(
     words: &[Token],
 ) -> Result<ModVer, LineFault>
     ensures kept { KeepsNames names.old names.new }
-    ensures read { IsPartRead (λ pair. pair) DirectiveKind.WrongArguments pair_kinds (pair_of (words_of words.now)) result }
+    ensures read { IsPartRead (λ pair. pair) DirectiveKind.WrongArguments pair_kinds
+        (pair_of (words_of words.now)) result }
 {
     match words {
         [path, version] => pair_of_words(alloc, names, path, version),
@@ -190,7 +192,8 @@ pub(crate) fn read_interval(
     words: &[Token],
 ) -> Result<Interval, LineFault>
     ensures kept { KeepsNames names.old names.new }
-    ensures read { IsPartRead interval_view DirectiveKind.WrongArguments ends_kinds (ends_of (words_of words.now)) result }
+    ensures read { IsPartRead interval_view DirectiveKind.WrongArguments ends_kinds
+        (ends_of (words_of words.now)) result }
 {
     match words {
         [version] => single_interval(alloc, names, version),

@@ -1,8 +1,8 @@
 //! The versions that no interval contains (Go Modules Reference, retract directive).
 //!
-//! For example, of v1.0.0, v1.1.0, v1.2.0 and v1.3.0 the intervals [v1.1.0, v1.2.0] and [v1.2.0, v1.2.0] leave v1.0.0 and
-//! v1.3.0. The intervals are sorted once and then swept together with the versions, so that the time doesn't grow with
-//! the product of both.
+//! For example, of v1.0.0, v1.1.0, v1.2.0 and v1.3.0 the intervals [v1.1.0, v1.2.0] and [v1.2.0, v1.2.0] leave v1.0.0
+//! and v1.3.0. The intervals are sorted once and then swept together with the versions, so that the time doesn't grow
+//! with the product of both.
 
 ghost use Rattle.std.specs.Prelude.{◌≡◌, IfOk, map};
 ghost use Rattle.std.specs.List.Sorted.{IsStrictlySortedBy};

@@ -88,7 +88,8 @@ pub(crate) fn advance<'a>(
     version: &BorrowedVersion<'_>,
 ) -> Sweep<'a>
     requires { AreSwept (map ends_view ends.now) version.now from.next (option_map (λ reach. reach.now) from.reach) }
-    ensures { AreAllSwept (map ends_view ends.now) version.now result.next (option_map (λ reach. reach.now) result.reach) }
+    ensures { AreAllSwept (map ends_view ends.now) version.now result.next
+        (option_map (λ reach. reach.now) result.reach) }
 {
     let mut next = from.next;
     let mut reach = from.reach;

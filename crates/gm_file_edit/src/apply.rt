@@ -25,8 +25,8 @@ pub trait Apply {
     /// requires or excludes, or the one in the left side of a `replace`. The right side of a `replace` isn't checked.
     /// The check comes before any allocation.
     ///
-    /// Takes memory from the allocator of the file's lines. Fails with `NoMemory` if it runs out. On any failure the file
-    /// is unchanged.
+    /// Takes memory from the allocator of the file's lines. Fails with `NoMemory` if it runs out. On any failure the
+    /// file is unchanged.
     ///
     /// The whole file is read again. For more than one operation an `Editor` reads nothing between them.
     fn apply(&mut self, op: &Op) -> Result<(), EditFault>

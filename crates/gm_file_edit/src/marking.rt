@@ -105,7 +105,8 @@ fn holds_texts(
     inside: bool,
     line: &Line,
 ) -> Result<bool, AllocError>
-    ensures { IfOk result (λ holds. holds ≡ hold_texts (subject_view target.entry) any_second inside (line_of line.now)) }
+    ensures { IfOk result (λ holds. holds
+        ≡ hold_texts (subject_view target.entry) any_second inside (line_of line.now)) }
 {
     match entry_words(line) {
         None => Ok(false),

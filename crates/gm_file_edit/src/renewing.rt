@@ -93,8 +93,8 @@ pub(crate) fn new_line<'a>(
     Ok(line)
 }
 
-/// Puts a line with its key in the place of the first that has a mark, which is at an index, and removes the others that
-/// have one and the blocks that this empties.
+/// Puts a line with its key in the place of the first that has a mark, which is at an index, and removes the others
+/// that have one and the blocks that this empties.
 pub(crate) fn renew<'a>(
     lines: &mut KeyedLines<'a>,
     marks: Vec<bool>,

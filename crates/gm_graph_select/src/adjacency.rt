@@ -43,9 +43,9 @@ fn put_ranks(numbers: &mut [u32], ranks: &[u32])
     }
 }
 
-/// Puts ranks in the places of these numbers, in ascending order, each once, and returns how many there are. They are at
-/// the front. It takes no memory. For n numbers it takes n log n comparisons, or only n if the ranks come in ascending
-/// order.
+/// Puts ranks in the places of these numbers, in ascending order, each once, and returns how many there are. They are
+/// at the front. It takes no memory. For n numbers it takes n log n comparisons, or only n if the ranks come in
+/// ascending order.
 pub(crate) fn rank_list(numbers: &mut [u32], ranks: &[u32]) -> usize
     requires { All (λ number. number < length ranks.now) numbers.old }
     ensures count { result ≤ length numbers.old }

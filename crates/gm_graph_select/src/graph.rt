@@ -50,10 +50,10 @@ impl Model for Graph {
 }
 
 impl Graph {
-    /// The graph of these edges by the numbers of modules. Each span is that of a list of numbers, and none begins before
-    /// the end of the one before it. At most one source is each step, and each list that isn't empty is that of a source;
-    /// several may share a list. A list may have its numbers in any order, and twice. The modules are distinct; those that
-    /// no edge leads to and that are no sources are left out.
+    /// The graph of these edges by the numbers of modules. Each span is that of a list of numbers, and none begins
+    /// before the end of the one before it. At most one source is each step, and each list that isn't empty is that of
+    /// a source; several may share a list. A list may have its numbers in any order, and twice. The modules are
+    /// distinct; those that no edge leads to and that are no sources are left out.
     ///
     /// The numbers aren't copied: the graph has ranks in their places.
     ///

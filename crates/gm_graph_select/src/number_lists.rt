@@ -104,8 +104,8 @@ impl NumberLists {
         }
     }
 
-    /// These lists by ranks, each in ascending order. It takes no memory. For n numbers it takes n log n comparisons, or
-    /// only n if the ranks of each list come in ascending order.
+    /// These lists by ranks, each in ascending order. It takes no memory. For n numbers it takes n log n comparisons,
+    /// or only n if the ranks of each list come in ascending order.
     pub(crate) fn by_ranks(mut self, ranks: &[u32]) -> NumberLists
         requires { All (All (λ number. number < length ranks.now)) self }
         ensures { AllZip (IsByRanks ranks.now) self result }

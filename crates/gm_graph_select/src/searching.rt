@@ -172,7 +172,8 @@ impl Search {
 }
 
 /// The visits up to that of the goal's predecessor, or `None` if no edges lead from the main module to the goal, whose
-/// rank is given. A level is visited, then the next one, and so on, until an edge leads to the goal or no steps are left.
+/// rank is given. A level is visited, then the next one, and so on, until an edge leads to the goal or no steps are
+/// left.
 pub(crate) fn visits_to(
     alloc: Global,
     graph: &Graph,

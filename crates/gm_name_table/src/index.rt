@@ -80,8 +80,9 @@ impl Index {
         }
     }
 
-    /// Notes the place of a module with this tag that isn't in the list and is put at its end next. `first` is the place
-    /// of the first module with the tag. Fails only when memory runs out; then the index is still that of the list.
+    /// Notes the place of a module with this tag that isn't in the list and is put at its end next. `first` is the
+    /// place of the first module with the tag. Fails only when memory runs out; then the index is still that of the
+    /// list.
     pub(crate) fn add(
         &mut self,
         alloc: Global,

@@ -67,11 +67,11 @@ impl From<VersionFault> for PairFault {
 /// Paths and versions that were read before, for callers that read many names, most of them duplicates: a name that is
 /// read again shares the memory of the first one and isn't tested again.
 ///
-/// Reading through a `KnownNames` gives the same results as `ModPath::parse` and `ModVersion::parse`. Of the names whose
-/// fingerprints have one tag only the last is kept, so a lookup takes a few comparisons of numbers, at most log n among
-/// n names, and one of texts, whatever the names are. Contracts see how many names of each kind are kept: no fewer than
-/// before, and never more than there is room for. If there is no room, no text is hashed to be looked up. All memory
-/// comes from the allocator that it was made with.
+/// Reading through a `KnownNames` gives the same results as `ModPath::parse` and `ModVersion::parse`. Of the names
+/// whose fingerprints have one tag only the last is kept, so a lookup takes a few comparisons of numbers, at most log n
+/// among n names, and one of texts, whatever the names are. Contracts see how many names of each kind are kept: no
+/// fewer than before, and never more than there is room for. If there is no room, no text is hashed to be looked up.
+/// All memory comes from the allocator that it was made with.
 #[derive(Drop)]
 pub struct KnownNames {
     /// The allocator of the names, and of the maps that keep them.
@@ -102,7 +102,8 @@ impl Model for KnownNames {
     ghost invariant = { λ a. (count_of a.paths ≤ a.room) × (count_of a.versions ≤ a.room) };
 }
 
-/// Keeps a name by its fingerprint, instead of any other with the same tag, as long as there are fewer than `room` names.
+/// Keeps a name by its fingerprint, instead of any other with the same tag, as long as there are fewer than `room`
+/// names.
 fn keep<T: Drop>(
     names: &mut KeptNames<T>,
     room: usize,

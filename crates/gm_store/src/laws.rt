@@ -39,8 +39,8 @@ pub fn memory_folders_answer_by_contents()
     ensures { OutcomeFollowsContents }
 {}
 
-/// The device of a store over folders of a file system fails at a name only if opening or reading the file at the name's
-/// path in one of the folders fails. So if no file there can fail, the device doesn't.
+/// The device of a store over folders of a file system fails at a name only if opening or reading the file at the
+/// name's path in one of the folders fails. So if no file there can fail, the device doesn't.
 pub fn devices_fail_by_a_file<S: FileSystem>(system: &S)
     ensures { DeviceFailsByAFile (S.may_open system.now) }
 {}

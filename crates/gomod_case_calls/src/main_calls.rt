@@ -1,4 +1,5 @@
-//! Calls about a main file: what it says, a version in it, what is selected of its requirements, and an operation on it.
+//! Calls about a main file: what it says, a version in it, what is selected of its requirements, and an operation on
+//! it.
 
 ghost use Rattle.std.specs.Prelude.{IfOk};
 ghost use Rattle.gm_graph_select.specs.Order.{IsAscending};

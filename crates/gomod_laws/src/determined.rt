@@ -2,8 +2,8 @@
 
 ghost use Rattle.gomod_laws.specs.DeterminedLaws.{OneForStores, OneGraph, OneOutcome, OneRefusal, PartsOfOneList};
 
-/// A command has one outcome: output, report and status are a function of what it reads, of the files that its store was
-/// asked for in the run, its answers, and the files at which its device failed.
+/// A command has one outcome: output, report and status are a function of what it reads, of the files that its store
+/// was asked for in the run, its answers, and the files at which its device failed.
 pub fn one_outcome()
     ensures { OneOutcome }
 {}

@@ -7,8 +7,8 @@ ghost use Rattle.gm_file.specs.Directives.{Right};
 ghost use Rattle.gm_graph_select.specs.Laws.{EntriesAreReached, MainIsFirst, OneBuildList, OneRest, PagesExist, PagesJoin, RowsAreEnds, RowsSatisfy, SomeBuildList};
 
 /// A list of edges has exactly one build list (Go Modules Reference, "Minimal version selection"). Its rows are ends of
-/// edges, and satisfy each edge; it has one rest after each path, and pages that join to it. Its entry of the main module's
-/// path is the main module. Edges lead to every row if each edge leaves a step that edges lead to.
+/// edges, and satisfy each edge; it has one rest after each path, and pages that join to it. Its entry of the main
+/// module's path is the main module. Edges lead to every row if each edge leaves a step that edges lead to.
 pub fn a_loaded_graph_has_one_build_list()
     ensures ends { RowsAreEnds Right }
     ensures satisfy { RowsSatisfy Right }

@@ -125,10 +125,10 @@ pub fn run<F: Asks, O: Sink, R: Sink>(
     ensures ends { EndsAsStated (RunEnds command.now
         (run_between main.now (option_map (λ sums. sums.now) sums.entry) (F.state files.old) (F.state files.new)))
         (O.state out.old) (O.state out.new) (R.state report.old) (R.state report.new) (code_of result) }
-    // However it ends: which files are asked for, that the answers are the store's own, and what is reported whatever the
-    // memory. `fmt` and `edit` need no file. `graph`, `list` and `chain` need the go.mod files of the opened modules, and
-    // none if the main file or the go.sum can't be parsed (Go Modules Reference, "Minimal version selection" and "Module
-    // graph pruning").
+    // However it ends: which files are asked for, that the answers are the store's own, and what is reported whatever
+    // the memory. `fmt` and `edit` need no file. `graph`, `list` and `chain` need the go.mod files of the opened
+    // modules, and none if the main file or the go.sum can't be parsed (Go Modules Reference, "Minimal version
+    // selection" and "Module graph pruning").
     ensures holds { HoldsAtAnyEnd command.now main.now (option_map (λ sums. sums.now) sums.entry)
         (F.may_answer files.old) (F.may_answer files.new) (F.state files.old) (F.state files.new) (code_of result)
         (λ outcome. IsWritten outcome

@@ -114,8 +114,8 @@ impl Text {
         }
     }
 
-    /// Writes the text to a sink, up to the first failure of the sink. It takes no memory. Of a text of lines whole lines
-    /// are written, as many at once as 16,384 bytes hold; a longer line is written in pieces.
+    /// Writes the text to a sink, up to the first failure of the sink. It takes no memory. Of a text of lines whole
+    /// lines are written, as many at once as 16,384 bytes hold; a longer line is written in pieces.
     pub fn write<O: Sink>(&self, sink: &mut O) -> Result<(), WriteFault>
         ensures { Took (O.state sink.old) (O.state sink.new) self.now result }
     {

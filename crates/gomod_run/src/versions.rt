@@ -82,8 +82,8 @@ fn list_in<'p, 'a>(path: &'p ModPath, answer: &'a Answer) -> Result<&'a [u8], Re
     }
 }
 
-/// Asks for the list of a module that a proxy can have, and copies it: its versions borrow their texts, and not from the
-/// store, which is asked once more. A list that can't be had is reported before the copy takes memory.
+/// Asks for the list of a module that a proxy can have, and copies it: its versions borrow their texts, and not from
+/// the store, which is asked once more. A list that can't be had is reported before the copy takes memory.
 fn list_of<'p, F: Asks>(
     alloc: Global,
     path: &'p ModPath,

@@ -1,5 +1,5 @@
-//! Operations of `edit` that are written with a dash in front, as after `go mod edit`. The parser would take such a word
-//! for an option that is unknown.
+//! Operations of `edit` that are written with a dash in front, as after `go mod edit`. The parser would take such a
+//! word for an option that is unknown.
 
 ghost use Rattle.std.specs.Prelude.{◌≡◌, is_some, map};
 ghost use Rattle.std.specs.List.{find};

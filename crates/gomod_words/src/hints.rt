@@ -1,5 +1,5 @@
-//! The tables of hints: what is said of words that a command does not take. A hint is a fixed text. It says what to type
-//! in the form of gomod, and repeats no word of the command line.
+//! The tables of hints: what is said of words that a command does not take. A hint is a fixed text. It says what to
+//! type in the form of gomod, and repeats no word of the command line.
 
 ghost use Rattle.std.specs.Prelude.{◌≡◌, IfOk, IfSome, true};
 ghost use Rattle.std.specs.List.{Contains};
@@ -172,7 +172,8 @@ fn word_about<'a>(about: Option<&str>, words: &[&'a str]) -> Option<&'a str>
     }
 }
 
-/// The first of these words before `--` that is this, or an option that begins so: the parser names `-m` for `-mod=mod`.
+/// The first of these words before `--` that is this, or an option that begins so: the parser names `-m` for
+/// `-mod=mod`.
 fn first_named<'a>(name: &str, words: &[&'a str]) -> Option<&'a str>
     ensures { IfSome result (λ word. Contains (texts_of words.now) word.now) }
 {

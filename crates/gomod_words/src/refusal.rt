@@ -1,5 +1,5 @@
-//! What is wrong with words, in the parser's text. The parser gives the kind of an error and its text alone, and the text
-//! has words in it, as they were typed.
+//! What is wrong with words, in the parser's text. The parser gives the kind of an error and its text alone, and the
+//! text has words in it, as they were typed.
 
 ghost use Rattle.std.specs.Prelude.{◌≡◌, true};
 ghost use Rattle.std.specs.Str.Iter.{HasSubslice};
@@ -75,8 +75,8 @@ fn without_suffix<'t>(text: &'t str, suffix: &str) -> &'t str {
     text.strip_suffix(suffix).unwrap_or(text)
 }
 
-/// The message before its tips, where this mark ends the one and begins the others. If a word has the mark in it, nothing
-/// tells where the message ends, and there is this short one.
+/// The message before its tips, where this mark ends the one and begins the others. If a word has the mark in it,
+/// nothing tells where the message ends, and there is this short one.
 fn before_tip<'t>(front: &'t str, short: &'t str, mark: &str, words: &[&str]) -> &'t str {
     if is_within(mark, words) {
         return short;

@@ -1,5 +1,5 @@
-//! The words of a command line, read. Every usage error reads the same, whether the parser finds it or this crate: what is
-//! wrong, a hint, the usage line, and how to get help.
+//! The words of a command line, read. Every usage error reads the same, whether the parser finds it or this crate: what
+//! is wrong, a hint, the usage line, and how to get help.
 
 ghost use Rattle.std.specs.Prelude.{◌≡◌, IfErr, IfOk, true};
 ghost use Rattle.clap.specs.Words.{subcommand_rows_of};

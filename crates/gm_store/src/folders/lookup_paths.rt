@@ -43,7 +43,8 @@ fn push_base(
 ) -> Result<(), NoMemory>
     requires { folder < count_for (length proxies.now) (name_of name.now) }
     ensures { OnOk result ((text : List ℕ) → string_bytes place.new ++ text
-        ≡ string_bytes place.old ++ placed_text main.now (map string_bytes proxies.now) folder (name_of name.now) text) }
+        ≡ string_bytes place.old
+        ++ placed_text main.now (map string_bytes proxies.now) folder (name_of name.now) text) }
 {
     match name {
         FileName::Folder(text) if is_absolute(text.as_str()) => Ok(()),

@@ -45,8 +45,8 @@ fn give_edge<O: Sink>(
 }
 
 /// Writes the edges as `go mod graph` prints them (Go Modules Reference, "go mod graph"): one per line, in the given
-/// order, as two fields separated by a space. A field is `PATH@VERSION`, or for the main module its path `main`. It takes
-/// no memory.
+/// order, as two fields separated by a space. A field is `PATH@VERSION`, or for the main module its path `main`. It
+/// takes no memory.
 pub(crate) fn write_edges<O: Sink>(
     sink: &mut O,
     main: &ModPath,

@@ -59,7 +59,8 @@ fn give_row<O: Sink>(
 }
 
 /// Writes the rows as `go list -m all` prints them (Go Modules Reference, "go list -m"): one per line, in the given
-/// order. The main module is written as its path `main`, another module as `PATH VERSION`. If it is replaced, ` => ` and
+/// order. The main module is written as its path `main`, another module as `PATH VERSION`. If it is replaced, ` => `
+/// and
 /// `NEWPATH NEWVERSION` or the text of the folder follow. It takes no memory.
 pub(crate) fn write_rows<O: Sink>(
     sink: &mut O,
@@ -109,8 +110,8 @@ fn count_of(rows: Rows<'_>) -> usize
     count
 }
 
-/// How many rows come before those to print: none, or those up to the row of a path. A path that is not in the build list
-/// is reported.
+/// How many rows come before those to print: none, or those up to the row of a path. A path that is not in the build
+/// list is reported.
 fn first_row<'q>(
     main: &MainModule,
     loaded: &Loaded,

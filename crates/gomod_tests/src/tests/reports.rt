@@ -53,7 +53,8 @@ fn seen_of(rt: &impl Abort, report: &Report<'_>) -> Seen {
     (writer.calls, writer.cut, writer.bytes)
 }
 
-/// Writes the report of a module with this path at v1.0.0 and this fault, that many times, and gives what the writer saw.
+/// Writes the report of a module with this path at v1.0.0 and this fault, that many times, and gives what the writer
+/// saw.
 fn seen_of_faults(rt: &impl Abort, alloc: Global, name: &str, class: Class, count: usize) -> Seen {
     let mut faults = Vec::new(alloc);
     for _ in 0..count {
