@@ -13,6 +13,7 @@ use Rattle.page.specs.BuildList.{HasEntryFor, IsRestAfter, entry_of, main_entry,
 use Rattle.page.specs.Entries.{Entry}
 use Rattle.page.specs.Fields.{Dependency}
 use Rattle.page.specs.Files.{main_in, said_in, sum_fault}
+use Rattle.page.specs.Files.RowFiles.{most_opened}
 use Rattle.page.specs.ListQuery.{list_text, up_to, ListEnds, PrintsRows, no_path, path_listed, path_unlisted}
 use Rattle.page.specs.Main.{Main, is_pruned_by, replacement_in, without_excluded}
 use Rattle.page.specs.ModuleVersion.{ModuleVersion, pair_cmp}
@@ -24,7 +25,7 @@ use Rattle.page.specs.Run.{FileSays, IsRead, Run, Says, answered, faulty, run_of
 use Rattle.page.specs.Types.{AreSums, BadVersion, Class, Fault, Misreading, Missing, NoModule, Sums, TooLong, TooMany, Unknown, WrongArguments, WrongPath}
 use Rattle.page.specs.Worlds.{given_with}
 use Rattle.page.proofs.Ending.{IsReadable, all_read}
-use Rattle.page.proofs.Members.{Pairs, differ, member_cases, member_head, member_tail, most_opened, no_member}
+use Rattle.page.proofs.Members.{Pairs, differ, member_cases, member_head, member_tail, no_member}
 use Rattle.page.proofs.RowsTable.{IsAsked, IsReported, IsTable, Row, are_in, are_members, either_side, ends_of, every, fault_with, firsts, found_with, gathered, has, in_left, in_right, is_bounded, is_no_greater, is_reached, is_selection, is_shallow, rows_from, some, some_one}
 use Rattle.page.proofs.Saying.{as_class, checked, file_said, reads, said_of}
 

@@ -5,12 +5,13 @@ use Rattle.std.specs.List.{AllByRecursion, IsDistinct}
 use Rattle.std.proofs.lemmas.Option.{same_Some}
 use Rattle.page.specs.Asked.{Name, Reply, answer_in, names_in, same_name}
 use Rattle.page.specs.Fields.{Dependency}
+use Rattle.page.specs.Files.RowFiles.{most_opened}
 use Rattle.page.specs.Main.{Main}
 use Rattle.page.specs.ModuleVersion.{ModuleVersion}
 use Rattle.page.specs.Reading.{IsFileReading, file_of, is_askable}
 use Rattle.page.specs.Run.{IsNeeded, IsOpened, IsRead, IsSettled, Run, run_of}
 use Rattle.page.specs.Types.{Class, Sums}
-use Rattle.page.proofs.Members.{each_member, few_members, most_opened}
+use Rattle.page.proofs.Members.{each_member, few_members}
 
 -- ---- answers
 

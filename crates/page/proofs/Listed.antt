@@ -81,6 +81,8 @@ own_path_is_left_out = record {
       (printing (codes "example.com/m\nexample.com/a v1.0.0\n")) refl;
   three = ends_so ends_text None ends_file None own_answers refl tt refl None (Some 3)
       (printing (codes "example.com/m\nexample.com/a v1.0.0\nexample.com/k v1.0.0\n")) refl;
+  more = ends_so ends_text None ends_file None own_answers refl tt refl None (Some 9)
+      (printing (codes "example.com/m\nexample.com/a v1.0.0\nexample.com/k v1.0.0\nexample.com/z v1.0.0\n")) refl;
   none = ends_so ends_text None ends_file None own_answers refl tt refl None (Some 0) (printing []) refl;
   both = ends_so ends_text None ends_file None own_answers refl tt refl (Some (codes "example.com/m")) (Some 1)
       (printing (codes "example.com/a v1.0.0\n")) refl;

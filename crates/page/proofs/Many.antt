@@ -1,22 +1,27 @@
 -- The world of a main file that requires too many modules.
-use Rattle.std.proofs.Common.{◌≡◌, ◌++◌, ◌<◌, ◌≤◌, ◌^◌, ℕ, zero, suc, Bool, false, List, [], ◌∷◌, None, Result, Ok, Err, Contains, ap, arith, codes, inl, inr, length, refl, subst, sym}
+use Rattle.std.proofs.Common.{◌≡◌, ◌++◌, ◌<◌, ◌≤◌, ◌^◌, ℕ, zero, suc, Bool, false, List, [], ◌∷◌, None, Option, Some, Result, Ok, Err, Contains, ap, arith, codes, inl, inr, length, refl, subst, sym}
 use Rattle.std.specs.Prelude.{if◌then◌else◌}
 use Rattle.std.specs.Fmt.{decimal}
+use Rattle.std.specs.Option.{option_map}
 use Rattle.std.specs.List.{AllByRecursion, IsDistinct}
 use Rattle.std.proofs.lemmas.Bool.{false_from_ne_true}
 use Rattle.std.proofs.lemmas.Fmt.{decimal_injective}
 use Rattle.std.proofs.lemmas.List.{append_cancel_left}
 use Rattle.page.specs.Asked.{Name, Reply}
+use Rattle.page.specs.Fields.{Dependency}
 use Rattle.page.specs.Files.{main_in}
-use Rattle.page.specs.Files.RowFiles.{at, full_file, many_file, many_text, versions_below}
+use Rattle.page.specs.Files.RowFiles.{at, first_of, full_file, many_file, many_text, most_opened, one_file, versions_below, wide_file, wide_text}
 use Rattle.page.specs.Main.{Main, without_excluded}
 use Rattle.page.specs.ModuleVersion.{ModuleVersion, pair_eq}
 use Rattle.page.specs.Queries.{bad_sums, too_many}
 use Rattle.page.specs.Run.{AreTooMany, IsDeep, IsOpened, IsTop, Requires, Run, answered, from_deep, from_main, from_top, run_of, sound}
-use Rattle.page.specs.Types.{Misreading, Missing, Unknown}
-use Rattle.page.specs.Worlds.Rows.{TooManyAreReported, all_absent}
+use Rattle.page.specs.Path.{is_fetchable}
+use Rattle.page.specs.Types.{Class, Misreading, Missing, Unknown}
+use Rattle.page.specs.Worlds.Rows.{TooManyAreReported, all_absent, wide_answers}
 use Rattle.page.proofs.Ending.{IsReadable, all_read}
-use Rattle.page.proofs.Members.{few_members, most_opened, pair_same, text_itself}
+use Rattle.page.proofs.Others.{none_deep}
+use Rattle.page.proofs.Saying.{as_class, checked, said_of}
+use Rattle.page.proofs.Members.{few_members, pair_same, text_itself}
 
 abbrev version : ℕ → ModuleVersion
 version n = at (codes "a") (codes "v0.0." ++ decimal n)
@@ -101,6 +106,26 @@ not_too_many (xs, over, are) =
     (λ x there. subst (λ (ys : List ModuleVersion). Contains ys x) (all_kept (versions_below most_opened)) (top_of x (are.each x there))) in
     omega (arith, all, length_is most_opened, over)
 
+-- ---- more than that below a pruned file
+
+abbrev a : ModuleVersion
+a = first_of (codes "a")
+
+abbrev read_if : Bool → Option (Result Dependency Class)
+read_if b = option_map (checked a None) (Some (as_class (if b then Ok wide_file else Err (1, Unknown))))
+
+wide_says : said_of one_file None wide_answers a ≡ Some (Ok wide_file)
+unfolding is_fetchable
+wide_says = ap read_if (text_itself wide_text)
+
+only_a : (x : ModuleVersion) → IsOpened (run_of one_file None wide_answers) x → Contains (a ∷ []) x
+only_a x (inl top) = top
+only_a x (inr deep) = absurd (none_deep wide_answers wide_file wide_says refl x deep)
+
+not_wide : AreTooMany (run_of one_file None wide_answers) → ⊥
+not_wide (xs, over, are) =
+    let all : length xs ≤ 1 = few_members xs (a ∷ []) are.once (λ x there. only_a x (are.each x there)) in omega (arith, all, over)
+
 pub too_many_are_reported : TooManyAreReported
 too_many_are_reported = record {
   over = too_many many_file None (record { main_file = is_main; sums = tt }) (all_read many_file None [] tt)
@@ -108,5 +133,6 @@ too_many_are_reported = record {
   asked = too_many many_file None (record { main_file = is_main; sums = tt })
       (all_read many_file None many_absent (absent_read (versions_below (suc most_opened)))) (are_too_many many_absent) refl refl;
   full = not_too_many;
+  unopened = not_wide;
   sums = bad_sums many_file _ is_main refl (refl, refl) refl;
 }

@@ -14,10 +14,6 @@ use Rattle.std.proofs.lemmas.Map.Views.{Contains-from_any, list_any-from_Contain
 use Rattle.page.specs.ModuleVersion.{ModuleVersion, pair_eq}
 use Rattle.page.specs.Order.{IsAscending}
 
--- the number of module versions that may be opened
-abbrev pub most_opened : ℕ
-most_opened = 65536
-
 -- ---- members
 
 module _ {X : Type 0} where

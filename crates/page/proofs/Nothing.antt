@@ -5,15 +5,16 @@ use Rattle.std.proofs.lemmas.Bool.{false≢true}
 use Rattle.page.specs.Asked.{Name, Reply, names_in, same_name}
 use Rattle.page.specs.Files.{main_in}
 use Rattle.page.specs.Files.RowFiles.{alone_file, alone_text, bare_file, first_of, one_file, one_text}
+use Rattle.page.specs.Files.RowFiles.{most_opened}
 use Rattle.page.specs.Main.{Main, without_excluded}
 use Rattle.page.specs.ModuleVersion.{ModuleVersion}
 use Rattle.page.specs.Queries.{AreFound, Given, bad_main, bad_sums, device, faulty, no_fault, too_many}
 use Rattle.page.specs.Path.{is_fetchable}
 use Rattle.page.specs.Run.{AreTooMany, IsDeep, IsDue, IsNeeded, IsOpened, IsTop, Requires, Run, from_deep, from_main, from_top, run_of}
 use Rattle.page.specs.Types.{AreSums, Fault, Misreading, Sums}
-use Rattle.page.specs.Worlds.{HasNoOutcome, failing, given_by, given_with}
+use Rattle.page.specs.Worlds.{HasNoOutcome, failing, given_by}
 use Rattle.page.specs.Worlds.Rows.{OthersHaveNone, a_bare, a_name}
-use Rattle.page.proofs.Members.{each_member, few_members, most_opened, no_member}
+use Rattle.page.proofs.Members.{each_member, few_members, no_member}
 use Rattle.page.proofs.OneOutcome.{not_both, one_main}
 use Rattle.page.proofs.Saying.{required_in, said_of, says}
 

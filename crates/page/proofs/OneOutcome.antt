@@ -1,7 +1,8 @@
 -- A run has one outcome.
 use Rattle.std.proofs.Common.{◌≡◌, ◌∙◌, ◌↔◌, ◌++◌, ℕ, List, [], ◌∷◌, Option, Some, None, Result, Ok, Err, Contains, ap, arith, map, refl, subst, sym}
 use Rattle.std.specs.Cmp.{IsTotalOrder, nat_cmp_total, on_total, then_total}
-use Rattle.std.specs.Cmp.Lexicographic.{nat_list_cmp_total}
+use Rattle.std.specs.Cmp.Lexicographic.{nat_list_cmp_total, slice_cmp}
+use Rattle.std.specs.Ordering.{nat_cmp, on}
 use Rattle.page.specs.Asked.{Name}
 use Rattle.page.specs.BuildList.{HasEntryFor, IsRestAfter, entry_of, main_entry, path_cmp, path_of}
 use Rattle.page.specs.Entries.{Entry}
@@ -21,22 +22,49 @@ use Rattle.page.proofs.Members.{member_head, member_tail, same_lists}
 
 -- ---- orders
 
-pre_total : IsTotalOrder pre_cmp
-pre_total = on_total pre_rank nat_cmp_total
+-- The keys that are compared, each of them in a total order. An order that compares some of them in turn is total by these
+-- alone, whichever comes first, so that a wrong one is refused by the worlds and not here.
+major_total : IsTotalOrder (on (λ (p : Parts). p.0) nat_cmp)
+major_total = on_total (λ (p : Parts). p.0) nat_cmp_total
+
+minor_total : IsTotalOrder (on (λ (p : Parts). p.1) nat_cmp)
+minor_total = on_total (λ (p : Parts). p.1) nat_cmp_total
+
+patch_total : IsTotalOrder (on (λ (p : Parts). p.2) nat_cmp)
+patch_total = on_total (λ (p : Parts). p.2) nat_cmp_total
+
+pre_total : IsTotalOrder (on (λ (p : Parts). p.3) pre_cmp)
+pre_total = on_total (λ (p : Parts). p.3) (on_total pre_rank nat_cmp_total)
+
+ruleset parts_in_turn = (then_total, major_total, minor_total, patch_total, pre_total)
 
 precedence_total : IsTotalOrder precedence
-precedence_total = then_total (on_total (λ (p : Parts). p.0) nat_cmp_total)
-    (then_total (on_total (λ (p : Parts). p.1) nat_cmp_total)
-    (then_total (on_total (λ (p : Parts). p.2) nat_cmp_total) (on_total (λ (p : Parts). p.3) pre_total)))
+precedence_total = search parts_in_turn
+
+by_precedence : IsTotalOrder (on parts_in precedence)
+by_precedence = on_total parts_in precedence_total
+
+ruleset versions_in_turn = (then_total, by_precedence, nat_list_cmp_total)
 
 version_total : IsTotalOrder version_cmp
-version_total = then_total (on_total parts_in precedence_total) nat_list_cmp_total
+version_total = search versions_in_turn
+
+path_text_total : IsTotalOrder (on (λ (x : ModuleVersion). x.0) (slice_cmp nat_cmp))
+path_text_total = on_total (λ (x : ModuleVersion). x.0) nat_list_cmp_total
+
+version_text_total : IsTotalOrder (on (λ (x : ModuleVersion). x.1) (slice_cmp nat_cmp))
+version_text_total = on_total (λ (x : ModuleVersion). x.1) nat_list_cmp_total
+
+version_key_total : IsTotalOrder (on (λ (x : ModuleVersion). x.1) version_cmp)
+version_key_total = on_total (λ (x : ModuleVersion). x.1) version_total
+
+ruleset modules_in_turn = (then_total, path_text_total, version_key_total, version_text_total)
 
 pair_total : IsTotalOrder pair_cmp
-pair_total = then_total (on_total (λ (x : ModuleVersion). x.0) nat_list_cmp_total) (on_total (λ (x : ModuleVersion). x.1) version_total)
+pair_total = search modules_in_turn
 
 path_total : IsTotalOrder path_cmp
-path_total = on_total (λ (x : ModuleVersion). x.0) nat_list_cmp_total
+path_total = search modules_in_turn
 
 -- ---- files
 

@@ -3,7 +3,7 @@ use Rattle.std.proofs.Common.{◌≡◌, ◌++◌, ◌&&◌, ℕ, Bool, true, fa
 use Rattle.std.specs.Cmp.Lexicographic.{pointwise}
 use Rattle.std.proofs.lemmas.Bool.{and_parts, false≢true, not-true}
 use Rattle.std.proofs.lemmas.Option.{same_Some}
-use Rattle.page.specs.Asked.{bytes}
+use Rattle.page.specs.Asked.{Name, Reply, bytes}
 use Rattle.page.specs.BuildList.{HasEntryFor, IsRestAfter, IsSelected, path_of}
 use Rattle.page.specs.Entries.{Entry}
 use Rattle.page.specs.Fields.{Dependency}
@@ -70,18 +70,21 @@ a_says : said_of one_file None unopened_answers (first_of (codes "a")) ≡ Some 
 unfolding is_fetchable
 a_says = refl
 
-not_unpruned : (file : Dependency) → Says (run_of one_file None unopened_answers) (first_of (codes "a")) (Ok file) → is_pruned_by file.go ≡ false → ⊥
-not_unpruned file tells unpruned =
-    false≢true (sym (subst (λ (f : Dependency). is_pruned_by f.go ≡ false)
-    (sym (file_is one_file None unopened_answers (first_of (codes "a")) a_file a_says file tells)) unpruned))
+-- nothing is, if the one module at the top is pruned
+module _ (asked : List (Name × Reply)) (file : Dependency) (is : said_of one_file None asked (first_of (codes "a")) ≡ Some (Ok file))
+    (is_pruned : is_pruned_by file.go ≡ true) where
+  not_unpruned : (other : Dependency) → Says (run_of one_file None asked) (first_of (codes "a")) (Ok other) → is_pruned_by other.go ≡ false → ⊥
+  not_unpruned other tells unpruned =
+      false≢true (sym (subst (λ (f : Dependency). is_pruned_by f.go ≡ false)
+      (sym (file_is one_file None asked (first_of (codes "a")) file is other tells)) unpruned) ∙ is_pruned)
 
-not_deep : (x : ModuleVersion) → IsDeep (run_of one_file None unopened_answers) x → ⊥
-not_deep x (from_main unpruned top) = false≢true (sym unpruned)
-not_deep y (from_top {x = x} file top tells unpruned there) = elim (member_cases (first_of (codes "a")) x [] top) [
-  | inl same ↦ not_unpruned file (subst (λ (z : ModuleVersion). Says (run_of one_file None unopened_answers) z (Ok file)) (sym same) tells) unpruned
-  | inr later ↦ no_member x later
-]
-not_deep y (from_deep {x = x} is requires) = not_deep x is
+  pub none_deep : (x : ModuleVersion) → IsDeep (run_of one_file None asked) x → ⊥
+  none_deep x (from_main unpruned top) = false≢true (sym unpruned)
+  none_deep y (from_top {x = x} other top tells unpruned there) = elim (member_cases (first_of (codes "a")) x [] top) [
+    | inl same ↦ not_unpruned other (subst (λ (z : ModuleVersion). Says (run_of one_file None asked) z (Ok other)) (sym same) tells) unpruned
+    | inr later ↦ no_member x later
+  ]
+  none_deep y (from_deep {x = x} deep requires) = none_deep x deep
 
 stray_says : said_of one_file None stray_answers (first_of (codes "a")) ≡ Some (Err WrongPath)
 unfolding is_fetchable
@@ -177,7 +180,7 @@ others_do_not_hold = record {
   top = not_top;
   required = not_required;
   wrong = not_wrong;
-  deep = not_deep;
+  deep = none_deep unopened_answers a_file a_says refl;
   wrong_deep = not_wrong_deep;
   unopened = λ leads. idle_opened (first_of (codes "a")) leads.0;
   said = not_otherwise;

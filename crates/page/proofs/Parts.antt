@@ -1,6 +1,7 @@
 -- What single definitions say, each from its own rules.
-use Rattle.std.proofs.Common.{◌≡◌, ℕ, Bool, true, false, List, [], ◌∷◌, Contains, Option, Some, None, Result, Ok, Err, arith, codes, inl, inr, refl, subst, sym}
+use Rattle.std.proofs.Common.{◌≡◌, ℕ, Bool, true, false, List, [], ◌∷◌, Contains, Some, None, Result, Ok, Err, arith, codes, inl, inr, refl, subst, sym}
 use Rattle.std.specs.Prelude.{if◌then◌else◌}
+use Rattle.std.specs.Fmt.{digits}
 use Rattle.std.specs.Ordering.{is_gt}
 use Rattle.std.proofs.lemmas.Option.{same_Some}
 use Rattle.page.specs.Asked.{Reply, bytes, folder_file, list_file, mod_file, same_name}
@@ -72,7 +73,7 @@ huge_is_read (folder_file text) reply at = absurd (cc at)
 huge_is_read (list_file path) reply at = absurd (cc at)
 
 pub parts_are_shown : PartsAreShown
-unfolding is_fetchable
+unfolding is_fetchable digits
 parts_are_shown = record {
   answered = refl;
   missing = refl;
@@ -95,6 +96,9 @@ parts_are_shown = record {
   greater = record { not_main = differ mid_ten.0 (codes "m") refl; is_end = (Of mid_nine, inr refl); greatest = greatest_version };
   other_path = record { not_main = differ mid_nine.0 (codes "m") refl; is_end = (Of mid_nine, inl refl); greatest = greatest_of_path };
   tie = refl;
+  builds = refl;
+  first_right = refl;
+  whole = refl;
   replacing = refl;
   has_row = ((Of end_one, None), (1, omega arith, refl), refl);
   rest = ((Of end_one, None), record { before = main_entry ∷ []; parts = refl; path_is = refl; others = before_end });

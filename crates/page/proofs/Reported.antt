@@ -1,16 +1,16 @@
 -- The worlds in which something is reported, and those without an outcome.
-use Rattle.std.proofs.Common.{◌≡◌, ℕ, List, [], ◌∷◌, Option, None, Some, arith, codes, inl, refl, subst, sym}
+use Rattle.std.proofs.Common.{◌≡◌, ℕ, List, [], ◌∷◌, Err, Option, None, Some, arith, codes, inl, refl, subst, sym}
 use Rattle.std.specs.Fmt.{digits}
-use Rattle.page.specs.Asked.{Name, Reply, answer_in, folder_file}
+use Rattle.page.specs.Asked.{Name, Reply, absent, answer_in, folder_file}
 use Rattle.page.specs.Files.{local_file, local_text, mid_nine, old_file}
-use Rattle.page.specs.Files.RowFiles.{alone_file, forking_file, forking_text, hosts_file, hosts_text, late_text, local_zero, nine_file, nine_text, one_file, one_text, replacing_file, replacing_text, three_file, three_text, two_file, two_text, unfetchable_file, unfetchable_text}
+use Rattle.page.specs.Files.RowFiles.{alone_file, first_of, forking_file, forking_text, hosts_file, hosts_text, late_text, local_zero, nine_file, nine_text, one_file, one_text, replacing_file, replacing_text, three_file, three_text, two_file, two_text, unfetchable_file, unfetchable_text}
 use Rattle.page.specs.Main.{Main}
 use Rattle.page.specs.Queries.{bad_main, bad_sums, device, faulty, no_fault, too_many}
 use Rattle.page.specs.Path.{is_fetchable}
 use Rattle.page.specs.Run.{IsDue, run_of}
-use Rattle.page.specs.Types.{Misreading, NoModule, Sums, Unknown, sums_table, sums_text, twice_table, twice_text}
+use Rattle.page.specs.Types.{Misreading, Missing, NoModule, Sums, first_table, first_text, Unknown, sums_table, sums_text, twice_table, twice_text}
 use Rattle.page.specs.Worlds.{DeviceIsReported, FaultsAreReported, HasNoOutcome, asked_mid, failing, printing, reporting, wrong_answers}
-use Rattle.page.specs.Worlds.Rows.{EmptyMainIsReported, FolderDeviceIsReported, ForkIsReported, HostsAreReported, MalformedIsReported, OneFileIsReported, SumsAreReported, TwoFaultsAreReported, UnfetchableIsReported, a_bare, a_name, answer, folder_answers, malformed_answers, nine_answers, sums_answers, two_missing, wrong_fork_answers}
+use Rattle.page.specs.Worlds.Rows.{EmptyMainIsReported, FolderDeviceIsReported, ForkIsReported, HostsAreReported, MalformedIsReported, OneFileIsReported, SumsAreReported, TwoFaultsAreReported, UnfetchableIsReported, a_bare, a_name, answer, folder_answers, fork_answers, fork_name, lower_answers, malformed_answers, malformed_report, name_at, nine_answers, sums_answers, two_long, two_missing, wrong_fork_answers}
 use Rattle.page.proofs.Checked.{ends_so}
 use Rattle.page.proofs.Ending.{all_read}
 use Rattle.page.proofs.Nothing.{no_cons, no_main, same_one, some_not_none}
@@ -36,8 +36,10 @@ fork_is_reported = ends_so forking_text None forking_file None wrong_fork_answer
 pub malformed_is_reported : MalformedIsReported
 unfolding is_fetchable digits
 malformed_is_reported = record {
-  both = ends_so three_text None three_file None malformed_answers refl tt refl None None
-      (reporting (codes "example.com/b@v1.0.0: Malformed 3 WrongArguments\nexample.com/c@v1.0.0: Missing\n")) refl;
+  both = ends_so three_text None three_file None malformed_answers refl tt refl None None (reporting malformed_report) refl;
+  limited = ends_so three_text None three_file None malformed_answers refl tt refl None (Some 1) (reporting malformed_report) refl;
+  after = ends_so three_text None three_file None malformed_answers refl tt refl (Some (codes "example.com/q")) None
+      (reporting malformed_report) refl;
   folder = ends_so replacing_text None replacing_file None _ refl tt refl None None
       (reporting (codes "local@v0.0.0: Malformed 3 WrongArguments\n")) refl;
 }
@@ -77,6 +79,14 @@ sums_are_reported = record {
       (reporting (codes "example.com/a@v1.0.0: SumDiffers\n")) refl;
   missing = ends_so two_text (Some sums_text) two_file (Some sums_table) two_missing refl refl refl None None
       (reporting (codes "example.com/a@v1.0.0: Missing\nexample.com/b@v1.0.0: Missing\n")) refl;
+  long = ends_so two_text (Some sums_text) two_file (Some sums_table) two_long refl refl refl None None
+      (reporting (codes "example.com/a@v1.0.0: TooLong\nexample.com/b@v1.0.0: TooLong\n")) refl;
+  fork = ends_so forking_text (Some sums_text) forking_file (Some sums_table) fork_answers refl refl refl None None
+      (reporting (codes "example.com/a@v1.0.0: NoSum\nexample.com/fork@v1.1.0: NoSum\n")) refl;
+  lower = ends_so three_text (Some first_text) three_file (Some first_table) lower_answers refl refl refl None None
+      (reporting (codes "example.com/b@v1.0.0: NoSum\nexample.com/b@v1.1.0: NoSum\nexample.com/c@v1.0.0: NoSum\n")) refl;
+  none = ends_so one_text (Some []) one_file (Some []) (a_bare ∷ []) refl refl refl None None
+      (reporting (codes "example.com/a@v1.0.0: NoSum\n")) refl;
 }
 
 -- ---- the device
@@ -94,6 +104,26 @@ device_is_reported = device old_file None asked_mid (record { main_file = refl; 
 folder_is_due : IsDue (run_of replacing_file None []) (folder_file (codes "../local"))
 folder_is_due = record {
   calls = record { read = all_read replacing_file None [] tt; needed = (local_zero, inl (0, omega arith, refl), refl, refl) };
+  unasked = refl;
+}
+
+fork_is_due : IsDue (run_of forking_file None []) fork_name
+unfolding is_fetchable
+fork_is_due = record {
+  calls = record { read = all_read forking_file None [] tt; needed = (first_of (codes "a"), inl (0, omega arith, refl), refl, refl) };
+  unasked = refl;
+}
+
+abbrev a_is_absent : List (Name × Reply)
+a_is_absent = (a_name, absent) ∷ []
+
+b_is_due : IsDue (run_of two_file None a_is_absent) (name_at (codes "b") (codes "v1.0.0"))
+unfolding is_fetchable
+b_is_due = record {
+  calls = record {
+    read = all_read two_file None a_is_absent ((λ name. (Err Missing, refl)), tt);
+    needed = (first_of (codes "b"), inl (1, omega arith, refl), refl, refl);
+  };
   unasked = refl;
 }
 
@@ -119,6 +149,8 @@ none_answered outcome (no_fault main table found prints) = no_cons a_name [] fou
 pub folder_device_is_reported : FolderDeviceIsReported
 folder_device_is_reported = record {
   folder = device replacing_file None (folder_file (codes "../local")) (record { main_file = refl; sums = tt }) folder_is_due refl refl;
+  fork = device forking_file None fork_name (record { main_file = refl; sums = tt }) fork_is_due refl refl;
+  late = device two_file None (name_at (codes "b") (codes "v1.0.0")) (record { main_file = refl; sums = tt }) b_is_due refl refl;
   answered = none_answered;
 }
 

@@ -9,6 +9,7 @@ use Rattle.page.specs.Asked.{Name, Reply, names_in, same_name}
 use Rattle.page.specs.BuildList.{IsSelected, entry_of, main_entry, path_cmp}
 use Rattle.page.specs.Fields.{Dependency}
 use Rattle.page.specs.Files.{main_in}
+use Rattle.page.specs.Files.RowFiles.{most_opened}
 use Rattle.page.specs.Graph.{IsEdgeEnd}
 use Rattle.page.specs.Main.{Main, is_pruned_by, without_excluded, replacement_in}
 use Rattle.page.specs.ModuleVersion.{ModuleVersion, pair_cmp, pair_eq}
@@ -19,7 +20,7 @@ use Rattle.page.specs.Types.{AreSums, Class, Fault, Main as FromMain, Of, Sums}
 use Rattle.page.specs.Version.{version_cmp}
 use Rattle.page.specs.Worlds.{given_with}
 use Rattle.page.proofs.Ending.{IsReadable, settled}
-use Rattle.page.proofs.Members.{Pairs, each_member, member_cases, member_head, member_tail, most_opened, no_member, pair_same, pairs_of, text_itself}
+use Rattle.page.proofs.Members.{Pairs, each_member, member_cases, member_head, member_tail, no_member, pair_same, pairs_of, text_itself}
 use Rattle.page.proofs.Saying.{class_is, file_is, has_no_fault, required_in, requires_nothing, says}
 
 -- ---- lists

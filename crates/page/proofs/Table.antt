@@ -1,11 +1,13 @@
 -- The worlds of the table: three computations for each.
-use Rattle.std.proofs.Common.{◌≡◌, List, [], ◌∷◌, None, Ok, refl}
+use Rattle.std.proofs.Common.{◌≡◌, ℕ, List, [], ◌∷◌, None, Some, Ok, codes, refl}
 use Rattle.std.specs.Fmt.{digits}
 use Rattle.std.specs.List.{AllByRecursion}
 use Rattle.page.specs.Files.{main_in}
-use Rattle.page.specs.Files.TableFiles.{World, exclude_worlds, go_worlds, main_bytes, order_worlds, path_worlds, replace_worlds}
+use Rattle.page.specs.Files.TableFiles.{World, a, b, exclude_worlds, go_worlds, main_bytes, order_worlds, path_worlds, replace_worlds}
+use Rattle.page.specs.Outcome.{Outcome}
 use Rattle.page.specs.Path.{is_fetchable}
-use Rattle.page.specs.Worlds.Table.{ExcludesAreTold, GoVersionsAreTold, Holds, OrdersAreTold, ReplacesAreTold, TextsAreTold, answers_of, ending_as}
+use Rattle.page.specs.Worlds.{printing, reporting}
+use Rattle.page.specs.Worlds.Table.{ByBEnds, ExcludesAreTold, GoVersionsAreTold, Holds, OrdersAreTold, ReplacesAreTold, TextsAreTold, answers_of, by_b, ending_as, world_by_b}
 use Rattle.page.proofs.Checked.{ending, ends_so, failures}
 
 -- The main file says so, nothing is wrong with the run, and this is how it ends: each is computed.
@@ -31,7 +33,7 @@ go_versions_are_told = all_hold go_worlds (
         (refl, refl, refl),
         (
           (refl, refl, refl),
-          ((refl, refl, refl), ((refl, refl, refl), tt)),
+          ((refl, refl, refl), ((refl, refl, refl), ((refl, refl, refl), tt))),
         ),
       ),
     ),
@@ -50,7 +52,22 @@ orders_are_told = all_hold order_worlds (
         (refl, refl, refl),
         (
           (refl, refl, refl),
-          ((refl, refl, refl), tt),
+          (
+            (refl, refl, refl),
+            (
+              (refl, refl, refl),
+              (
+                (refl, refl, refl),
+                (
+                  (refl, refl, refl),
+                  (
+                    (refl, refl, refl),
+                    tt,
+                  ),
+                ),
+              ),
+            ),
+          ),
         ),
       ),
     ),
@@ -69,7 +86,7 @@ excludes_are_told = all_hold exclude_worlds (
         (refl, refl, refl),
         (
           (refl, refl, refl),
-          tt,
+          ((refl, refl, refl), ((refl, refl, refl), ((refl, refl, refl), tt))),
         ),
       ),
     ),
@@ -98,7 +115,22 @@ replaces_are_told = all_hold replace_worlds (
                   (refl, refl, refl),
                   (
                     (refl, refl, refl),
-                    ((refl, refl, refl), tt),
+                    (
+                      (refl, refl, refl),
+                      (
+                        (refl, refl, refl),
+                        (
+                          (refl, refl, refl),
+                          (
+                            (refl, refl, refl),
+                            (
+                              (refl, refl, refl),
+                              ((refl, refl, refl), ((refl, refl, refl), ((refl, refl, refl), tt))),
+                            ),
+                          ),
+                        ),
+                      ),
+                    ),
                   ),
                 ),
               ),
@@ -110,11 +142,32 @@ replaces_are_told = all_hold replace_worlds (
   ),
 )
 
+by_b_ends : (path : List ℕ) (outcome : Outcome) → ending by_b None (answers_of world_by_b) (Some path) None ≡ outcome → ByBEnds path outcome
+unfolding is_fetchable digits
+by_b_ends path outcome = ends_so (main_bytes by_b) None by_b None (answers_of world_by_b) refl tt refl (Some path) None outcome
+
 pub texts_are_told : TextsAreTold
 unfolding is_fetchable digits
 texts_are_told = record {
-  worlds = all_hold path_worlds
-      ((refl, refl, refl), ((refl, refl, refl), ((refl, refl, refl), ((refl, refl, refl), tt))));
+  worlds = all_hold path_worlds (
+    (refl, refl, refl),
+    (
+      (refl, refl, refl),
+      (
+        (refl, refl, refl),
+        (
+          (refl, refl, refl),
+          (
+            (refl, refl, refl),
+            ((refl, refl, refl), ((refl, refl, refl), tt)),
+          ),
+        ),
+      ),
+    ),
+  );
   rows = refl;
   faults = refl;
+  replaced = by_b_ends a.0 (printing []) refl;
+  arrow = by_b_ends b.0 (reporting (codes "b.org: NotListed\n")) refl;
+  begins = by_b_ends (codes "a.or") (reporting (codes "a.or: NotListed\n")) refl;
 }

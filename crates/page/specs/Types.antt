@@ -53,6 +53,7 @@ Parts = ℕ × ℕ × ℕ × List ℕ × List ℕ
 abbrev pub known_versions : List (List ℕ × Parts)
 known_versions =
     (codes "v0.0.0", (0, 0, 0, [], [])) ∷ (codes "v0.9.0", (0, 9, 0, [], []))
+    ∷ (codes "v0.10.0", (0, 10, 0, [], [])) ∷ (codes "v2.0.0", (2, 0, 0, [], []))
     ∷ (codes "v1.0.0-9", (1, 0, 0, codes "9", [])) ∷ (codes "v1.0.0-10", (1, 0, 0, codes "10", []))
     ∷ (codes "v1.0.9", (1, 0, 9, [], [])) ∷ (codes "v1.0.10", (1, 0, 10, [], []))
     ∷ (codes "v1.1.0-9", (1, 1, 0, codes "9", [])) ∷ (codes "v1.1.0", (1, 1, 0, [], []))
@@ -99,11 +100,21 @@ abbrev pub twice_table : Sums
 twice_table = (codes "example.com/a", codes "v1.0.0", codes "module example.com/a\n")
     ∷ (codes "example.com/a", codes "v1.0.0", codes "module example.com/c\n") ∷ []
 
+-- Its line has the hash of a file of example.com/a that requires example.com/b.
+abbrev pub first_text : List ℕ
+first_text = codes "example.com/a v1.0.0/go.mod h1:okXNr+ha4/uHO7nopXTYoD6vdU1wjNDXcQvzfSFLyFs=\n"
+
+abbrev pub first_table : Sums
+first_table =
+    (codes "example.com/a", codes "v1.0.0", codes "module example.com/a\nrequire example.com/b v1.0.0\n") ∷ []
+
 -- what the bytes of a go.sum say, or the report
 abbrev pub sums_in : List ℕ → Result Sums (List ℕ)
 sums_in text =
     if bytes_eq text sums_text then Ok sums_table
-    else (if bytes_eq text twice_text then Ok twice_table else Err (codes "go.sum:1: BadSum\n"))
+    else (if bytes_eq text twice_text then Ok twice_table
+    else (if bytes_eq text first_text then Ok first_table
+    else (if bytes_eq text [] then Ok [] else Err (codes "go.sum:1: BadSum\n"))))
 
 -- Without a go.sum there is no table.
 abbrev pub AreSums : Option (List ℕ) → Option Sums → Type 0

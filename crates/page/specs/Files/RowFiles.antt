@@ -178,6 +178,10 @@ hosts_file = main_with (1, 16)
 abbrev pub unknown_text : List ℕ
 unknown_text = codes "module example.com/m\n\n\n\n\n\n\n\n\n\n\nfoo\n"
 
+-- the number of module versions that may be opened
+abbrev pub most_opened : ℕ
+most_opened = 65536
+
 -- versions v0.0.N of a, one for each N below a number
 unfoldable pub versions_below : ℕ → List ModuleVersion
 versions_below zero = []
@@ -188,16 +192,16 @@ unfoldable pub lines_below : ℕ → List ℕ
 lines_below n =
     flat_map (λ (x : ModuleVersion). codes "require " ++ x.0 ++ codes " " ++ x.1 ++ codes "\n") (versions_below n)
 
--- It requires 65,537 modules.
+-- It requires one module more.
 abbrev pub many_text : List ℕ
-many_text = codes "module example.com/m // It requires many versions.\n" ++ lines_below 65537
+many_text = codes "module example.com/m // It requires many versions.\n" ++ lines_below (suc most_opened)
 
 abbrev pub many_file : Main
-many_file = main_with (1, 16) (versions_below 65537) []
+many_file = main_with (1, 16) (versions_below (suc most_opened)) []
 
 -- It requires as many as may be opened.
 abbrev pub full_file : Main
-full_file = main_with (1, 16) (versions_below 65536) []
+full_file = main_with (1, 16) (versions_below most_opened) []
 
 -- a text with what it says
 abbrev pub MainSaid : Type 0
@@ -245,6 +249,13 @@ late_text = codes "module example.com/a\n\n\n\n\n\n\n\n\n\n\nrequire example.com
 -- a stand-in for more bytes than a file may have
 abbrev pub huge_text : List ℕ
 huge_text = codes "module example.com/huge\n"
+
+-- It is pruned, and requires one module more than may be opened.
+abbrev pub wide_text : List ℕ
+wide_text = codes "module example.com/a // It requires many versions.\ngo 1.17\n" ++ lines_below (suc most_opened)
+
+abbrev pub wide_file : Dependency
+wide_file = file_with (codes "a") (1, 17) (versions_below (suc most_opened))
 
 -- it requires one module
 abbrev pub file_requiring : List ℕ → ℕ × ℕ → List ℕ → List ℕ → Dependency
@@ -315,7 +326,7 @@ valid_files =
     ∷ of_go (codes "c") (codes "2.0") (2, 0) ∷ (lesser_text, lesser_file) ∷ (greater_text, greater_file) ∷ table_files
 
 abbrev pub said_among : List Said → List ℕ → Result Dependency (ℕ × Misreading)
-said_among [] content = Err (1, Unknown)
+said_among [] content = if bytes_eq content wide_text then Ok wide_file else Err (1, Unknown)
 said_among (one ∷ others) content = if bytes_eq content one.0 then Ok one.1 else said_among others content
 
 -- what the bytes of another module's file say

@@ -138,8 +138,10 @@ go_worlds =
     ∷ world (needs (a ∷ [])) (own a (1, 20) (b ∷ []) ∷ []) (Ok (codes "m\na.org v1.0.0\nb.org v1.0.0\n"))
     ∷ world (needs (a ∷ [])) (own a (2, 1) (b ∷ []) ∷ []) (Ok (codes "m\na.org v1.0.0\nb.org v1.0.0\n"))
     ∷ world (needs (a ∷ [])) (own a (3, 0) (b ∷ []) ∷ []) (Ok (codes "m\na.org v1.0.0\nb.org v1.0.0\n"))
-    -- a folder's file at the top is pruned like any other
-    ∷ world (main_of (a ∷ []) [] (path_by a.0 (Folder (codes "./a")) ∷ [])) (folder (codes "./a") (1, 17) (b ∷ []) ∷ [])
+    ∷ world (needs (a ∷ [])) (own a (1, 100) (b ∷ []) ∷ []) (Ok (codes "m\na.org v1.0.0\nb.org v1.0.0\n"))
+    -- a folder's file at the top is pruned like any other; it may declare the main module's path
+    ∷ world (main_of (a ∷ []) [] (path_by a.0 (Folder (codes "./a")) ∷ []))
+    ((folder_file (codes "./a"), Some (dep (Some (codes "m")) (1, 17) (b ∷ []))) ∷ [])
     (Ok (codes "m\na.org v1.0.0 => ./a\nb.org v1.0.0\n"))
     -- the main module's own path is opened at the top
     ∷ world (main_of (first (codes "m") ∷ []) [] (path_by (codes "m") (Folder (codes "./own")) ∷ []))
@@ -152,16 +154,35 @@ go_worlds =
 abbrev pub wants : List ModuleVersion → List Held
 wants xs = own a (1, 17) xs ∷ []
 
+abbrev pub letters : List ModuleVersion
+letters = first (codes "a.org/a2") ∷ first (codes "a.org/a10") ∷ first (codes "a.org/b~_c")
+    ∷ first (codes "a.org/B~_c") ∷ []
+
 abbrev pub order_worlds : List World
 order_worlds =
-    -- the second number counts before the third
-    world (needs (a ∷ [])) (wants (c_at (codes "v1.1.0") ∷ c_at (codes "v1.0.9") ∷ []))
-    (Ok (codes "m\na.org v1.0.0\nc.org v1.1.0\n"))
+    -- the second number counts before the third, below v1.0.0, too
+    world (needs (a ∷ []))
+    (wants (c_at (codes "v1.1.0") ∷ c_at (codes "v1.0.9") ∷ mv d.0 (codes "v0.9.0") ∷ mv d.0 (codes "v0.10.0") ∷ []))
+    (Ok (codes "m\na.org v1.0.0\nc.org v1.1.0\nd.org v0.10.0\n"))
     -- and the third before the pre-release
     ∷ world (needs (a ∷ [])) (wants (c_at (codes "v1.0.1-9") ∷ c ∷ [])) (Ok (codes "m\na.org v1.0.0\nc.org v1.0.1-9\n"))
-    -- the first number is one, too
-    ∷ world (needs (a ∷ [])) (wants (c_at (codes "v2.0.0+incompatible") ∷ c_at (codes "v10.0.0+incompatible") ∷ []))
+    -- the first number is one, too, and counts before what is incompatible
+    ∷ world (needs (a ∷ []))
+    (wants (c_at (codes "v2.0.0+incompatible") ∷ c_at (codes "v10.0.0+incompatible") ∷ c_at (codes "v1.9.0") ∷ []))
     (Ok (codes "m\na.org v1.0.0\nc.org v10.0.0+incompatible\n"))
+    -- a module may require a later version of itself
+    ∷ world (needs (c ∷ [])) (own c (1, 16) (c_at (codes "v1.2.0") ∷ []) ∷ plain (c_at (codes "v1.2.0")) ∷ [])
+    (Ok (codes "m\nc.org v1.2.0\n"))
+    -- a version that is not opened counts, too
+    ∷ world (needs (a ∷ c ∷ [])) (own a (1, 17) (c_at (codes "v1.2.0") ∷ []) ∷ plain c ∷ [])
+    (Ok (codes "m\na.org v1.0.0\nc.org v1.2.0\n"))
+    -- paths that differ in their major suffix are two modules; the main module comes first, wherever its path stands
+    ∷ world (record (needs (a ∷ mv (codes "a.org/v2") (codes "v2.0.0") ∷ [])) { path = codes "a.org/x" })
+    (plain a ∷ plain (mv (codes "a.org/v2") (codes "v2.0.0")) ∷ [])
+    (Ok (codes "a.org/x\na.org v1.0.0\na.org/v2 v2.0.0\n"))
+    -- the bytes of paths are compared one by one: capital letters come first, and 10 comes before 2
+    ∷ world (needs letters) (map plain letters)
+    (Ok (codes "m\na.org/B~_c v1.0.0\na.org/a10 v1.0.0\na.org/a2 v1.0.0\na.org/b~_c v1.0.0\n"))
     -- paths are ordered by their bytes, not by their lengths, and a dash comes before a slash
     ∷ world (needs (b ∷ first (codes "a.org/x/y") ∷ first (codes "a.org/x-y") ∷ []))
     (plain b ∷ plain (first (codes "a.org/x/y")) ∷ plain (first (codes "a.org/x-y")) ∷ [])
@@ -176,6 +197,16 @@ order_worlds =
 
 -- ---- excludes and replaces
 
+-- four modules, and one that is near each
+abbrev pub asked_for : List ModuleVersion
+asked_for = mv a.0 (codes "v1.1.0") ∷ c_at (codes "v1.1.0-9") ∷ mv d.0 (codes "v1.0.10") ∷ first (codes "b.org/b") ∷ []
+
+abbrev pub near : List ModuleVersion
+near = mv a.0 (codes "v1.1.0-9") ∷ c_at (codes "v1.1.0") ∷ mv d.0 (codes "v1.0.9") ∷ first (codes "b.org/B") ∷ []
+
+abbrev pub asked_rows : List ℕ
+asked_rows = codes "m\na.org v1.1.0\nb.org/b v1.0.0\nc.org v1.1.0-9\nd.org v1.0.10\n"
+
 abbrev pub exclude_worlds : List World
 exclude_worlds =
     -- one version is excluded, no later one, no earlier one, and no module below
@@ -188,7 +219,18 @@ exclude_worlds =
     ∷ world (main_of (a ∷ []) (b ∷ []) (one_by a (by_module b) ∷ [])) (plain b ∷ [])
     (Ok (codes "m\na.org v1.0.0 => b.org v1.0.0\n"))
     ∷ world (main_of (c ∷ []) (c ∷ []) (one_by c (Folder (codes "./c")) ∷ [])) [] (Ok (codes "m\n"))
+    -- it counts whatever the go version is
+    ∷ world (record (main_of (a ∷ []) (b ∷ []) []) { go = (1, 15) }) (own a (1, 16) (b ∷ []) ∷ [])
+    (Ok (codes "m\na.org v1.0.0\n"))
+    -- a release is not its pre-release, nor one with another third number, nor a capital letter a small one: neither to
+    -- an exclude nor to a replace
+    ∷ world (main_of asked_for near []) (map plain asked_for) (Ok asked_rows)
+    ∷ world (main_of asked_for [] (map (λ (x : ModuleVersion). one_by x (Folder (codes "./x"))) near))
+    (map plain asked_for) (Ok asked_rows)
     ∷ []
+
+abbrev pub later_b : ModuleVersion
+later_b = mv b.0 (codes "v2.0.0+incompatible")
 
 abbrev pub replace_worlds : List World
 replace_worlds =
@@ -212,12 +254,35 @@ replace_worlds =
     ∷ world (main_of (a ∷ []) [] (path_by a.0 (Folder (codes "/nowhere/a")) ∷ []))
     ((folder_file (codes "/nowhere/a"), None) ∷ []) (Err (codes "a.org@v1.0.0: Missing\n"))
     -- a replacing module's file declares a path, which is one of the two
-    ∷ world (main_of (a ∷ []) [] (path_by a.0 (by_module b) ∷ [])) (held_as b (dep (Some d.0) (1, 16) []) ∷ [])
+    ∷ world (main_of (a ∷ []) [] (path_by a.0 (by_module b) ∷ [])) (held_as b (dep (Some (codes "m")) (1, 16) []) ∷ [])
     (Err (codes "a.org@v1.0.0: WrongPath\n"))
     ∷ world (main_of (a ∷ []) [] (path_by a.0 (by_module b) ∷ [])) (held_as b (dep None (1, 17) []) ∷ [])
     (Err (codes "a.org@v1.0.0: WrongPath\n"))
     ∷ world (main_of (a ∷ []) [] (path_by a.0 (by_module b) ∷ [])) (held_as b (dep (Some a.0) (1, 16) []) ∷ [])
     (Ok (codes "m\na.org v1.0.0 => b.org v1.0.0\n"))
+    -- only the right side has to be one that a proxy may have
+    ∷ world (main_of (first (codes "local") ∷ []) [] (path_by (codes "local") (by_module later_b) ∷ []))
+    (plain later_b ∷ []) (Ok (codes "m\nlocal v1.0.0 => b.org v2.0.0+incompatible\n"))
+    ∷ world (main_of (a ∷ []) [] (path_by a.0 (by_module (first (codes "corp"))) ∷ [])) []
+    (Err (codes "a.org@v1.0.0: NotFetchable\n"))
+    -- the fault of a file that replaces two modules is one of each
+    ∷ world (main_of (a ∷ c ∷ []) [] (path_by a.0 (by_module b) ∷ path_by c.0 (by_module b) ∷ [])) (gone b ∷ [])
+    (Err (codes "a.org@v1.0.0: Missing\nc.org@v1.0.0: Missing\n"))
+    -- a module that is not opened is shown with its replacement
+    ∷ world (main_of (a ∷ []) [] (path_by b.0 (Folder (codes "./b")) ∷ [])) (own a (1, 17) (b ∷ []) ∷ [])
+    (Ok (codes "m\na.org v1.0.0\nb.org v1.0.0 => ./b\n"))
+    -- the text of a folder is kept as it is, in rows and for files
+    ∷ world (main_of (a ∷ b ∷ []) [] (path_by a.0 (Folder (codes "./x/")) ∷ path_by b.0 (Folder (codes "./x")) ∷ []))
+    (folder (codes "./x/") (1, 17) [] ∷ folder (codes "./x") (1, 17) [] ∷ [])
+    (Ok (codes "m\na.org v1.0.0 => ./x/\nb.org v1.0.0 => ./x\n"))
+    -- an incompatible version may be replaced, and have requirements
+    ∷ world (main_of (c_at (codes "v2.0.0+incompatible") ∷ []) [] (path_by c.0 (Folder (codes "./c")) ∷ []))
+    (folder (codes "./c") (1, 16) (d ∷ []) ∷ plain d ∷ [])
+    (Ok (codes "m\nc.org v2.0.0+incompatible => ./c\nd.org v1.0.0\n"))
+    -- both versions that the main file requires are opened; the left side's version counts, not the right one's
+    ∷ world (main_of (c ∷ c_at (codes "v1.2.0") ∷ []) [] (one_by c (by_module (c_at (codes "v1.9.0"))) ∷ []))
+    (own (c_at (codes "v1.9.0")) (1, 16) (d ∷ []) ∷ plain (c_at (codes "v1.2.0")) ∷ plain d ∷ [])
+    (Ok (codes "m\nc.org v1.2.0\nd.org v1.0.0\n"))
     -- what a file requires of a module that isn't opened is not opened, though its path would be right for that
     ∷ world (main_of (b ∷ []) [] (path_by a.0 (by_module b) ∷ [])) (held_as b (dep (Some a.0) (1, 16) (c ∷ [])) ∷ [])
     (Err (codes "b.org@v1.0.0: WrongPath\n"))
@@ -227,17 +292,33 @@ replace_worlds =
 
 abbrev pub path_worlds : List World
 path_worlds =
-    -- a path above the module's, or one below it, is a wrong one
-    world (needs (a ∷ first (codes "c.org/sub") ∷ []))
-    (held_as a (dep (Some (codes "a.org/sub")) (1, 16) [])
+    -- a path above the module's, or one below it, is a wrong one, and has its own fault
+    world (needs (a ∷ first (codes "a.org/sub") ∷ first (codes "c.org/sub") ∷ []))
+    (held_as a (dep (Some (codes "a.org/sub")) (1, 16) []) ∷ gone (first (codes "a.org/sub"))
     ∷ held_as (first (codes "c.org/sub")) (dep (Some c.0) (1, 16) []) ∷ [])
-    (Err (codes "a.org@v1.0.0: WrongPath\nc.org/sub@v1.0.0: WrongPath\n"))
+    (Err (codes "a.org@v1.0.0: WrongPath\na.org/sub@v1.0.0: Missing\nc.org/sub@v1.0.0: WrongPath\n"))
     -- the dot stands in the first element, where each byte counts, and there may be two
     ∷ world (needs (first (codes "a.b.c/x") ∷ first (codes "a_b.com/x") ∷ first (codes "corp/a.b")
     ∷ first (codes "eXample.com/a") ∷ []))
     (gone (first (codes "a.b.c/x")) ∷ [])
     (Err (codes "a.b.c/x@v1.0.0: Missing\na_b.com/x@v1.0.0: NotFetchable\ncorp/a.b@v1.0.0: NotFetchable\n"
     ++ codes "eXample.com/a@v1.0.0: NotFetchable\n"))
+    -- a digit may begin it, it may have no letter, and dashes, but no tilde
+    ∷ world (needs (first (codes "0--1.-y-.z-") ∷ first (codes "1.2") ∷ first (codes "a~b.org") ∷ []))
+    (gone (first (codes "0--1.-y-.z-")) ∷ gone (first (codes "1.2")) ∷ [])
+    (Err (codes "0--1.-y-.z-@v1.0.0: Missing\n1.2@v1.0.0: Missing\na~b.org@v1.0.0: NotFetchable\n"))
+    -- a module that another one requires is reported, too
+    ∷ world (needs (a ∷ [])) (own a (1, 16) (first (codes "local") ∷ []) ∷ [])
+    (Err (codes "local@v1.0.0: NotFetchable\n"))
+    -- a declared path is compared byte by byte, with its major suffix, for a version of the main module, too
+    ∷ world (record (needs (first (codes "a.org/x") ∷ mv (codes "a.org/v2") (codes "v2.0.0") ∷ first (codes "b.org/B")
+    ∷ c_at (codes "v2.0.0+incompatible") ∷ [])) { path = codes "a.org/x" })
+    (held_as (first (codes "a.org/x")) (dep (Some d.0) (1, 16) [])
+    ∷ held_as (mv (codes "a.org/v2") (codes "v2.0.0")) (dep (Some a.0) (1, 16) [])
+    ∷ held_as (first (codes "b.org/B")) (dep (Some (codes "b.org/b")) (1, 16) [])
+    ∷ held_as (c_at (codes "v2.0.0+incompatible")) (dep (Some (codes "c.org/v2")) (1, 16) []) ∷ [])
+    (Err (codes "a.org/v2@v2.0.0: WrongPath\na.org/x@v1.0.0: WrongPath\nb.org/B@v1.0.0: WrongPath\n"
+    ++ codes "c.org@v2.0.0+incompatible: WrongPath\n"))
     -- a version's plus sign is shown, and is part of its file's name
     ∷ world (needs (c_at (codes "v2.0.0+incompatible") ∷ [])) (plain (c_at (codes "v2.0.0+incompatible")) ∷ [])
     (Ok (codes "m\nc.org v2.0.0+incompatible\n"))

@@ -3,8 +3,8 @@ use Rattle.std.specs.Prelude.{◌≡◌, ◌⊎◌, List, [], ◌∷◌, Some, N
 use Rattle.page.specs.Asked.{Name, Reply, absent, answer_in, bytes, mod_file, too_long}
 use Rattle.page.specs.BuildList.{HasEntryFor, IsRestAfter, IsSelected, main_entry}
 use Rattle.page.specs.Entries.{Entry}
-use Rattle.page.specs.Directives.{Module}
-use Rattle.page.specs.Fields.{Dependency}
+use Rattle.page.specs.Directives.{Folder, Module, Replacing, left_without}
+use Rattle.page.specs.Fields.{Dependency, right_for}
 use Rattle.page.specs.Files.{end_one, local_file, low_nine, low_ten, main_file, mid_nine, mid_ten, old_file, own_one, top_file, top_one, top_text}
 use Rattle.page.specs.Files.RowFiles.{alone_file, first_of, huge_text, malformed_text, one_file, three_file}
 use Rattle.page.specs.Graph.{Edges, IsEdgeEnd}
@@ -14,9 +14,10 @@ use Rattle.page.specs.ModuleVersion.{ModuleVersion}
 use Rattle.page.specs.Outcome.{Outcome}
 use Rattle.page.specs.Reading.{IsContentReading, IsFileReading, IsReadUnless}
 use Rattle.page.specs.Run.{FileSays, IsDeep, IsEdge, IsFault, IsNeeded, IsOpened, IsRead, IsTop, Requires, Run, Says, run_of}
-use Rattle.page.specs.Types.{Class, Malformed, Missing, NoSum, NotFetchable, Of, TooLong, WrongArguments, WrongPath, sums_table}
-use Rattle.page.specs.Version.{version_cmp}
-use Rattle.std.specs.declared.cmp.Ordering.TheVariants.{Greater}
+use Rattle.page.specs.Reports.{class_text}
+use Rattle.page.specs.Types.{BadVersion, Class, Malformed, Missing, NoSum, NotFetchable, Of, TooLong, WrongArguments, WrongPath, sums_table}
+use Rattle.page.specs.Version.{precedence, version_cmp}
+use Rattle.std.specs.declared.cmp.Ordering.TheVariants.{Greater, Less}
 use Rattle.page.specs.Worlds.{asked_folder, printing, pruned_answers, unpruned_answers, wrong_answers}
 use Rattle.page.specs.Worlds.Rows.{a_name, answer, fork_name, malformed_answers, name_at, sums_answers, unopened_answers}
 
@@ -49,6 +50,11 @@ two_paths step y = (y ≡ mid_nine) ⊎ (y ≡ low_ten)
 
 abbrev pub to_own : Edges
 to_own step y = y ≡ own_one
+
+-- No valid file has two replaces with one left side.
+abbrev pub twice_replaced : List Replacing
+twice_replaced =
+    (left_without (codes "a"), Folder (codes "x")) ∷ (left_without (codes "a"), Folder (codes "y")) ∷ []
 
 -- Its first and last entry have one path.
 abbrev pub twice_rows : List Entry
@@ -89,6 +95,12 @@ pub record PartsAreShown : Type 0 where
   pub other_path : IsSelected (codes "m") two_paths mid_nine
   -- of two versions of one precedence the text decides
   pub tie : version_cmp (codes "v1.0.0+b") (codes "v1.0.0") ≡ Greater
+  -- build metadata does not count before that, and the pre-release does
+  pub builds : precedence (1, 0, 0, codes "9", codes "b") (1, 0, 0, codes "10", []) ≡ Less
+  -- of two replaces with one left side the first counts
+  pub first_right : right_for twice_replaced (left_without (codes "a")) ≡ Some (Folder (codes "x"))
+  -- a fault of the whole file has line 0
+  pub whole : class_text (Malformed 0 BadVersion) ≡ codes "Malformed 0 BadVersion"
   -- what stands behind the arrow of a row
   pub replacing : replacement_text (Module (codes "fork.org") (codes "v1.9.0")) ≡ codes "fork.org v1.9.0"
   -- a row, and what follows it

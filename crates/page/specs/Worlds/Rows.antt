@@ -1,12 +1,12 @@
 -- More worlds, each of which shows one thing that `list` does.
-use Rattle.std.specs.Prelude.{◌≡◌, ◌++◌, ℕ, false, List, [], ◌∷◌, map, Option, Some, None, codes}
+use Rattle.std.specs.Prelude.{◌≡◌, ◌++◌, ℕ, suc, false, List, [], ◌∷◌, map, Option, Some, None, codes}
 use Rattle.page.specs.Asked.{Name, Reply, absent, bytes, folder_file, mod_file, too_long}
-use Rattle.page.specs.Files.RowFiles.{alone_text, both_text, ends_text, excluding_text, forking_text, going, malformed_text, module_line, one_text, path_of, replacing_text, requiring, three_text, two_text, unfetchable_text, folders_text, greater_text, hosts_text, late_text, later_text, lesser_text, many_text, nine_text, unknown_text, full_file, versions_below}
+use Rattle.page.specs.Files.RowFiles.{alone_text, both_text, ends_text, excluding_text, forking_text, going, malformed_text, module_line, one_text, path_of, replacing_text, requiring, three_text, two_text, unfetchable_text, folders_text, greater_text, hosts_text, late_text, later_text, lesser_text, many_text, nine_text, unknown_text, full_file, most_opened, one_file, versions_below, wide_text}
 use Rattle.page.specs.ListQuery.{ListEnds}
 use Rattle.page.specs.ModuleVersion.{ModuleVersion}
 use Rattle.page.specs.Reading.{declares}
 use Rattle.page.specs.Run.{AreTooMany, run_of}
-use Rattle.page.specs.Types.{sums_text, twice_text}
+use Rattle.page.specs.Types.{first_text, sums_text, twice_text}
 use Rattle.page.specs.Worlds.{HasNoOutcome, failing, failing_with, given_by, given_with, printing, reporting}
 
 -- the text is printed
@@ -136,13 +136,20 @@ malformed_answers =
     ∷ bare_answer (codes "b") (codes "v1.1.0") ∷ (name_at (codes "c") (codes "v1.0.0"), absent)
     ∷ answer (codes "b") malformed_text ∷ []
 
+abbrev pub malformed_report : List ℕ
+malformed_report =
+    codes "example.com/b@v1.0.0: Malformed 3 WrongArguments\nexample.com/c@v1.0.0: Missing\n"
+
 -- A malformed file has a line and a kind, and is a fault even of a version that has no row; so is a missing file.
 -- A folder's file may be malformed, too.
 pub record MalformedIsReported : Type 0 where
-  pub both : IsReportedAs three_text malformed_answers
-      (codes "example.com/b@v1.0.0: Malformed 3 WrongArguments\nexample.com/c@v1.0.0: Missing\n")
+  pub both : IsReportedAs three_text malformed_answers malformed_report
   pub folder : IsReportedAs replacing_text ((folder_file (codes "../local"), bytes malformed_text) ∷ [])
       (codes "local@v0.0.0: Malformed 3 WrongArguments\n")
+  -- all faults are reported, whatever the limit is, and whether the path is listed or not
+  pub limited : ListEnds None (Some 1) (given_by three_text malformed_answers) (reporting malformed_report)
+  pub after : ListEnds (Some (codes "example.com/q")) None (given_by three_text malformed_answers) (reporting
+      malformed_report)
 
 abbrev pub own_answers : List (Name × Reply)
 own_answers =
@@ -156,7 +163,7 @@ abbrev pub OwnPrints : Option (List ℕ) → Option ℕ → List ℕ → Type 0
 OwnPrints after limit text = ListEnds after limit (given_by ends_text own_answers) (printing text)
 
 -- A requirement on the main module's own path has no row, and what it requires has one. The rows after a path may be
--- none; a limit counts from the first of them.
+-- none; a limit counts from the first of them, and may be above their number.
 pub record OwnPathIsLeftOut : Type 0 where
   pub all : IsListedAs ends_text own_answers
       (codes "example.com/m\nexample.com/a v1.0.0\nexample.com/k v1.0.0\nexample.com/z v1.0.0\n")
@@ -166,6 +173,8 @@ pub record OwnPathIsLeftOut : Type 0 where
   pub after_last : OwnPrints (Some (codes "example.com/z")) None []
   pub limited : OwnPrints None (Some 2) (codes "example.com/m\nexample.com/a v1.0.0\n")
   pub three : OwnPrints None (Some 3) (codes "example.com/m\nexample.com/a v1.0.0\nexample.com/k v1.0.0\n")
+  pub more : OwnPrints None (Some 9)
+      (codes "example.com/m\nexample.com/a v1.0.0\nexample.com/k v1.0.0\nexample.com/z v1.0.0\n")
   pub none : OwnPrints None (Some 0) []
   pub both : OwnPrints (Some (codes "example.com/m")) (Some 1) (codes "example.com/a v1.0.0\n")
 
@@ -229,10 +238,15 @@ abbrev pub HostsAreReported : Type 0
 HostsAreReported = IsReportedAs hosts_text ((mod_file (codes "a-1.org") (codes "v1.0.0"), absent) ∷ [])
     (codes "-a.org@v1.0.0: NotFetchable\nA.org@v1.0.0: NotFetchable\na-1.org@v1.0.0: Missing\n")
 
--- The device fails on a folder's file. It can't fail on a file that was answered.
+-- The device fails on the file of a folder, of a module that replaces others, or after a fault was found. It can't fail
+-- on a file that was answered.
 pub record FolderDeviceIsReported : Type 0 where
   pub folder : ListEnds None None (failing replacing_text [] (folder_file (codes "../local"))) (failing_with
       (codes "gomod: device at ../local\n"))
+  pub fork : ListEnds None None (failing forking_text [] fork_name) (failing_with
+      (codes "gomod: device at example.com/fork@v1.1.0\n"))
+  pub late : ListEnds None None (failing two_text ((a_name, absent) ∷ []) (name_at (codes "b") (codes "v1.0.0")))
+      (failing_with (codes "gomod: device at example.com/b@v1.0.0\n"))
   pub answered : HasNoOutcome (failing one_text (a_bare ∷ []) a_name)
 
 -- A run has no outcome if a needed file was not asked for, if another was, or the same one twice; if the device failed
@@ -255,6 +269,16 @@ sums_answers =
 abbrev pub two_missing : List (Name × Reply)
 two_missing = (a_name, absent) ∷ (name_at (codes "b") (codes "v1.0.0"), absent) ∷ []
 
+abbrev pub two_long : List (Name × Reply)
+two_long = (a_name, too_long) ∷ (name_at (codes "b") (codes "v1.0.0"), too_long) ∷ []
+
+-- The file of c declares another path.
+abbrev pub lower_answers : List (Name × Reply)
+lower_answers =
+    answer (codes "a") (requiring (codes "a") (codes "b") (codes "v1.0.0"))
+    ∷ bare_answer (codes "b") (codes "v1.1.0") ∷ answer (codes "c") (module_line (codes "d"))
+    ∷ bare_answer (codes "b") (codes "v1.0.0") ∷ []
+
 -- A go.sum lists a file, does not list the second, and lists another hash of the third. One that is invalid is
 -- reported.
 pub record SumsAreReported : Type 0 where
@@ -273,16 +297,31 @@ pub record SumsAreReported : Type 0 where
       (codes "example.com/a@v1.0.0: SumDiffers\n"))
   pub missing : ListEnds None None (given_with two_text (Some sums_text) two_missing) (reporting
       (codes "example.com/a@v1.0.0: Missing\nexample.com/b@v1.0.0: Missing\n"))
+  pub long : ListEnds None None (given_with two_text (Some sums_text) two_long) (reporting
+      (codes "example.com/a@v1.0.0: TooLong\nexample.com/b@v1.0.0: TooLong\n"))
+  -- the file of a module that replaces others needs a line, too, and that of a version without a row; a wrong path comes
+  -- later; a go.sum may have no lines
+  pub fork : ListEnds None None (given_with forking_text (Some sums_text) fork_answers) (reporting
+      (codes "example.com/a@v1.0.0: NoSum\nexample.com/fork@v1.1.0: NoSum\n"))
+  pub lower : ListEnds None None (given_with three_text (Some first_text) lower_answers) (reporting
+      (codes "example.com/b@v1.0.0: NoSum\nexample.com/b@v1.1.0: NoSum\nexample.com/c@v1.0.0: NoSum\n"))
+  pub none : ListEnds None None (given_with one_text (Some []) (a_bare ∷ [])) (reporting
+      (codes "example.com/a@v1.0.0: NoSum\n"))
 
 -- No file of these modules is there.
 abbrev pub all_absent : List ModuleVersion → List (Name × Reply)
 all_absent = map (λ (x : ModuleVersion). (mod_file x.0 x.1, absent))
 
--- A main file requires one module too many, whether files were asked for or not, and one as many as may be opened. An
--- invalid go.sum is reported first.
+-- No module that the file requires is opened.
+abbrev pub wide_answers : List (Name × Reply)
+wide_answers = answer (codes "a") wide_text ∷ []
+
+-- A main file requires one module too many, whether files were asked for or not, and one as many as may be opened. A
+-- pruned file may require more. An invalid go.sum is reported first.
 pub record TooManyAreReported : Type 0 where
   pub over : IsReportedAs many_text [] (codes "gomod: TooMany\n")
-  pub asked : IsReportedAs many_text (all_absent (versions_below 65537)) (codes "gomod: TooMany\n")
+  pub asked : IsReportedAs many_text (all_absent (versions_below (suc most_opened))) (codes "gomod: TooMany\n")
   pub full : AreTooMany (run_of full_file None []) → ⊥
+  pub unopened : AreTooMany (run_of one_file None wide_answers) → ⊥
   pub sums : ListEnds None None (given_with many_text (Some (codes "a b\n")) []) (reporting
       (codes "go.sum:1: BadSum\n"))
