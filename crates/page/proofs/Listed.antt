@@ -14,8 +14,10 @@ unpruned_is_listed = ends_so old_text None old_file None unpruned_answers refl t
 
 pub main_alone_is_listed : MainAloneIsListed
 unfolding is_fetchable
-main_alone_is_listed = ends_so alone_text None alone_file None [] refl tt refl None None
-    (printing (codes "example.com/m\n")) refl
+main_alone_is_listed = record {
+  whole = ends_so alone_text None alone_file None [] refl tt refl None None (printing (codes "example.com/m\n")) refl;
+  after = ends_so alone_text None alone_file None [] refl tt refl (Some (codes "example.com/m")) None (printing []) refl;
+}
 
 pub greater_version_is_listed : GreaterVersionIsListed
 unfolding is_fetchable

@@ -8,9 +8,10 @@ use Rattle.std.proofs.lemmas.Bool.{false_from_ne_true}
 use Rattle.std.proofs.lemmas.Fmt.{decimal_injective}
 use Rattle.std.proofs.lemmas.List.{append_cancel_left}
 use Rattle.page.specs.Asked.{Name, Reply}
+use Rattle.page.specs.Directives.{Replacing}
 use Rattle.page.specs.Fields.{Dependency}
 use Rattle.page.specs.Files.{main_in}
-use Rattle.page.specs.Files.RowFiles.{at, first_of, full_file, many_file, many_text, most_opened, one_file, versions_below, wide_file, wide_text}
+use Rattle.page.specs.Files.RowFiles.{at, corp_file, first_of, full_file, many_file, many_text, most_opened, one_file, versions_below, wide_file, wide_text}
 use Rattle.page.specs.Main.{Main, without_excluded}
 use Rattle.page.specs.ModuleVersion.{ModuleVersion, pair_eq}
 use Rattle.page.specs.Queries.{bad_sums, too_many}
@@ -62,15 +63,20 @@ chosen b = if b then Ok many_file else Err (1, Unknown)
 is_main : main_in many_text ≡ Ok many_file
 is_main = ap chosen (text_itself many_text)
 
-are_too_many : (asked : List (Name × Reply)) → AreTooMany (run_of many_file None asked)
-are_too_many asked = (
-  versions_below (suc most_opened),
-  subst (λ (n : ℕ). most_opened < n) (sym (length_is (suc most_opened))) (omega arith),
-  record {
-    once = distinct_below (suc most_opened) (omega arith);
-    each = λ x there. inl (subst (λ (xs : List ModuleVersion). Contains xs x) (sym (none_excluded (versions_below (suc most_opened)))) there);
-  },
-)
+-- a main file that differs in its replaces alone
+module _ (replaces : List Replacing) (asked : List (Name × Reply)) where
+  abbrev main : Main
+  main = record many_file { replaces = replaces }
+
+  are_too_many : AreTooMany (run_of main None asked)
+  are_too_many = (
+    versions_below (suc most_opened),
+    subst (λ (n : ℕ). most_opened < n) (sym (length_is (suc most_opened))) (omega arith),
+    record {
+      once = distinct_below (suc most_opened) (omega arith);
+      each = λ x there. inl (subst (λ (xs : List ModuleVersion). Contains xs x) (sym (none_excluded (versions_below (suc most_opened)))) there);
+    },
+  )
 
 abbrev many_absent : List (Name × Reply)
 many_absent = all_absent (versions_below (suc most_opened))
@@ -129,9 +135,10 @@ not_wide (xs, over, are) =
 pub too_many_are_reported : TooManyAreReported
 too_many_are_reported = record {
   over = too_many many_file None (record { main_file = is_main; sums = tt }) (all_read many_file None [] tt)
-      (are_too_many []) refl refl;
+      (are_too_many [] []) refl refl;
   asked = too_many many_file None (record { main_file = is_main; sums = tt })
-      (all_read many_file None many_absent (absent_read (versions_below (suc most_opened)))) (are_too_many many_absent) refl refl;
+      (all_read many_file None many_absent (absent_read (versions_below (suc most_opened)))) (are_too_many [] many_absent) refl refl;
+  corp = are_too_many corp_file.replaces [];
   full = not_too_many;
   unopened = not_wide;
   sums = bad_sums many_file _ is_main refl (refl, refl) refl;

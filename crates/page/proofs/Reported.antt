@@ -1,16 +1,17 @@
 -- The worlds in which something is reported, and those without an outcome.
-use Rattle.std.proofs.Common.{◌≡◌, ℕ, List, [], ◌∷◌, Err, Option, None, Some, arith, codes, inl, refl, subst, sym}
+use Rattle.std.proofs.Common.{◌≡◌, ℕ, List, [], ◌∷◌, Err, Ok, Option, None, Some, arith, codes, inl, inr, refl, subst, sym}
 use Rattle.std.specs.Fmt.{digits}
 use Rattle.page.specs.Asked.{Name, Reply, absent, answer_in, folder_file}
 use Rattle.page.specs.Files.{local_file, local_text, mid_nine, old_file}
-use Rattle.page.specs.Files.RowFiles.{alone_file, first_of, forking_file, forking_text, hosts_file, hosts_text, late_text, local_zero, nine_file, nine_text, one_file, one_text, replacing_file, replacing_text, three_file, three_text, two_file, two_text, unfetchable_file, unfetchable_text}
+use Rattle.page.specs.Files.RowFiles.{alone_file, file_requiring, first_of, forking_file, forking_text, hosts_file, hosts_text, late_text, local_zero, malformed_text, nine_file, nine_text, one_file, one_text, replacing_file, replacing_text, three_file, three_text, two_file, two_text, unfetchable_file, unfetchable_text}
 use Rattle.page.specs.Main.{Main}
 use Rattle.page.specs.Queries.{bad_main, bad_sums, device, faulty, no_fault, too_many}
 use Rattle.page.specs.Path.{is_fetchable}
-use Rattle.page.specs.Run.{IsDue, run_of}
-use Rattle.page.specs.Types.{Misreading, Missing, NoModule, Sums, first_table, first_text, Unknown, sums_table, sums_text, twice_table, twice_text}
+use Rattle.page.specs.Fields.{Dependency}
+use Rattle.page.specs.Run.{IsDue, answered, from_top, run_of, sound}
+use Rattle.page.specs.Types.{Misreading, Missing, NoModule, Sums, first_table, first_text, fork_table, fork_text, Unknown, sums_table, sums_text, twice_table, twice_text}
 use Rattle.page.specs.Worlds.{DeviceIsReported, FaultsAreReported, HasNoOutcome, asked_mid, failing, printing, reporting, wrong_answers}
-use Rattle.page.specs.Worlds.Rows.{EmptyMainIsReported, FolderDeviceIsReported, ForkIsReported, HostsAreReported, MalformedIsReported, OneFileIsReported, SumsAreReported, TwoFaultsAreReported, UnfetchableIsReported, a_bare, a_name, answer, folder_answers, fork_answers, fork_name, lower_answers, malformed_answers, malformed_report, name_at, nine_answers, sums_answers, two_long, two_missing, wrong_fork_answers}
+use Rattle.page.specs.Worlds.Rows.{EmptyMainIsReported, FolderDeviceIsReported, ForkIsReported, HostsAreReported, MalformedIsReported, OneFileIsReported, SumsAreReported, TwoFaultsAreReported, UnfetchableIsReported, a_bare, a_name, answer, first_answers, folder_answers, fork_answers, fork_name, lower_answers, malformed_answers, malformed_report, name_at, nine_answers, sums_answers, two_long, two_missing, wrong_fork_answers}
 use Rattle.page.proofs.Checked.{ends_so}
 use Rattle.page.proofs.Ending.{all_read}
 use Rattle.page.proofs.Nothing.{no_cons, no_main, same_one, some_not_none}
@@ -37,6 +38,8 @@ pub malformed_is_reported : MalformedIsReported
 unfolding is_fetchable digits
 malformed_is_reported = record {
   both = ends_so three_text None three_file None malformed_answers refl tt refl None None (reporting malformed_report) refl;
+  long = ends_so replacing_text None replacing_file None _ refl tt refl None None
+      (reporting (codes "local@v0.0.0: TooLong\n")) refl;
   limited = ends_so three_text None three_file None malformed_answers refl tt refl None (Some 1) (reporting malformed_report) refl;
   after = ends_so three_text None three_file None malformed_answers refl tt refl (Some (codes "example.com/q")) None
       (reporting malformed_report) refl;
@@ -83,9 +86,13 @@ sums_are_reported = record {
       (reporting (codes "example.com/a@v1.0.0: TooLong\nexample.com/b@v1.0.0: TooLong\n")) refl;
   fork = ends_so forking_text (Some sums_text) forking_file (Some sums_table) fork_answers refl refl refl None None
       (reporting (codes "example.com/a@v1.0.0: NoSum\nexample.com/fork@v1.1.0: NoSum\n")) refl;
+  fork_alone = ends_so forking_text (Some fork_text) forking_file (Some fork_table) fork_answers refl refl refl None None
+      (printing (codes "example.com/m\nexample.com/a v1.0.0 => example.com/fork v1.1.0\nexample.com/fork v1.1.0\n")) refl;
   lower = ends_so three_text (Some first_text) three_file (Some first_table) lower_answers refl refl refl None None
       (reporting (codes "example.com/b@v1.0.0: NoSum\nexample.com/b@v1.1.0: NoSum\nexample.com/c@v1.0.0: NoSum\n")) refl;
   none = ends_so one_text (Some []) one_file (Some []) (a_bare ∷ []) refl refl refl None None
+      (reporting (codes "example.com/a@v1.0.0: NoSum\n")) refl;
+  malformed = ends_so one_text (Some []) one_file (Some []) (answer (codes "a") malformed_text ∷ []) refl refl refl None None
       (reporting (codes "example.com/a@v1.0.0: NoSum\n")) refl;
 }
 
@@ -111,6 +118,31 @@ fork_is_due : IsDue (run_of forking_file None []) fork_name
 unfolding is_fetchable
 fork_is_due = record {
   calls = record { read = all_read forking_file None [] tt; needed = (first_of (codes "a"), inl (0, omega arith, refl), refl, refl) };
+  unasked = refl;
+}
+
+a_is_due : IsDue (run_of two_file None []) a_name
+unfolding is_fetchable
+a_is_due = record {
+  calls = record { read = all_read two_file None [] tt; needed = (first_of (codes "a"), inl (0, omega arith, refl), refl, refl) };
+  unasked = refl;
+}
+
+abbrev a_file : Dependency
+a_file = file_requiring (codes "a") (1, 16) (codes "c") (codes "v1.0.0")
+
+c_is_due : IsDue (run_of one_file None first_answers) (name_at (codes "c") (codes "v1.0.0"))
+unfolding is_fetchable
+c_is_due = record {
+  calls = record {
+    read = all_read one_file None first_answers ((λ name. (Ok a_file, refl)), tt);
+    needed = (
+      first_of (codes "c"),
+      inr (from_top a_file (0, omega arith, refl) (sound (answered _ refl refl refl) refl) refl (0, omega arith, refl)),
+      refl,
+      refl,
+    );
+  };
   unasked = refl;
 }
 
@@ -150,6 +182,8 @@ pub folder_device_is_reported : FolderDeviceIsReported
 folder_device_is_reported = record {
   folder = device replacing_file None (folder_file (codes "../local")) (record { main_file = refl; sums = tt }) folder_is_due refl refl;
   fork = device forking_file None fork_name (record { main_file = refl; sums = tt }) fork_is_due refl refl;
+  deep = device one_file None (name_at (codes "c") (codes "v1.0.0")) (record { main_file = refl; sums = tt }) c_is_due refl refl;
+  first = device two_file None a_name (record { main_file = refl; sums = tt }) a_is_due refl refl;
   late = device two_file None (name_at (codes "b") (codes "v1.0.0")) (record { main_file = refl; sums = tt }) b_is_due refl refl;
   answered = none_answered;
 }

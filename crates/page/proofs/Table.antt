@@ -25,121 +25,28 @@ pub go_versions_are_told : GoVersionsAreTold
 unfolding is_fetchable digits
 go_versions_are_told = all_hold go_worlds (
   (refl, refl, refl),
-  (
-    (refl, refl, refl),
-    (
-      (refl, refl, refl),
-      (
-        (refl, refl, refl),
-        (
-          (refl, refl, refl),
-          ((refl, refl, refl), ((refl, refl, refl), ((refl, refl, refl), tt))),
-        ),
-      ),
-    ),
-  ),
+  ((refl, refl, refl), ((refl, refl, refl), ((refl, refl, refl), ((refl, refl, refl), ((refl, refl, refl), ((refl, refl, refl), ((refl, refl, refl), ((refl, refl, refl), tt)))))))),
 )
 
 pub orders_are_told : OrdersAreTold
 unfolding is_fetchable digits
 orders_are_told = all_hold order_worlds (
   (refl, refl, refl),
-  (
-    (refl, refl, refl),
-    (
-      (refl, refl, refl),
-      (
-        (refl, refl, refl),
-        (
-          (refl, refl, refl),
-          (
-            (refl, refl, refl),
-            (
-              (refl, refl, refl),
-              (
-                (refl, refl, refl),
-                (
-                  (refl, refl, refl),
-                  (
-                    (refl, refl, refl),
-                    tt,
-                  ),
-                ),
-              ),
-            ),
-          ),
-        ),
-      ),
-    ),
-  ),
+  ((refl, refl, refl), ((refl, refl, refl), ((refl, refl, refl), ((refl, refl, refl), ((refl, refl, refl), ((refl, refl, refl), ((refl, refl, refl), ((refl, refl, refl), ((refl, refl, refl), tt))))))))),
 )
 
 pub excludes_are_told : ExcludesAreTold
 unfolding is_fetchable digits
 excludes_are_told = all_hold exclude_worlds (
   (refl, refl, refl),
-  (
-    (refl, refl, refl),
-    (
-      (refl, refl, refl),
-      (
-        (refl, refl, refl),
-        (
-          (refl, refl, refl),
-          ((refl, refl, refl), ((refl, refl, refl), ((refl, refl, refl), tt))),
-        ),
-      ),
-    ),
-  ),
+  ((refl, refl, refl), ((refl, refl, refl), ((refl, refl, refl), ((refl, refl, refl), ((refl, refl, refl), ((refl, refl, refl), ((refl, refl, refl), ((refl, refl, refl), tt)))))))),
 )
 
 pub replaces_are_told : ReplacesAreTold
 unfolding is_fetchable digits
 replaces_are_told = all_hold replace_worlds (
   (refl, refl, refl),
-  (
-    (refl, refl, refl),
-    (
-      (refl, refl, refl),
-      (
-        (refl, refl, refl),
-        (
-          (refl, refl, refl),
-          (
-            (refl, refl, refl),
-            (
-              (refl, refl, refl),
-              (
-                (refl, refl, refl),
-                (
-                  (refl, refl, refl),
-                  (
-                    (refl, refl, refl),
-                    (
-                      (refl, refl, refl),
-                      (
-                        (refl, refl, refl),
-                        (
-                          (refl, refl, refl),
-                          (
-                            (refl, refl, refl),
-                            (
-                              (refl, refl, refl),
-                              ((refl, refl, refl), ((refl, refl, refl), ((refl, refl, refl), tt))),
-                            ),
-                          ),
-                        ),
-                      ),
-                    ),
-                  ),
-                ),
-              ),
-            ),
-          ),
-        ),
-      ),
-    ),
-  ),
+  ((refl, refl, refl), ((refl, refl, refl), ((refl, refl, refl), ((refl, refl, refl), ((refl, refl, refl), ((refl, refl, refl), ((refl, refl, refl), ((refl, refl, refl), ((refl, refl, refl), ((refl, refl, refl), ((refl, refl, refl), ((refl, refl, refl), ((refl, refl, refl), ((refl, refl, refl), ((refl, refl, refl), ((refl, refl, refl), ((refl, refl, refl), ((refl, refl, refl), ((refl, refl, refl), tt))))))))))))))))))),
 )
 
 by_b_ends : (path : List ℕ) (outcome : Outcome) → ending by_b None (answers_of world_by_b) (Some path) None ≡ outcome → ByBEnds path outcome
@@ -151,19 +58,7 @@ unfolding is_fetchable digits
 texts_are_told = record {
   worlds = all_hold path_worlds (
     (refl, refl, refl),
-    (
-      (refl, refl, refl),
-      (
-        (refl, refl, refl),
-        (
-          (refl, refl, refl),
-          (
-            (refl, refl, refl),
-            ((refl, refl, refl), ((refl, refl, refl), tt)),
-          ),
-        ),
-      ),
-    ),
+    ((refl, refl, refl), ((refl, refl, refl), ((refl, refl, refl), ((refl, refl, refl), ((refl, refl, refl), ((refl, refl, refl), ((refl, refl, refl), tt))))))),
   );
   rows = refl;
   faults = refl;

@@ -108,13 +108,21 @@ abbrev pub first_table : Sums
 first_table =
     (codes "example.com/a", codes "v1.0.0", codes "module example.com/a\nrequire example.com/b v1.0.0\n") ∷ []
 
+-- Its line has the hash of `module example.com/fork`.
+abbrev pub fork_text : List ℕ
+fork_text = codes "example.com/fork v1.1.0/go.mod h1:aG2jRfEBH3QHSWTujiw8F39Kh20e41Pc3o3MMI2tf+0=\n"
+
+abbrev pub fork_table : Sums
+fork_table = (codes "example.com/fork", codes "v1.1.0", codes "module example.com/fork\n") ∷ []
+
 -- what the bytes of a go.sum say, or the report
 abbrev pub sums_in : List ℕ → Result Sums (List ℕ)
 sums_in text =
     if bytes_eq text sums_text then Ok sums_table
     else (if bytes_eq text twice_text then Ok twice_table
     else (if bytes_eq text first_text then Ok first_table
-    else (if bytes_eq text [] then Ok [] else Err (codes "go.sum:1: BadSum\n"))))
+    else (if bytes_eq text fork_text then Ok fork_table
+    else (if bytes_eq text [] then Ok [] else Err (codes "go.sum:1: BadSum\n")))))
 
 -- Without a go.sum there is no table.
 abbrev pub AreSums : Option (List ℕ) → Option Sums → Type 0

@@ -199,6 +199,12 @@ many_text = codes "module example.com/m // It requires many versions.\n" ++ line
 abbrev pub many_file : Main
 many_file = main_with (1, 16) (versions_below (suc most_opened)) []
 
+-- What replaces them has a path that no proxy has.
+abbrev pub corp_file : Main
+corp_file = record many_file {
+  replaces = (every_of (codes "example.com/a"), Module (codes "corp") (codes "v1.0.0")) ∷ [];
+}
+
 -- It requires as many as may be opened.
 abbrev pub full_file : Main
 full_file = main_with (1, 16) (versions_below most_opened) []

@@ -143,6 +143,12 @@ go_worlds =
     ∷ world (main_of (a ∷ []) [] (path_by a.0 (Folder (codes "./a")) ∷ []))
     ((folder_file (codes "./a"), Some (dep (Some (codes "m")) (1, 17) (b ∷ []))) ∷ [])
     (Ok (codes "m\na.org v1.0.0 => ./a\nb.org v1.0.0\n"))
+    -- what is opened deeply is so at any depth: a lesser version than that at the top, and what a pruned file at the top
+    -- requires
+    ∷ world (needs (a ∷ b ∷ c_at (codes "v1.2.0") ∷ []))
+    (own a (1, 16) (d ∷ []) ∷ own d (1, 16) (c ∷ b ∷ []) ∷ own b (1, 17) (first (codes "e.org") ∷ [])
+    ∷ plain (first (codes "e.org")) ∷ plain c ∷ plain (c_at (codes "v1.2.0")) ∷ [])
+    (Ok (codes "m\na.org v1.0.0\nb.org v1.0.0\nc.org v1.2.0\nd.org v1.0.0\ne.org v1.0.0\n"))
     -- the main module's own path is opened at the top
     ∷ world (main_of (first (codes "m") ∷ []) [] (path_by (codes "m") (Folder (codes "./own")) ∷ []))
     (folder (codes "./own") (1, 16) (d ∷ []) ∷ plain d ∷ []) (Ok (codes "m\nd.org v1.0.0\n"))
@@ -219,6 +225,9 @@ exclude_worlds =
     ∷ world (main_of (a ∷ []) (b ∷ []) (one_by a (by_module b) ∷ [])) (plain b ∷ [])
     (Ok (codes "m\na.org v1.0.0 => b.org v1.0.0\n"))
     ∷ world (main_of (c ∷ []) (c ∷ []) (one_by c (Folder (codes "./c")) ∷ [])) [] (Ok (codes "m\n"))
+    -- it may be one of the main module's own path
+    ∷ world (main_of (a ∷ []) (first (codes "m") ∷ []) []) (own a (1, 16) (first (codes "m") ∷ []) ∷ [])
+    (Ok (codes "m\na.org v1.0.0\n"))
     -- it counts whatever the go version is
     ∷ world (record (main_of (a ∷ []) (b ∷ []) []) { go = (1, 15) }) (own a (1, 16) (b ∷ []) ∷ [])
     (Ok (codes "m\na.org v1.0.0\n"))
@@ -253,6 +262,12 @@ replace_worlds =
     (plain (c_at (codes "v1.2.0")) ∷ []) (Ok (codes "m\nc.org v1.0.0 => c.org v1.2.0\n"))
     ∷ world (main_of (a ∷ []) [] (path_by a.0 (Folder (codes "/nowhere/a")) ∷ []))
     ((folder_file (codes "/nowhere/a"), None) ∷ []) (Err (codes "a.org@v1.0.0: Missing\n"))
+    ∷ world (main_of (a ∷ []) [] (path_by a.0 (Folder (codes "/tmp/page/a")) ∷ []))
+    (folder (codes "/tmp/page/a") (1, 17) [] ∷ []) (Ok (codes "m\na.org v1.0.0 => /tmp/page/a\n"))
+    -- a folder's file may require a later version of its module
+    ∷ world (main_of (c ∷ []) [] (one_by c (Folder (codes "./c")) ∷ []))
+    (folder (codes "./c") (1, 16) (c_at (codes "v1.2.0") ∷ []) ∷ plain (c_at (codes "v1.2.0")) ∷ [])
+    (Ok (codes "m\nc.org v1.2.0\n"))
     -- a replacing module's file declares a path, which is one of the two
     ∷ world (main_of (a ∷ []) [] (path_by a.0 (by_module b) ∷ [])) (held_as b (dep (Some (codes "m")) (1, 16) []) ∷ [])
     (Err (codes "a.org@v1.0.0: WrongPath\n"))
@@ -307,9 +322,13 @@ path_worlds =
     ∷ world (needs (first (codes "0--1.-y-.z-") ∷ first (codes "1.2") ∷ first (codes "a~b.org") ∷ []))
     (gone (first (codes "0--1.-y-.z-")) ∷ gone (first (codes "1.2")) ∷ [])
     (Err (codes "0--1.-y-.z-@v1.0.0: Missing\n1.2@v1.0.0: Missing\na~b.org@v1.0.0: NotFetchable\n"))
-    -- a module that another one requires is reported, too
-    ∷ world (needs (a ∷ [])) (own a (1, 16) (first (codes "local") ∷ []) ∷ [])
-    (Err (codes "local@v1.0.0: NotFetchable\n"))
+    -- a module that another one requires is reported, too, and a version of the main module; one that is not opened is
+    -- listed
+    ∷ world (needs (a ∷ first (codes "m") ∷ []))
+    (own a (1, 16) (b ∷ first (codes "local") ∷ []) ∷ held_as b (dep (Some d.0) (1, 16) []) ∷ [])
+    (Err (codes "b.org@v1.0.0: WrongPath\nlocal@v1.0.0: NotFetchable\nm@v1.0.0: NotFetchable\n"))
+    ∷ world (needs (a ∷ [])) (own a (1, 17) (first (codes "local") ∷ []) ∷ [])
+    (Ok (codes "m\na.org v1.0.0\nlocal v1.0.0\n"))
     -- a declared path is compared byte by byte, with its major suffix, for a version of the main module, too
     ∷ world (record (needs (first (codes "a.org/x") ∷ mv (codes "a.org/v2") (codes "v2.0.0") ∷ first (codes "b.org/B")
     ∷ c_at (codes "v2.0.0+incompatible") ∷ [])) { path = codes "a.org/x" })

@@ -1,12 +1,12 @@
 -- More worlds, each of which shows one thing that `list` does.
 use Rattle.std.specs.Prelude.{◌≡◌, ◌++◌, ℕ, suc, false, List, [], ◌∷◌, map, Option, Some, None, codes}
 use Rattle.page.specs.Asked.{Name, Reply, absent, bytes, folder_file, mod_file, too_long}
-use Rattle.page.specs.Files.RowFiles.{alone_text, both_text, ends_text, excluding_text, forking_text, going, malformed_text, module_line, one_text, path_of, replacing_text, requiring, three_text, two_text, unfetchable_text, folders_text, greater_text, hosts_text, late_text, later_text, lesser_text, many_text, nine_text, unknown_text, full_file, most_opened, one_file, versions_below, wide_text}
+use Rattle.page.specs.Files.RowFiles.{alone_text, both_text, corp_file, ends_text, excluding_text, forking_text, going, malformed_text, module_line, one_text, path_of, replacing_text, requiring, three_text, two_text, unfetchable_text, folders_text, greater_text, hosts_text, late_text, later_text, lesser_text, many_text, nine_text, unknown_text, full_file, most_opened, one_file, versions_below, wide_text}
 use Rattle.page.specs.ListQuery.{ListEnds}
 use Rattle.page.specs.ModuleVersion.{ModuleVersion}
 use Rattle.page.specs.Reading.{declares}
 use Rattle.page.specs.Run.{AreTooMany, run_of}
-use Rattle.page.specs.Types.{first_text, sums_text, twice_text}
+use Rattle.page.specs.Types.{first_text, fork_text, sums_text, twice_text}
 use Rattle.page.specs.Worlds.{HasNoOutcome, failing, failing_with, given_by, given_with, printing, reporting}
 
 -- the text is printed
@@ -39,9 +39,10 @@ a_bare = bare_answer (codes "a") (codes "v1.0.0")
 
 -- ---- rows
 
--- A main file that requires nothing.
-abbrev pub MainAloneIsListed : Type 0
-MainAloneIsListed = IsListedAs alone_text [] (codes "example.com/m\n")
+-- A main file that requires nothing. No row follows that of the main module.
+pub record MainAloneIsListed : Type 0 where
+  pub whole : IsListedAs alone_text [] (codes "example.com/m\n")
+  pub after : ListEnds (Some (codes "example.com/m")) None (given_by alone_text []) (printing [])
 
 -- A main file of no bytes has no module line, and an unknown directive may stand on a late line. In such a run no file
 -- was asked for, and the device failed on none.
@@ -141,11 +142,13 @@ malformed_report =
     codes "example.com/b@v1.0.0: Malformed 3 WrongArguments\nexample.com/c@v1.0.0: Missing\n"
 
 -- A malformed file has a line and a kind, and is a fault even of a version that has no row; so is a missing file.
--- A folder's file may be malformed, too.
+-- A folder's file may be malformed, too, or too long.
 pub record MalformedIsReported : Type 0 where
   pub both : IsReportedAs three_text malformed_answers malformed_report
   pub folder : IsReportedAs replacing_text ((folder_file (codes "../local"), bytes malformed_text) ∷ [])
       (codes "local@v0.0.0: Malformed 3 WrongArguments\n")
+  pub long : IsReportedAs replacing_text ((folder_file (codes "../local"), too_long) ∷ [])
+      (codes "local@v0.0.0: TooLong\n")
   -- all faults are reported, whatever the limit is, and whether the path is listed or not
   pub limited : ListEnds None (Some 1) (given_by three_text malformed_answers) (reporting malformed_report)
   pub after : ListEnds (Some (codes "example.com/q")) None (given_by three_text malformed_answers) (reporting
@@ -238,13 +241,20 @@ abbrev pub HostsAreReported : Type 0
 HostsAreReported = IsReportedAs hosts_text ((mod_file (codes "a-1.org") (codes "v1.0.0"), absent) ∷ [])
     (codes "-a.org@v1.0.0: NotFetchable\nA.org@v1.0.0: NotFetchable\na-1.org@v1.0.0: Missing\n")
 
--- The device fails on the file of a folder, of a module that replaces others, or after a fault was found. It can't fail
--- on a file that was answered.
+abbrev pub first_answers : List (Name × Reply)
+first_answers = answer (codes "a") (going (codes "a") (codes "1.16") (codes "c") (codes "v1.0.0")) ∷ []
+
+-- The device fails on the file of a folder, of a module that replaces others or that another one requires, before another
+-- file was asked for, or after a fault was found. It can't fail on a file that was answered.
 pub record FolderDeviceIsReported : Type 0 where
   pub folder : ListEnds None None (failing replacing_text [] (folder_file (codes "../local"))) (failing_with
       (codes "gomod: device at ../local\n"))
   pub fork : ListEnds None None (failing forking_text [] fork_name) (failing_with
       (codes "gomod: device at example.com/fork@v1.1.0\n"))
+  pub deep : ListEnds None None (failing one_text first_answers (name_at (codes "c") (codes "v1.0.0"))) (failing_with
+      (codes "gomod: device at example.com/c@v1.0.0\n"))
+  pub first : ListEnds None None (failing two_text [] a_name) (failing_with
+      (codes "gomod: device at example.com/a@v1.0.0\n"))
   pub late : ListEnds None None (failing two_text ((a_name, absent) ∷ []) (name_at (codes "b") (codes "v1.0.0")))
       (failing_with (codes "gomod: device at example.com/b@v1.0.0\n"))
   pub answered : HasNoOutcome (failing one_text (a_bare ∷ []) a_name)
@@ -299,13 +309,17 @@ pub record SumsAreReported : Type 0 where
       (codes "example.com/a@v1.0.0: Missing\nexample.com/b@v1.0.0: Missing\n"))
   pub long : ListEnds None None (given_with two_text (Some sums_text) two_long) (reporting
       (codes "example.com/a@v1.0.0: TooLong\nexample.com/b@v1.0.0: TooLong\n"))
-  -- the file of a module that replaces others needs a line, too, and that of a version without a row; a wrong path comes
-  -- later; a go.sum may have no lines
+  -- the file of a module that replaces others needs a line, and no other one; so does that of a version without a row; a
+  -- wrong path and a malformed file come later; a go.sum may have no lines
   pub fork : ListEnds None None (given_with forking_text (Some sums_text) fork_answers) (reporting
       (codes "example.com/a@v1.0.0: NoSum\nexample.com/fork@v1.1.0: NoSum\n"))
+  pub fork_alone : ListEnds None None (given_with forking_text (Some fork_text) fork_answers) (printing
+      (codes "example.com/m\nexample.com/a v1.0.0 => example.com/fork v1.1.0\nexample.com/fork v1.1.0\n"))
   pub lower : ListEnds None None (given_with three_text (Some first_text) lower_answers) (reporting
       (codes "example.com/b@v1.0.0: NoSum\nexample.com/b@v1.1.0: NoSum\nexample.com/c@v1.0.0: NoSum\n"))
   pub none : ListEnds None None (given_with one_text (Some []) (a_bare ∷ [])) (reporting
+      (codes "example.com/a@v1.0.0: NoSum\n"))
+  pub malformed : ListEnds None None (given_with one_text (Some []) (answer (codes "a") malformed_text ∷ [])) (reporting
       (codes "example.com/a@v1.0.0: NoSum\n"))
 
 -- No file of these modules is there.
@@ -316,11 +330,12 @@ all_absent = map (λ (x : ModuleVersion). (mod_file x.0 x.1, absent))
 abbrev pub wide_answers : List (Name × Reply)
 wide_answers = answer (codes "a") wide_text ∷ []
 
--- A main file requires one module too many, whether files were asked for or not, and one as many as may be opened. A
--- pruned file may require more. An invalid go.sum is reported first.
+-- A main file requires one module too many, whether files were asked for or may not be, and one as many as may be opened.
+-- A pruned file may require more. An invalid go.sum is reported first.
 pub record TooManyAreReported : Type 0 where
   pub over : IsReportedAs many_text [] (codes "gomod: TooMany\n")
   pub asked : IsReportedAs many_text (all_absent (versions_below (suc most_opened))) (codes "gomod: TooMany\n")
+  pub corp : AreTooMany (run_of corp_file None [])
   pub full : AreTooMany (run_of full_file None []) → ⊥
   pub unopened : AreTooMany (run_of one_file None wide_answers) → ⊥
   pub sums : ListEnds None None (given_with many_text (Some (codes "a b\n")) []) (reporting
