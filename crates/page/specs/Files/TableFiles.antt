@@ -143,7 +143,7 @@ go_worlds =
     ∷ world (main_of (a ∷ []) [] (path_by a.0 (Folder (codes "./a")) ∷ []))
     ((folder_file (codes "./a"), Some (dep (Some (codes "m")) (1, 17) (b ∷ []))) ∷ [])
     (Ok (codes "m\na.org v1.0.0 => ./a\nb.org v1.0.0\n"))
-    -- what is opened deeply is so at any depth: a lesser version than that at the top, and what a pruned file at the top
+    -- what is opened deeply is so at any depth: a version below that at the top, and what a pruned file at the top
     -- requires
     ∷ world (needs (a ∷ b ∷ c_at (codes "v1.2.0") ∷ []))
     (own a (1, 16) (d ∷ []) ∷ own d (1, 16) (c ∷ b ∷ []) ∷ own b (1, 17) (first (codes "e.org") ∷ [])

@@ -244,8 +244,8 @@ HostsAreReported = IsReportedAs hosts_text ((mod_file (codes "a-1.org") (codes "
 abbrev pub first_answers : List (Name × Reply)
 first_answers = answer (codes "a") (going (codes "a") (codes "1.16") (codes "c") (codes "v1.0.0")) ∷ []
 
--- The device fails on the file of a folder, of a module that replaces others or that another one requires, before another
--- file was asked for, or after a fault was found. It can't fail on a file that was answered.
+-- The device fails on the file of a folder, of a module that replaces others or that another one requires, before
+-- another file was asked for, or after a fault was found. It can't fail on a file that was answered.
 pub record FolderDeviceIsReported : Type 0 where
   pub folder : ListEnds None None (failing replacing_text [] (folder_file (codes "../local"))) (failing_with
       (codes "gomod: device at ../local\n"))
@@ -309,8 +309,8 @@ pub record SumsAreReported : Type 0 where
       (codes "example.com/a@v1.0.0: Missing\nexample.com/b@v1.0.0: Missing\n"))
   pub long : ListEnds None None (given_with two_text (Some sums_text) two_long) (reporting
       (codes "example.com/a@v1.0.0: TooLong\nexample.com/b@v1.0.0: TooLong\n"))
-  -- the file of a module that replaces others needs a line, and no other one; so does that of a version without a row; a
-  -- wrong path and a malformed file come later; a go.sum may have no lines
+  -- the file of a module that replaces others needs a line, and no other one; so does that of a version without a row;
+  -- a wrong path and a malformed file come later; a go.sum may have no lines
   pub fork : ListEnds None None (given_with forking_text (Some sums_text) fork_answers) (reporting
       (codes "example.com/a@v1.0.0: NoSum\nexample.com/fork@v1.1.0: NoSum\n"))
   pub fork_alone : ListEnds None None (given_with forking_text (Some fork_text) fork_answers) (printing
@@ -330,8 +330,8 @@ all_absent = map (λ (x : ModuleVersion). (mod_file x.0 x.1, absent))
 abbrev pub wide_answers : List (Name × Reply)
 wide_answers = answer (codes "a") wide_text ∷ []
 
--- A main file requires one module too many, whether files were asked for or may not be, and one as many as may be opened.
--- A pruned file may require more. An invalid go.sum is reported first.
+-- A main file requires one module too many, whether files were asked for or may not be, and one as many as may be
+-- opened. A pruned file may require more. An invalid go.sum is reported first.
 pub record TooManyAreReported : Type 0 where
   pub over : IsReportedAs many_text [] (codes "gomod: TooMany\n")
   pub asked : IsReportedAs many_text (all_absent (versions_below (suc most_opened))) (codes "gomod: TooMany\n")
