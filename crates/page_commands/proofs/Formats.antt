@@ -43,8 +43,8 @@ lines_are_laid_out = all_so IsTold Holds told_so lines_worlds (refl, (refl, (ref
 
 pub words_are_laid_out : WordsAreLaidOut
 unfolding on_literals
-words_are_laid_out = all_so IsTold Holds told_so words_worlds (refl, (refl, (refl, (refl, tt))))
+words_are_laid_out = all_so IsTold Holds told_so words_worlds (refl, (refl, (refl, (refl, (refl, (refl, (refl, tt)))))))
 
 pub syntax_is_reported : SyntaxIsReported
 unfolding on_literals
-syntax_is_reported = all_so IsTold Holds told_so fault_worlds (refl, (refl, (refl, (refl, (refl, (refl, (refl, (refl, (refl, (refl, (refl, (refl, tt))))))))))))
+syntax_is_reported = all_so IsTold Holds told_so fault_worlds (refl, (refl, (refl, (refl, (refl, (refl, (refl, (refl, (refl, (refl, (refl, (refl, (refl, (refl, (refl, (refl, (refl, tt)))))))))))))))))

@@ -256,7 +256,7 @@ told_so w is = by_answer w.answers w.ends w.all (answer_in w.answers (list_file 
 
 pub lists_are_read : ListsAreRead
 unfolding on_literals
-lists_are_read = all_so IsTold Holds told_so list_worlds (refl, (refl, (refl, (refl, (refl, (refl, (refl, (refl, (refl, (refl, tt))))))))))
+lists_are_read = all_so IsTold Holds told_so list_worlds (refl, (refl, (refl, (refl, (refl, (refl, (refl, (refl, (refl, (refl, (refl, (refl, tt))))))))))))
 
 pub retracted_are_left_out : RetractedAreLeftOut
 unfolding on_literals

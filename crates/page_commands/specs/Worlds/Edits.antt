@@ -42,6 +42,8 @@ require_worlds =
     (codes "require a.b v1.2.0 // indirect\n")
     ∷ after_module (codes "require=a.b@v1.0.0") (codes "require a.b v1.2.0\nrequire a.b/c v1.0.0\n")
     (codes "require a.b v1.0.0\nrequire a.b/c v1.0.0\n")
+    -- a path in quotes is the same
+    ∷ after_module (codes "require=a.b@v1.2.0") (codes "require \"a.b\" `v1.0.0`\n") (codes "require \"a.b\" v1.2.0\n")
     -- each operation is applied to what those before it left
     ∷ world (codes "require=a.b@v1.0.0" ∷ codes "droprequire=a.b" ∷ codes "require=c.d@v1.0.0" ∷ [])
     (codes "module m\n") (prints (codes "module m\n\nrequire c.d v1.0.0\n"))
@@ -66,6 +68,8 @@ drop_worlds =
     ∷ after_module (codes "droprequire=a.b") (codes "require (\n\ta.b v1.0.0\n) // c\n") (codes "require (\n) // c\n")
     -- one that was empty stays
     ∷ after_module (codes "droprequire=a.b") (codes "require (\n)\nrequire a.b v1.0.0 // c\n") (codes "require (\n)\n")
+    -- a path in quotes is the same
+    ∷ after_module (codes "droprequire=a.b") (codes "require \"a.b\" v1.0.0\nrequire (\n\t`a.b` v1.1.0\n)\n") []
     -- no other path goes, and nothing if there is none
     ∷ after_module (codes "droprequire=a.b") (codes "require  a.b/c v1.0.0\n") (codes "require a.b/c v1.0.0\n")
     -- exactly this pair, and exactly this interval
@@ -113,6 +117,9 @@ other_worlds =
     (prints (codes "// c\nmodule (\n\tm\n)\n\ngo 1.21rc1\nrequire a.b v1.0.0\n"))
     ∷ after_module (codes "go=1.21.3") (codes "go 1.17 // c\n") (codes "go 1.21.3 // c\n")
     ∷ after_module (codes "go=1.21") (codes "go 1.17 // c\n") (codes "go 1.21 // c\n")
+    -- each number of a go version may have nine digits, the second one may be 0, and letters and digits may end it
+    ∷ after_module (codes "go=1.999999999") [] (codes "\ngo 1.999999999\n")
+    ∷ after_module (codes "go=10.0.1rc1") [] (codes "\ngo 10.0.1rc1\n")
     ∷ world (codes "module=a.b" ∷ []) (codes "module (\n\t\"m\" // c\n)\n") (prints (codes "module (\n\ta.b // c\n)\n"))
     ∷ []
 
@@ -130,6 +137,7 @@ refused_worlds =
     ∷ refused (codes "Require=a.b@v1.0.0") (codes "Spelling")
     ∷ refused (codes "droprequire=a.b@v1.0.0") (codes "Spelling")
     ∷ refused (codes "go=v1.21") (codes "Spelling")
+    ∷ refused (codes "go=1.21RC1") (codes "Spelling")
     ∷ refused (codes "replace=a.b=c.d") (codes "Spelling")
     ∷ refused (codes "replace=a.b=.x") (codes "Spelling")
     ∷ refused (codes "module=.a") (codes "Spelling")
@@ -188,6 +196,7 @@ replace_fault_worlds =
     ∷ misread (codes "module m\ngo 1.1000000000\n") (codes "2: BadGo")
     ∷ misread (codes "module m\ngo 1.17.1.1\n") (codes "2: BadGo")
     ∷ misread (codes "module m\ngo 1.17x\n") (codes "2: BadGo")
+    ∷ misread (codes "module m\ngo 1.17rc1x\n") (codes "2: BadGo")
     -- a fault of the text comes first
     ∷ misread (codes "foo\n{\n") (codes "2: BadByte")
     ∷ []

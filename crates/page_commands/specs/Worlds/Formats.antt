@@ -53,6 +53,11 @@ words_worlds =
     (codes "module \"m\"\nreplace `a  b` => \"./x  \\\"\\\\\"\n")
     -- `=>` begins a word, and is part of one that it doesn't begin
     ∷ laid (codes "replace a=>b =>c\n") (codes "replace a=>b => c\n")
+    -- a carriage return is a blank; beside a string no blank is needed, nor in a string or a comment anything is wrong
+    ∷ laid (codes "a\rb\n") (codes "a b\n")
+    ∷ laid (codes "\"a\"\"b\"c\n") (codes "\"a\" \"b\" c\n")
+    ∷ laid (codes "a \"// x /* y {\" `{ \\ \" // /*` // { /* \" `\n")
+    (codes "a \"// x /* y {\" `{ \\ \" // /*` // { /* \" `\n")
     -- an opening needs no space; a word ends where a comment begins
     ∷ laid (codes "require(\nhttps://a.b v1\n)\n") (codes "require (\n\thttps: //a.b v1\n)\n")
     ∷ []
@@ -72,6 +77,12 @@ fault_worlds =
     ∷ faulty (codes "module \"m\n") (codes "go.mod:1: OpenString\n")
     ∷ faulty (codes "module \"\\n\"\n") (codes "go.mod:1: BadEscape\n")
     ∷ faulty (codes "\nmodule m /* x */\n") (codes "go.mod:2: BlockComment\n")
+    -- control bytes, a closing brace, and a quote after a byte of a word
+    ∷ faulty (11 ∷ []) (codes "go.mod:1: BadByte\n")
+    ∷ faulty (97 ∷ 127 ∷ []) (codes "go.mod:1: BadByte\n")
+    ∷ faulty (codes "}\n") (codes "go.mod:1: BadByte\n")
+    ∷ faulty (codes "module a\"b\"\n") (codes "go.mod:1: BadByte\n")
+    ∷ faulty (codes "module a`b`\n") (codes "go.mod:1: BadByte\n")
     ∷ faulty (255 ∷ []) (codes "go.mod:0: NotUtf8\n")
     ∷ []
 

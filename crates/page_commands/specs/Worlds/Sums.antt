@@ -50,6 +50,8 @@ hash_worlds =
     ∷ of_a (sum_line (codes "example.com/b v1.0.0/go.mod") hash_a) Unlisted
     ∷ of_a (sum_line (codes "example.com/a/b v1.0.0/go.mod") hash_a) Unlisted
     ∷ of_a (sum_line (codes "example.com/a v1.0.1/go.mod") hash_a) Unlisted
+    ∷ of_a (sum_line (codes "example.com/a v1.0.0/go.modx") hash_a) Unlisted
+    ∷ of_a (sum_line (codes "example.com/A v1.0.0/go.mod") hash_a) Unlisted
     -- another hash, alone, before or after the right one; the right one twice
     ∷ of_a (own hash_b) Differs
     ∷ of_a (own hash_a ++ own hash_b) Differs
@@ -57,6 +59,7 @@ hash_worlds =
     ∷ of_a (own hash_a ++ own hash_a) Good
     -- hashes of other kinds don't count
     ∷ of_a (own (codes "h2:x")) Unlisted
+    ∷ of_a (own (codes "H1:x")) Unlisted
     ∷ of_a (own (codes "h2:x") ++ own hash_a) Good
     ∷ of_a (own (codes "h1:")) Differs
     -- blanks between and around fields, blank lines, a last line without a line feed

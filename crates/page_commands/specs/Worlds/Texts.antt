@@ -17,13 +17,14 @@ abbrev pub module_paths : List (List ℕ)
 module_paths =
     codes "m" ∷ codes "example.com/m" ∷ codes "example.com/A-b.c_d~e" ∷ codes "a~b/c" ∷ codes "1/2"
     -- a suffix is a number from 2 on; one element alone has none
-    ∷ codes "a.b/v2" ∷ codes "a.b/v10" ∷ codes "v2" ∷ codes "v1" ∷ codes "a.b/v2/c" ∷ codes "a.b/vx" ∷ codes "a.b/v2x"
-    ∷ codes "a.b/xv1"
+    ∷ codes "a.b/v2" ∷ codes "a.b/v10" ∷ codes "a.b/v18446744073709551615" ∷ codes "v2" ∷ codes "v1"
+    ∷ codes "a.b/v2/c" ∷ codes "a.b/vx" ∷ codes "a.b/v2x" ∷ codes "a.b/xv1"
     -- below gopkg.in a path ends in `.v0`, `.vN` or `.vN-unstable`
     ∷ codes "gopkg.in/a.v0" ∷ codes "gopkg.in/a/b.v12" ∷ codes "gopkg.in/a.v1-unstable" ∷ codes "gopkg.in"
     ∷ codes "gopkg.inx/a"
     -- names like those of devices
-    ∷ codes "com" ∷ codes "com0" ∷ codes "com10" ∷ codes "a.con" ∷ codes "console" ∷ codes "a~" ∷ codes "a.b~1" ∷ []
+    ∷ codes "com" ∷ codes "com0" ∷ codes "com10" ∷ codes "a.con" ∷ codes "console" ∷ codes "a~" ∷ codes "a.b~1" ∷ codes "a~b1"
+    ∷ []
 
 abbrev pub other_texts : List (List ℕ)
 other_texts =
@@ -124,10 +125,10 @@ pub record NamesAreTold : Type 0 where
   -- Upper-case letters are escaped, and nothing else.
   pub escaped : escaped_text (codes "Az.Z/a-B!_~1") ≡ codes "!az.!z/a-!b!_~1"
   pub files : map relative_text (mod_file (codes "a.b/C") (codes "v1.0.0-RC") ∷ list_file (codes "a.b/C")
-      ∷ folder_file (codes "../A") ∷ folder_file (codes "./a/") ∷ folder_file (codes "/") ∷ folder_file [] ∷ [])
-      ≡ codes "a.b/!c/@v/v1.0.0-!r!c.mod" ∷ codes "a.b/!c/@v/list" ∷ codes "../A/go.mod" ∷ codes "./a/go.mod"
-      ∷ codes "/go.mod"
-      ∷ codes "/go.mod" ∷ []
+      ∷ folder_file (codes "../A") ∷ folder_file (codes "..") ∷ folder_file (codes "./a/") ∷ folder_file (codes "/")
+      ∷ folder_file [] ∷ mod_file (codes "a.b") (codes "v2.0.0+incompatible") ∷ [])
+      ≡ codes "a.b/!c/@v/v1.0.0-!r!c.mod" ∷ codes "a.b/!c/@v/list" ∷ codes "../A/go.mod" ∷ codes "../go.mod"
+      ∷ codes "./a/go.mod" ∷ codes "/go.mod" ∷ codes "/go.mod" ∷ codes "a.b/@v/v2.0.0+incompatible.mod" ∷ []
 
 -- Hashes of a file and of one with a carriage return, as go 1.19.8 writes them into a go.sum, and that of an empty one.
 abbrev pub HashesAreTold : Type 0

@@ -70,7 +70,11 @@ list_worlds =
     -- no pseudo-version of the three forms, with a build or not
     ∷ all_of (codes "v0.0.0-20200101000000-abcdefabcdef\nv1.0.0-rc.1.0.20200101000000-a\nv1.0.0\n") (codes " v1.0.0")
     ∷ all_of (codes "v1.0.1-0.20200101000000-0\nv2.0.1-0.20200101000000-a+incompatible\nv1.0.0\n") (codes " v1.0.0")
-    -- no pseudo-versions: thirteen digits, a dash in the revision, a minor number without a front, `0.` without a patch
+    -- any major number, and any letters and digits as a revision
+    ∷ all_of (codes "v1.0.0-20200101000000-a\nv0.0.0-20200101000000-XYZ9\nv0.1.0\n") (codes " v0.1.0")
+    -- no pseudo-versions: fifteen digits
+    ∷ all_of (codes "v0.0.0-202001010000000-a\n") (codes " v0.0.0-202001010000000-a")
+    -- thirteen digits, a dash in the revision, a minor number without a front, `0.` without a patch
     -- number, a front that doesn't end in `.0.`
     ∷ all_of (codes "v0.0.0-2020010100000-a\nv0.0.0-20200101000000-a-b\n")
     (codes " v0.0.0-2020010100000-a v0.0.0-20200101000000-a-b")
