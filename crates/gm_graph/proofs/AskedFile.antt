@@ -1,5 +1,5 @@
 -- What is asked for is the file of a vertex.
-use Rattle.std.proofs.Common.{◌≡◌, ◌∙◌, List, [], ◌∷◌, Option, None, Some, Result, Ok, Err, ap, refl, sym, inl, inr}
+use Rattle.std.proofs.Common.{◌≡◌, ◌∙◌, List, [], ◌∷◌, Option, None, Some, Result, Ok, Err, ap, append-nil, refl, sym, inl, inr}
 use Rattle.std.specs.Prelude.{IsErrAnd, IsSome, IsSomeAnd}
 use Rattle.gm_name.specs.ModuleVersion.{ModuleVersion}
 use Rattle.gm_store.specs.Asked.{Name, Reply, answer_in, name_of}
@@ -8,7 +8,7 @@ use Rattle.gm_store.specs.States.{StoreState}
 use Rattle.gm_store.specs.declared.files.AskFault.{AskFault}
 use Rattle.gm_store.specs.declared.files.AskFault.TheVariants as ask
 use Rattle.gm_store.specs.declared.files.FileName.{FileName}
-use Rattle.gm_store.proofs.Serving.{request_served}
+use Rattle.gm_store.proofs.Serving.{nothing_served, request_served}
 use Rattle.gm_graph.specs.Asking.{AsksFor, StillLacks}
 use Rattle.gm_graph.specs.Private.Asking.{AsksOne, IsAskableFile, IsLoadFaultOf}
 use Rattle.gm_graph.specs.Refusals.{refused_names}
@@ -39,6 +39,15 @@ module _ {before after : Name → Option Reply → Type 0} (old new : StoreState
       only_refused : (fault : AskFault) (n : Name) → refused_for {T = Unit {0}} name (Err fault) ≡ n ∷ [] → name ≡ n
       only_refused ask.NoMemory n e = absurd (cc e)
       only_refused ask.Device n e = cc e
+
+-- Nothing was asked for.
+pub asks_nothing : {A : Name → Type 0} {may : Name → Option Reply → Type 0} {state : StoreState} → AsksOne A may may state state []
+asks_nothing {A} {may} {state} = record {
+  asks = inl refl;
+  device = λ name e. absurd (cc e);
+  refused = sym (append-nil state.refused);
+  served = nothing_served may state;
+}
 
 -- ---- the same, said of other names, and of another refusal
 
@@ -74,6 +83,11 @@ module _ {A : Name → Type 0} {before after : Name → Option Reply → Type 0}
       → AsksOne A before after old new [] → AsksOne A before after old new (refused_for name result)
   asks_still name (Ok value) given one = absurd given
   asks_still name (Err fault) given one = rw given one
+
+-- Out of memory is no failure of the device.
+pub never_device : {T P : Type 0} (result : Result T AskFault) → IsErrAnd result (λ fault. fault ≡ ask.NoMemory) → result ≡ Err ask.Device → P
+never_device (Ok value) given e = absurd given
+never_device (Err fault) given e = absurd (cc (given, e))
 
 -- It is that of an equal vertex's file.
 pub asks_same : {before after : Name → Option Reply → Type 0} {old new : StoreState} {failed names : List Name}

@@ -1,5 +1,5 @@
 -- The files of modules in a cache, and what was added of them.
-use Rattle.std.proofs.Common.{◌≡◌, ◌∙◌, ◌<◌, ℕ, arith, true, Option, None, Some, Result, Ok, Err, ap, inl, inr, length, refl, sym}
+use Rattle.std.proofs.Common.{◌≡◌, ◌∙◌, ◌<◌, ◌≤◌, ◌+◌, ◌++◌, ◌∷◌, ◌⊎◌, [], ℕ, arith, true, Option, None, Some, Result, Ok, Err, ap, inl, inr, length, length-append, refl, sym}
 use Rattle.std.specs.Prelude.{OnErr, OnOk, slice_get}
 use Rattle.std.specs.Option.{option_and_then}
 use Rattle.std.proofs.lemmas.Option.{slice_get_cases}
@@ -9,6 +9,7 @@ use Rattle.gm_name_table.specs.OptionalPlaces.{place_in}
 use Rattle.gm_name_table.specs.declared.place.OptionalPlace.{OptionalPlace}
 use Rattle.gm_store.specs.Asked.{Name}
 use Rattle.gm_graph.specs.declared.cache.file_table.FileTable.{FileTable}
+use Rattle.gm_graph.specs.declared.cache.summary.Kept.{Kept}
 use Rattle.gm_graph.specs.declared.cache.Cache.{Cache}
 use Rattle.gm_file.specs.Main.{Main}
 use Rattle.gm_graph.specs.Cached.{main_in, summary_at, table_in}
@@ -78,3 +79,14 @@ pub noted_again : {T E : Type 0} (cache : Cache) (new : FileTable) (number place
     → OnErr r ((k : ℕ) → place_noted new k ≡ place_noted cache.files k) → NotesFiles (main_in cache) (table_in cache) new
 noted_again cache new number place (Ok t) is others ok err = notes_again others number place ok is cache.consistent.notes
 noted_again cache new number place (Err e) is others ok err = notes_kept others err cache.consistent.notes
+
+-- ---- how many files are kept
+
+pub same_count : {old new : FileTable} → KeepsOthers old new → length new.files.items ≤ length old.files.items + 1
+same_count others = rw others.files (omega arith)
+
+pub one_more_file : {old mid : FileTable} (new : FileTable) (kept : Kept) → mid ≡ old
+    → (new.files.items ≡ mid.files.items) ⊎ (new.files.items ≡ mid.files.items ++ kept ∷ [])
+    → length new.files.items ≤ length old.files.items + 1
+one_more_file {old} {mid} new kept same (inl e) = rw (e, same) (omega arith)
+one_more_file {old} {mid} new kept same (inr e) = rw (e, same) (omega (arith, length-append old.files.items (kept ∷ [])))

@@ -1,13 +1,18 @@
-use Rattle.std.proofs.Common.{◌≡◌, ◌∙◌, ◌∷◌, [], None, ap, length, refl, subst, sym}
+use Rattle.std.proofs.Common.{◌≡◌, ◌∙◌, ◌∷◌, [], ℕ, Err, None, Option, ap, arith, length, refl, subst, sym}
 use Rattle.gm_file.specs.Main.{Main}
-use Rattle.gm_store.specs.Asked.{name_of}
+use Rattle.gm_store.specs.Asked.{Name, name_of}
+use Rattle.gm_store.specs.Requests.{refused_for}
+use Rattle.gm_graph.specs.declared.cache.file_table.FileTable.{FileTable}
+use Rattle.gm_graph.specs.declared.cache.summary.Kept.{Kept}
+use Rattle.gm_graph.specs.Private.Asking.{IsAskableFile}
 use Rattle.gm_graph.specs.Private.FileTable.{IsNewFile, IsPlacedAt}
 use Rattle.gm_graph.specs.Cached.{main_in, summary_at, sums_in, table_in}
 use Rattle.gm_graph.specs.Private.Cached.{module_numbered}
 use Rattle.gm_graph.specs.Reading.{file_of, is_askable}
+use Rattle.gm_graph.proofs.AskedFile.{asks_by, asks_nothing, asks_passed, asks_still, asks_wider, never_device}
 use Rattle.gm_graph.proofs.Growing.{number_below, number_stays}
 use Rattle.gm_graph.proofs.Keeping.{any_err, follows_same, holds_after, holds_beside, holds_itself, holds_listed, holds_noted, says_later}
-use Rattle.gm_graph.proofs.OwnFiles.{new_file, noted_again, nothing_kept, placed_file, placed_still, replacing_at}
+use Rattle.gm_graph.proofs.OwnFiles.{new_file, noted_again, nothing_kept, one_more_file, placed_file, placed_still, replacing_at, same_count}
 use Rattle.gm_graph.proofs.PuttingPlaces.{same_files}
 use Rattle.gm_graph.proofs.SharedLists.{listed_push}
 use Rattle.gm_graph.proofs.HeldFiles.{added_some, kept_some}
@@ -19,6 +24,11 @@ use Rattle.gm_graph.proofs.MoreAnswers.{knows_read, none_still, not_asked, sound
 use Rattle.gm_graph.proofs.cache.Cache.known_at.Given.{Over}
 use Rattle.gm_graph.proofs.cache.Cache.known_at.Goals as goal
 use Rattle.gm_graph.proofs.cache.Cache.known_at.Goals.{After-add, In_default-replacing_place, In-Some-replacing_place}
+
+-- the name is that of the vertex's file
+named : (g : Over) (c : In_default-replacing_place g)
+    → name_of c.in_ok-name.name ≡ file_of (main_in c.args.self.now) (module_numbered c.args.self.now c.args.number)
+named g c = c.in_ok-name.ensures ∙ ap (file_of (main_in c.args.self.now)) c.module.ensures.module
 
 -- nothing is kept of the file yet
 nothing : (g : Over) (c : In_default-replacing_place g) → summary_at c.args.self.now (name_of c.in_ok-name.name) ≡ None
@@ -75,6 +85,97 @@ invariant_of-self-in-Ok g c =
       notes = has_added files c.add.new.self.files.items kept c.add.ensures.files
           (λ all. NotesAll mid.lists (own_lists mid.modules.numbers all)) mid.notes (rw c.read_file.ensures.files c.in-Ok.ensures.next);
     }
+
+-- ---- what is asked for
+
+-- The name that is asked for is that of the vertex's file.
+of_vertex : (g : Over) (c : In_default-replacing_place g) (name : Name) → name ≡ name_of c.in_ok-name.name
+    → IsAskableFile (main_in c.args.self.now) (module_numbered c.args.self.now c.args.number) name
+of_vertex g c name is = (is ∙ named g c, ap is_askable is ∙ sym c.is_askable.ensures ∙ c.if-not-is_askable.false)
+
+pub returns-in-Some-clause-asks : goal.returns-in-Some-clause-asks
+returns-in-Some-clause-asks g c = asks_nothing
+
+pub returns-in_err-name-clause-asks : goal.returns-in_err-name-clause-asks
+returns-in_err-name-clause-asks g c = asks_still _ c.from_residual.result c.from_residual.ensures.1 asks_nothing
+
+pub returns-then-not-is_askable-clause-asks : goal.returns-then-not-is_askable-clause-asks
+returns-then-not-is_askable-clause-asks g c = asks_nothing
+
+pub returns-in_err-note-clause-asks : goal.returns-in_err-note-clause-asks
+returns-in_err-note-clause-asks g c =
+    asks_still _ c.from_residual-in_err-note.result c.from_residual-in_err-note.ensures.1 asks_nothing
+
+pub returns-in-Some-replacing_place-clause-asks : goal.returns-in-Some-replacing_place-clause-asks
+returns-in-Some-replacing_place-clause-asks g c = asks_nothing
+
+pub returns-in_ok-add-in-Ok-clause-asks : goal.returns-in_ok-add-in-Ok-clause-asks
+returns-in_ok-add-in-Ok-clause-asks g c =
+    asks_wider (of_vertex g (goal.at.returns-in_ok-add-in-Ok-clause-asks g c).In_default-replacing_place) c.in-Ok.ensures.asks
+
+pub returns-in_err-add-in-Ok-clause-asks : goal.returns-in_err-add-in-Ok-clause-asks
+returns-in_err-add-in-Ok-clause-asks g c =
+    asks_still _ c.from_residual-in_err-add-in-Ok.result c.from_residual-in_err-add-in-Ok.ensures.1
+    (asks_wider (of_vertex g (goal.at.returns-in_err-add-in-Ok-clause-asks g c).In_default-replacing_place) c.in-Ok.ensures.asks)
+
+pub returns-in-Err-clause-asks : goal.returns-in-Err-clause-asks
+returns-in-Err-clause-asks g c =
+    let at = (goal.at.returns-in-Err-clause-asks g c).In_default-replacing_place in
+    asks_by (ap (λ (n : Name). refused_for {T = Option ℕ} n (Err c.in-Err.fault)) (named g at))
+    (asks_passed Kept {T = Option ℕ} _ c.in-Err.fault (Err c.in-Err.fault) refl (asks_wider (of_vertex g at) c.in-Err.ensures.asks))
+
+-- ---- which file failed
+
+pub returns-in-Some-clause-failed : goal.returns-in-Some-clause-failed
+returns-in-Some-clause-failed g c = λ e. absurd (cc e)
+
+pub returns-in_err-name-clause-failed : goal.returns-in_err-name-clause-failed
+returns-in_err-name-clause-failed g c = never_device c.from_residual.result c.from_residual.ensures.1
+
+pub returns-then-not-is_askable-clause-failed : goal.returns-then-not-is_askable-clause-failed
+returns-then-not-is_askable-clause-failed g c = λ e. absurd (cc e)
+
+pub returns-in_err-note-clause-failed : goal.returns-in_err-note-clause-failed
+returns-in_err-note-clause-failed g c = never_device c.from_residual-in_err-note.result c.from_residual-in_err-note.ensures.1
+
+pub returns-in-Some-replacing_place-clause-failed : goal.returns-in-Some-replacing_place-clause-failed
+returns-in-Some-replacing_place-clause-failed g c = λ e. absurd (cc e)
+
+pub returns-in_ok-add-in-Ok-clause-failed : goal.returns-in_ok-add-in-Ok-clause-failed
+returns-in_ok-add-in-Ok-clause-failed g c = λ e. absurd (cc e)
+
+pub returns-in_err-add-in-Ok-clause-failed : goal.returns-in_err-add-in-Ok-clause-failed
+returns-in_err-add-in-Ok-clause-failed g c =
+    never_device c.from_residual-in_err-add-in-Ok.result c.from_residual-in_err-add-in-Ok.ensures.1
+
+pub returns-in-Err-clause-failed : goal.returns-in-Err-clause-failed
+returns-in-Err-clause-failed g c = λ _. named g (goal.at.returns-in-Err-clause-failed g c).In_default-replacing_place
+
+-- ---- how many files are kept
+
+pub returns-in-Some-clause-count : goal.returns-in-Some-clause-count
+returns-in-Some-clause-count g c = omega arith
+
+pub returns-in_err-name-clause-count : goal.returns-in_err-name-clause-count
+returns-in_err-name-clause-count g c = omega arith
+
+pub returns-then-not-is_askable-clause-count : goal.returns-then-not-is_askable-clause-count
+returns-then-not-is_askable-clause-count g c = omega arith
+
+pub returns-in_err-note-clause-count : goal.returns-in_err-note-clause-count
+returns-in_err-note-clause-count g c = same_count c.note.ensures.others
+
+pub returns-in-Some-replacing_place-clause-count : goal.returns-in-Some-replacing_place-clause-count
+returns-in-Some-replacing_place-clause-count g c = same_count c.note.ensures.others
+
+pub returns-in_ok-add-in-Ok-clause-count : goal.returns-in_ok-add-in-Ok-clause-count
+returns-in_ok-add-in-Ok-clause-count g c = one_more_file c.add.new.self c.in-Ok.kept c.read_file.ensures.files c.add.ensures.files
+
+pub returns-in_err-add-in-Ok-clause-count : goal.returns-in_err-add-in-Ok-clause-count
+returns-in_err-add-in-Ok-clause-count g c = one_more_file c.add.new.self c.in-Ok.kept c.read_file.ensures.files c.add.ensures.files
+
+pub returns-in-Err-clause-count : goal.returns-in-Err-clause-count
+returns-in-Err-clause-count g c = omega (arith, ap (λ (files : FileTable). length files.files.items) c.read_file.ensures.files)
 
 -- ---- memory ran out before anything was asked for
 
