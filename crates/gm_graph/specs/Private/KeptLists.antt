@@ -41,6 +41,10 @@ abbrev pub place_for : ListIndex → List ℕ → Option ℕ
 place_for index list = option_or (get_by (λ key. slice_cmp nat_cmp list key.items) index.others)
     (place_under index.by_tag (list_tag 0 list))
 
+-- The same lists are noted beside their tags, since another list has the tag.
+abbrev pub NotesBesideSame : ListIndex → ListIndex → Type 0
+NotesBesideSame old new = new.others ≡ old.others
+
 -- The place of each list of eight or more is noted for it.
 abbrev pub NotesAll : ListIndex → (ℕ → List ℕ) → Type 0
 NotesAll index lists = (place : ℕ) → 8 ≤ length (lists place) → place_for index (lists place) ≡ Some place

@@ -10,7 +10,7 @@
 ghost use Rattle.std.specs.Prelude.{◌≡◌, ◌≢◌, ◌≤◌, ◌<◌, ℕ, IfOk, IfSome, List, None, OnOk, Some, length};
 ghost use Rattle.gm_name_table.specs.Listed.{modules_of};
 ghost use Rattle.gm_graph.specs.Places.{place_limit};
-ghost use Rattle.gm_graph.specs.Private.KeptLists.{NotesAll, list_tag, numbers_from, own_lists, place_for};
+ghost use Rattle.gm_graph.specs.Private.KeptLists.{NotesAll, NotesBesideSame, list_tag, numbers_from, own_lists, place_for};
 ghost use Rattle.gm_graph.specs.Private.Summaries.{AreWithinList, IsSameList};
 
 use crate::cache::summary::{Kept, ListSpan};
@@ -121,7 +121,8 @@ impl ListIndex {
         list_at(modules, files, noted?, list)
     }
 
-    /// Notes a place for a list with this tag, for which `noted` is noted. The only refusal is `NoMemory`.
+    /// Notes a place for a list with this tag, for which `noted` is noted: under the tag if nothing is, otherwise beside
+    /// it. The only refusal is `NoMemory`.
     fn note(
         &mut self,
         tag: u32,
@@ -135,6 +136,7 @@ impl ListIndex {
         ensures notes { OnOk result (place_for self.new list.now ≡ Some place) }
         ensures others { (lists : ℕ → List ℕ) → ((place : ℕ) → lists place ≢ list.now)
             → NotesAll self.old lists → NotesAll self.new lists }
+        ensures beside { noted ≡ None → NotesBesideSame self.old self.new }
     {
         match noted {
             None => self.by_tag.put(tag, place)?,
