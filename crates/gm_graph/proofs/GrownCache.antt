@@ -35,10 +35,10 @@ module _ (cache : Cache) (new : NumberedList) (grows : Grows cache.modules new) 
         places_within = omega (arith, was.places_within, ap length grows.1.numbered.1, length-append (table_in cache) grows.1.numbered.0);
         notes = notes_if_more main (table_in cache) new.modules files grows.1.numbered was.places_within was.notes;
         in_order = order_longer cache.first (own_spans files.files.items) (length old.numbers) (length new.numbers) more_numbers was.in_order;
-        listed = listed_grown main (modules_of old) (modules_of new) files.files.items (grows.0, grows.1.listed) was.listed;
+        listed = listed_grown (modules_of old) (modules_of new) files.files.items (grows.0, grows.1.listed) was.listed;
       }
 
   -- So are the places of own lists.
   pub grown_notes : NotesAll cache.lists (own_lists new.numbers cache.files.files.items)
-  grown_notes = subst (NotesAll cache.lists) (sym (lists_still cache.modules new cache.files.files.items grows.1.kept
-      (λ place summary there. (cache.consistent.listed place summary there).0.all_within))) cache.notes
+  grown_notes = subst (NotesAll cache.lists) (sym (lists_still cache.modules new cache.files.files.items grows.1.kept cache.consistent.listed))
+      cache.notes

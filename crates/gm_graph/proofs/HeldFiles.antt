@@ -16,8 +16,7 @@ use Rattle.gm_graph.specs.declared.cache.file_table.FileTable.{FileTable}
 use Rattle.gm_graph.specs.declared.cache.summary.Kept.{Kept}
 use Rattle.gm_graph.specs.FileTable.{kept_at}
 use Rattle.gm_graph.specs.Private.FileTable.{KeepsFiles, PutsFile}
-use Rattle.gm_graph.specs.Held.{HoldsAnswers, held_under}
-use Rattle.gm_graph.specs.Reading.{IsFileReading}
+use Rattle.gm_graph.specs.Held.{HoldsAnswers, IsKeptReading, held_under}
 use Rattle.gm_graph.specs.Run.{run_of}
 use Rattle.gm_graph.specs.Summaries.{summary_reading}
 use Rattle.gm_graph.specs.Private.Summaries.{AreKeptIn, Grows}
@@ -44,11 +43,11 @@ numbered_more {old} {new} pair only numbers list = (
 )
 
 module _ (main : Main) (old new : NumberedList) (files : FileTable) (grows : Grows old new)
-    (are : AreKeptIn main (modules_of old) files.files.items) where
+    (are : AreKeptIn (modules_of old) files.files.items) where
   pub grown_held : (name : Name) → held_under new files name ≡ held_under old files name
   grown_held name =
-      readings_still main (modules_of old) (modules_of new) (kept_at files name) (grows.0, grows.1.listed)
-      (λ one. kept_named main (modules_of old) files name one are)
+      readings_still (modules_of old) (modules_of new) (kept_at files name) (grows.0, grows.1.listed)
+      (λ one. kept_named (modules_of old) files name one are)
 
   pub grown_holds : (sums : Option Sums) (pairs : List (Name × Reply)) → HoldsAnswers (run_of main sums pairs) old files
       → HoldsAnswers (run_of main sums pairs) new files
@@ -66,7 +65,7 @@ HoldsSome main sums list files = (pairs : List (Name × Reply)) × HoldsAnswers 
 module _ (main : Main) (sums : Option Sums) (list : NumberedList) (old new : FileTable) where
   -- The answer for one name is this one now, and those for the others stay.
   pub put_holds : (name : Name) (reply : Reply) (one : Kept) → PutsFile old new name one
-      → IsFileReading sums name reply (summary_reading (modules_of list) one) → (pairs all : List (Name × Reply))
+      → IsKeptReading main sums name reply (summary_reading (modules_of list) one) → (pairs all : List (Name × Reply))
       → ((other : Name) → answer_in all other ≡ cond (same_name other name) (Some reply) (answer_in pairs other))
       → HoldsAnswers (run_of main sums pairs) list old → HoldsAnswers (run_of main sums all) list new
   put_holds name reply one puts reads pairs all more holds = record {
@@ -99,7 +98,7 @@ module _ (main : Main) (sums : Option Sums) (list : NumberedList) (old new : Fil
 
   -- So some answers say what is held after a file was added, or after there was no memory for it.
   pub added_some : {T E : Type 0} (result : Result T E) (name : Name) (one : Kept)
-      → (reply : Reply) × IsFileReading sums name reply (summary_reading (modules_of list) one)
+      → (reply : Reply) × IsKeptReading main sums name reply (summary_reading (modules_of list) one)
       → OnOk result (PutsFile old new name one) → OnErr result (KeepsFiles old new)
       → ∥ HoldsSome main sums list old ∥₁ → ∥ HoldsSome main sums list new ∥₁
   added_some (Ok t) name one says puts keeps some =

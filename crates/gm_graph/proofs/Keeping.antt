@@ -82,7 +82,7 @@ sound_still old new earlier later main files stay keeps x place sound =
 -- A cache that holds the same knows the same.
 pub knows_still : {old new : Cache} (pairs : List (Name × Reply)) → HoldsSame old new → Knows old pairs → Knows new pairs
 knows_still pairs same knows = record {
-  kept = λ name reply e. let got = knows.kept name reply e in (got.0, same.held name ∙ got.1, rw same.sums got.2);
+  kept = λ name reply e. let got = knows.kept name reply e in (got.0, same.held name ∙ got.1, rw (same.main, same.sums) got.2);
   only = λ name e. same.held name ∙ knows.only name e;
 }
 

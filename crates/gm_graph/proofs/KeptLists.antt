@@ -1,40 +1,39 @@
 -- Own lists, and the places that are noted for them.
-use Rattle.std.proofs.Common.{◌≡◌, ◌∙◌, ◌≤◌, ◌++◌, ◌∷◌, [], ℕ, List, None, Option, Some, ap, arith, cond, drop, inl, inr, length, refl, sym, take}
+use Rattle.std.proofs.Common.{◌≡◌, ◌∙◌, ◌≤◌, ◌++◌, ◌∷◌, [], ℕ, List, None, Option, Some, ap, arith, cond, inl, inr, length, refl, sym, take}
 use Rattle.std.specs.Prelude.{is_some, slice_get}
-use Rattle.std.proofs.lemmas.List.{length-map, take-append-drop}
+use Rattle.std.proofs.lemmas.List.{length-map}
 use Rattle.std.proofs.lemmas.Option.{same_Some}
 use Rattle.gm_name.specs.ModuleVersion.{module_at}
 use Rattle.gm_name_table.specs.Listed.{BeginsWith, NumberedList, modules_of}
-use Rattle.gm_file.specs.Main.{Main}
 use Rattle.gm_graph.specs.declared.cache.list_index.ListIndex.{ListIndex}
 use Rattle.gm_graph.specs.declared.cache.summary.Kept.{Kept}
 use Rattle.gm_graph.specs.declared.cache.summary.Kept.TheVariants.{Valid, Faulty}
 use Rattle.gm_graph.specs.declared.cache.summary.Summary.{Summary}
 use Rattle.gm_graph.specs.Private.KeptLists.{AreKeptOnce, NotesAll, own_list, own_lists, place_for}
-use Rattle.gm_graph.specs.Private.Summaries.{AreKeptIn, AreWithinList, IsWithinList}
-use Rattle.gm_graph.proofs.SharedLists.{cut_front, front, push_cases}
+use Rattle.gm_graph.specs.Private.Summaries.{AreKeptIn, Grows, IsWithinList, cut}
+use Rattle.gm_graph.proofs.SharedLists.{cut_appends, cut_listed, push_cases}
 use Rattle.gm_graph.proofs.Spans.{part_still}
 
 -- Own lists stay where they are if the list of modules grows at its end.
 pub lists_still : (old new : NumberedList) (files : List Kept) → BeginsWith old.numbers new.numbers
-    → AreWithinList (modules_of old) files → own_lists new.numbers files ≡ own_lists old.numbers files
-lists_still old new files begins within = λ i place. by (slice_get files place) (within place) i
+    → AreKeptIn (modules_of old) files → own_lists new.numbers files ≡ own_lists old.numbers files
+lists_still old new files begins are = λ i place. by (slice_get files place) (λ summary there. (are place summary there).0) i
   where
-    by : (o : Option Kept) → ((summary : Summary) → o ≡ Some (Valid summary) → IsWithinList (modules_of old) summary.all)
+    by : (o : Option Kept) → ((summary : Summary) → o ≡ Some (Valid summary) → IsWithinList (modules_of old) summary.list.span)
         → own_list new.numbers o ≡ own_list old.numbers o
     by None is = refl
     by (Some (Faulty class)) is = refl
     by (Some (Valid summary)) is =
         let span = is summary refl in
-        ap (cond (is_some summary.same_as) []) (part_still old.numbers new.numbers summary.all begins span.order
+        ap (cond (is_some summary.list.same_as) []) (part_still old.numbers new.numbers summary.list.span begins span.order
         (omega (arith, span.within, length-map old.numbers (module_at old.modules))))
 
--- And if it is cut to its front, in which they are.
-pub lists_cut : (main : Main) (list cut : NumberedList) (start : ℕ) (files : List Kept) → AreKeptIn main (front list start) files
-    → cut.modules ≡ list.modules → cut.numbers ≡ take start list.numbers → own_lists list.numbers files ≡ own_lists cut.numbers files
-lists_cut main list cut start files are modules numbers =
-    lists_still cut list files (drop start list.numbers, rw numbers (sym (take-append-drop start list.numbers)))
-    (λ place summary there. rw (cut_front list start cut modules numbers) (are place summary there).0.all_within)
+-- They are the same in each list that begins with a front, in which they are.
+pub lists_beside : (old new : NumberedList) (start : ℕ) (files : List Kept) → AreKeptIn (take start (modules_of old)) files
+    → Grows (cut start old) new → own_lists new.numbers files ≡ own_lists old.numbers files
+lists_beside old new start files are grows =
+    let listed = cut_listed old start files are in
+    lists_still (cut start old) new files grows.1.kept listed ∙ sym (lists_still (cut start old) old files (cut_appends old start).kept listed)
 
 module _ (index : ListIndex) (numbers : List ℕ) (files : List Kept) (notes : NotesAll index (own_lists numbers files)) where
   pub kept_once : AreKeptOnce (own_lists numbers files)

@@ -1,5 +1,5 @@
 -- What is found of a vertex, and which requirements are returned for it.
-use Rattle.std.proofs.Common.{◌≡◌, ◌<◌, ◌∙◌, ℕ, List, Option, Some, None, Ok, sym, ap, refl}
+use Rattle.std.proofs.Common.{◌≡◌, ◌<◌, ◌∙◌, ℕ, List, Option, Some, None, Result, Ok, Err, sym, ap, refl, subst}
 use Rattle.std.specs.Prelude.{IfSome, slice_get}
 use Rattle.std.specs.List.{IsDistinct}
 use Rattle.std.specs.Option.{option_and_then, option_map}
@@ -9,11 +9,13 @@ use Rattle.std.proofs.Props.{props}
 use Rattle.gm_name.specs.ModuleVersion.{ModuleVersion, pair_eq}
 use Rattle.gm_name_table.specs.Listed.{BeginsWith, modules_of}
 use Rattle.gm_file.specs.Fields.{Dependency}
-use Rattle.gm_file.specs.Listed.{with_requirements}
+use Rattle.gm_file.specs.Listed.{Head, with_requirements}
 use Rattle.gm_store.specs.Asked.{Name, Reply}
 use Rattle.gm_graph.specs.declared.cache.depth.Depth.{Depth}
 use Rattle.gm_graph.specs.declared.cache.summary.Kept.{Kept}
 use Rattle.gm_graph.specs.declared.cache.summary.Kept.TheVariants.{Valid, Faulty}
+use Rattle.gm_graph.specs.declared.cache.summary.Summary.{Summary}
+use Rattle.gm_graph.specs.declared.cache.class.Class.{Class}
 use Rattle.gm_graph.specs.declared.cache.lent.Lent.{Lent}
 use Rattle.gm_graph.specs.declared.cache.visit.Verdict.{Verdict}
 use Rattle.gm_graph.specs.declared.cache.visit.Verdict.TheVariants as verdict
@@ -23,9 +25,9 @@ use Rattle.gm_graph.specs.declared.cache.Cache.{Cache}
 use Rattle.gm_file.specs.Main.{Main, without_excluded}
 use Rattle.gm_graph.specs.Reading.{file_of}
 use Rattle.gm_graph.specs.declared.cache.summary.ListSpan.{ListSpan}
-use Rattle.gm_graph.specs.Summaries.{at_span, listed_span, summary_reading}
+use Rattle.gm_graph.specs.Summaries.{at_span, kept_reading, listed_span, summary_reading}
 use Rattle.gm_graph.specs.Private.Summaries.{IsWithinList, span_found}
-use Rattle.gm_graph.proofs.Spans.{IsKept, span_within}
+use Rattle.gm_graph.proofs.Spans.{span_within}
 use Rattle.gm_graph.specs.Cached.{AreRequirements, IsSound, Knows, file_count, its_requirements, main_in, no_requirements, run_in, summary_at, table_in}
 use Rattle.gm_graph.specs.Private.Cached.{Follows, IsLender, module_numbered}
 use Rattle.gm_graph.specs.Private.FileTable.{IsPlacedAt}
@@ -34,25 +36,58 @@ use Rattle.gm_graph.specs.Lent.{lent_modules}
 use Rattle.gm_graph.specs.Private.Held.{lent_table}
 use Rattle.gm_graph.specs.Run.{FileSays, Run, Says}
 use Rattle.gm_graph.proofs.Holding.{held_says, held_sound}
-use Rattle.gm_graph.proofs.SharedLists.{found_own, kept_listed, kept_named}
+use Rattle.gm_graph.proofs.SharedLists.{found_own, kept_listed}
 
--- What is kept at the place of a vertex's file is what the file says.
-pub kept_says : (cache : Cache) (pairs : List (Name × Reply)) (x : ModuleVersion) (place : ℕ) (one : Kept) → Knows cache pairs
-    → IsPlacedAt (main_in cache) cache.files x place → slice_get cache.files.files.items place ≡ Some one
-    → FileSays (run_in cache pairs) (file_of (main_in cache) x) (summary_reading (modules_of cache.modules) one)
-kept_says cache pairs x place one knows at there =
-    held_says cache pairs knows (file_of (main_in cache) x) (summary_reading (modules_of cache.modules) one) at.askable
-    (ap (option_map (summary_reading (modules_of cache.modules))) (ap (option_and_then (slice_get cache.files.files.items)) at.placed ∙ there))
+-- ---- what a file says of which this is kept
+
+fault_of : (main : Main) (class : Class) (said : Result Dependency Class) → Err class ≡ kept_reading main said → said ≡ Err class
+fault_of main class (Ok file) e = absurd (cc e)
+fault_of main class (Err other) e = sym e
+
+file_by : (main : Main) (head : Head) (kept : List ModuleVersion) (said : Result Dependency Class)
+    → Ok (with_requirements head kept) ≡ kept_reading main said
+    → (file : Dependency) × (said ≡ Ok file) × (with_requirements head file.requirements ≡ file)
+file_by main head kept (Ok file) e =
+    let same : with_requirements head kept ≡ with_requirements (record { declared = file.declared; go = file.go }) (without_excluded main file.requirements)
+    = cc e in
+    (file, refl, λ i. record { declared = (same i).declared; go = (same i).go; requirements = file.requirements })
+file_by main head kept (Err class) e = absurd (cc e)
+
+module _ (cache : Cache) (pairs : List (Name × Reply)) (x : ModuleVersion) (place : ℕ) (knows : Knows cache pairs)
+    (at : IsPlacedAt (main_in cache) cache.files x place) where
+  -- What is kept at the place of a vertex's file is what the file says, without the excluded requirements.
+  kept_says : (one : Kept) → slice_get cache.files.files.items place ≡ Some one
+      → (said : Result Dependency Class) × FileSays (run_in cache pairs) (file_of (main_in cache) x) said
+      × (summary_reading (modules_of cache.modules) one ≡ kept_reading (main_in cache) said)
+  kept_says one there =
+      held_says cache pairs knows (file_of (main_in cache) x) (summary_reading (modules_of cache.modules) one) at.askable
+      (ap (option_map (summary_reading (modules_of cache.modules))) (ap (option_and_then (slice_get cache.files.files.items)) at.placed ∙ there))
+
+  pub fault_said : (class : Class) → slice_get cache.files.files.items place ≡ Some (Faulty class)
+      → FileSays (run_in cache pairs) (file_of (main_in cache) x) (Err class)
+  fault_said class there =
+      let (said, says, kept) = kept_says (Faulty class) there in
+      subst (FileSays (run_in cache pairs) (file_of (main_in cache) x)) (fault_of (main_in cache) class said kept) says
+
+  pub file_said : (summary : Summary) → slice_get cache.files.files.items place ≡ Some (Valid summary)
+      → (file : Dependency) × FileSays (run_in cache pairs) (file_of (main_in cache) x) (Ok file)
+      × (with_requirements summary.file file.requirements ≡ file)
+  file_said summary there =
+      let (said, says, kept) = kept_says (Valid summary) there in
+      let (file, is, same) = file_by (main_in cache) summary.file (at_span (modules_of cache.modules) summary.list.span) said kept in
+      (file, subst (FileSays (run_in cache pairs) (file_of (main_in cache) x)) is says, same)
+
+-- ---- the list of a vertex
 
 lent_one : (main : Main) (modules : List ModuleVersion) (o : Option Kept) (file : Dependency) (span : ListSpan)
-    → ((one : Kept) → o ≡ Some one → IsKept main modules one) → option_and_then listed_span o ≡ Some span
-    → option_map (summary_reading modules) o ≡ Some (Ok file) → at_span modules span ≡ without_excluded main file.requirements
-lent_one main modules None file span is listed e = absurd (cc e)
-lent_one main modules (Some (Faulty class)) file span is listed e = absurd (cc listed)
-lent_one main modules (Some (Valid summary)) file span is listed e =
-    let same : with_requirements summary.file (at_span modules summary.all) ≡ file = cc in
-    ap (at_span modules) (sym (same_Some summary.kept span listed)) ∙ (is (Valid summary) refl).without
-    ∙ ap (λ (f : Dependency). without_excluded main f.requirements) same
+    → option_and_then listed_span o ≡ Some span → option_map (summary_reading modules) o ≡ Some (kept_reading main (Ok file))
+    → at_span modules span ≡ without_excluded main file.requirements
+lent_one main modules None file span listed e = absurd (cc e)
+lent_one main modules (Some (Faulty class)) file span listed e = absurd (cc listed)
+lent_one main modules (Some (Valid summary)) file span listed e =
+    let same : with_requirements summary.file (at_span modules summary.list.span)
+    ≡ with_requirements (record { declared = file.declared; go = file.go }) (without_excluded main file.requirements) = cc e in
+    ap (at_span modules) (sym (same_Some summary.list.span span listed)) ∙ ap (λ (f : Dependency). f.requirements) same
 
 -- The list at a vertex's place is what the vertex requires.
 pub list_is : (cache : Cache) (pairs : List (Name × Reply)) (x : ModuleVersion) (place : ℕ) (file : Dependency) → Knows cache pairs
@@ -60,7 +95,6 @@ pub list_is : (cache : Cache) (pairs : List (Name × Reply)) (x : ModuleVersion)
     → at_span (modules_of cache.modules) at.span ≡ without_excluded (main_in cache) file.requirements
 list_is cache pairs x place file knows at says =
     lent_one (main_in cache) (modules_of cache.modules) (summary_at cache (file_of (main_in cache) x)) file at.span
-    (λ one. kept_named (main_in cache) (modules_of cache.modules) cache.files (file_of (main_in cache) x) one cache.consistent.listed)
     at.listed (held_sound cache pairs knows x file says)
 
 -- where the requirements of the file at a place are
@@ -79,10 +113,10 @@ lent_kept cache pairs x (Some place) knows sound =
 
 -- Where requirements are is within the list of modules.
 pub lent_within : (cache : Cache) (place : Option ℕ) → IsWithinList (modules_of cache.modules) (span_at cache place)
-lent_within cache None = span_within (main_in cache) (modules_of cache.modules) None (λ one e. absurd (cc e))
+lent_within cache None = span_within (modules_of cache.modules) None (λ one e. absurd (cc e))
 lent_within cache (Some place) =
-    span_within (main_in cache) (modules_of cache.modules) (slice_get cache.files.files.items place)
-    (λ one e. kept_listed (main_in cache) (modules_of cache.modules) cache.files.files.items place one cache.consistent.listed e)
+    span_within (modules_of cache.modules) (slice_get cache.files.files.items place)
+    (λ one e. kept_listed (modules_of cache.modules) cache.files.files.items place one cache.consistent.listed e)
 
 -- ---- what a visit gets
 

@@ -9,8 +9,7 @@ use Rattle.gm_name_table.specs.Listed.{BeginsWith, modules_of}
 use Rattle.gm_graph.specs.declared.cache.summary.Kept.{Kept}
 use Rattle.gm_graph.specs.declared.cache.Cache.{Cache}
 use Rattle.gm_graph.specs.declared.cache.file_table.FileTable.{FileTable}
-use Rattle.gm_graph.specs.Held.{HoldsAnswers}
-use Rattle.gm_graph.specs.Reading.{IsFileReading}
+use Rattle.gm_graph.specs.Held.{HoldsAnswers, IsKeptReading}
 use Rattle.gm_graph.specs.Private.FileTable.{PutsFile}
 use Rattle.gm_graph.proofs.HeldFiles.{put_holds}
 use Rattle.gm_graph.proofs.Keeping.{knows_still, says_later, sound_still}
@@ -46,10 +45,10 @@ answer_more pairs name other reply none = rw (answer_append pairs ((name, reply)
 -- A cache that adds what was read of one more file knows all answers.
 pub knows_read : (old mid : Cache) (files : FileTable) (pairs all : List (Name × Reply)) (name : Name) (reply : Reply) (one : Kept)
     → Knows old pairs → HoldsSame old mid → summary_at old name ≡ None → PutsFile mid.files files name one
-    → all ≡ pairs ++ (name, reply) ∷ [] → IsFileReading (sums_in old) name reply (summary_reading (modules_of mid.modules) one)
+    → all ≡ pairs ++ (name, reply) ∷ [] → IsKeptReading (main_in old) (sums_in old) name reply (summary_reading (modules_of mid.modules) one)
     → HoldsAnswers (run_in mid all) mid.modules files
 knows_read old mid files pairs all name reply one knows same none adds e reads =
-    put_holds (main_in mid) (sums_in mid) mid.modules mid.files files name reply one adds (rw same.sums reads) pairs all
+    put_holds (main_in mid) (sums_in mid) mid.modules mid.files files name reply one adds (rw (same.main, same.sums) reads) pairs all
     (λ other. rw e (answer_more pairs name other reply (not_asked old pairs name knows none)))
     (knows_still pairs same knows)
 

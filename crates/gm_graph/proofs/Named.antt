@@ -14,7 +14,7 @@ use Rattle.gm_graph.specs.declared.cache.summary.Kept.{Kept}
 use Rattle.gm_graph.specs.declared.cache.summary.Kept.TheVariants.{Valid, Faulty}
 use Rattle.gm_graph.specs.FileTable.{place_of}
 use Rattle.gm_graph.specs.Run.{Run}
-use Rattle.gm_graph.specs.Summaries.{listed_span, summary_reading}
+use Rattle.gm_graph.specs.Summaries.{kept_reading, listed_span, summary_reading}
 use Rattle.gm_graph.specs.Private.Summaries.{list_place}
 use Rattle.gm_graph.proofs.SharedLists.{list_owned}
 use Rattle.gm_graph.proofs.Holding.{held_sound}
@@ -27,25 +27,25 @@ module _ (cache : Cache) (pairs : List (Name × Reply)) (x : ModuleVersion) (nam
   -- The file has a place.
   pub named_kept : place_of cache.files name ≡ None → ⊥
   named_kept none =
-      let held : held_of cache name ≡ Some (Ok is.file) = rw is.name_is (held_sound cache pairs knows x is.file is.says) in
+      let held : held_of cache name ≡ Some (kept_reading (main_in cache) (Ok is.file)) = rw is.name_is (held_sound cache pairs knows x is.file is.says) in
       cc (rw none at held)
 
   -- The place of the file that has its list is where the vertex's requirements are.
   pub lender_named : (place : ℕ) → place_of cache.files name ≡ Some place
       → IsSound cache (run_in cache pairs) x (list_place cache.files.files.items place)
   lender_named place there =
-      let held : held_of cache name ≡ Some (Ok is.file) = rw is.name_is (held_sound cache pairs knows x is.file is.says) in
+      let held : held_of cache name ≡ Some (kept_reading (main_in cache) (Ok is.file)) = rw is.name_is (held_sound cache pairs knows x is.file is.says) in
       by (slice_get cache.files.files.items place) refl (rw there at held)
     where
-      by : (o : Option Kept) → slice_get cache.files.files.items place ≡ o → option_map (summary_reading (modules_of cache.modules)) o ≡ Some (Ok is.file)
+      by : (o : Option Kept) → slice_get cache.files.files.items place ≡ o → option_map (summary_reading (modules_of cache.modules)) o ≡ Some (kept_reading (main_in cache) (Ok is.file))
           → IsSound cache (run_in cache pairs) x (list_place cache.files.files.items place)
       by None here held = absurd (cc held)
       by (Some (Faulty class)) here held = absurd (cc held)
       by (Some (Valid summary)) here held =
-          let owned = list_owned (main_in cache) (modules_of cache.modules) cache.files.files.items place summary cache.consistent.listed here in
+          let owned = list_owned (modules_of cache.modules) cache.files.files.items place summary cache.consistent.listed here in
           record {
             within = owned.0;
-            span = summary.kept;
+            span = summary.list.span;
             own = owned.1;
             listed = ap (option_and_then listed_span)
                 (sym (ap (summary_at cache) is.name_is) ∙ ap (option_and_then (slice_get cache.files.files.items)) there ∙ here);

@@ -5,6 +5,7 @@ use Rattle.gm_name.specs.ModuleVersion.{ModuleVersion}
 use Rattle.gm_name_table.specs.Listed.{part}
 use Rattle.gm_file.specs.Fields.{Dependency}
 use Rattle.gm_file.specs.Listed.{with_requirements}
+use Rattle.gm_file.specs.Main.{Main, without_excluded}
 use Rattle.gm_graph.specs.declared.cache.class.Class.{Class}
 use Rattle.gm_graph.specs.declared.cache.reading.FileReading.{FileReading}
 use Rattle.gm_graph.specs.declared.cache.reading.FileReading.TheVariants as read
@@ -34,7 +35,7 @@ at_span modules span = part span.start span.end modules
 
 -- where the requirements of a file are, without the excluded ones: nowhere if it has a fault
 abbrev pub listed_span : Kept → Option ListSpan
-listed_span (Valid summary) = Some summary.kept
+listed_span (Valid summary) = Some summary.list.span
 listed_span (Faulty class) = None
 
 -- where they are, unless they are in the list of the earlier file at a place
@@ -44,14 +45,23 @@ span_unless (Some place) span = None
 
 -- where the own list of a file is: a file that shares the list of an earlier one has none
 abbrev pub own_span : Kept → Option ListSpan
-own_span (Valid summary) = span_unless summary.same_as summary.kept
+own_span (Valid summary) = span_unless summary.list.same_as summary.list.span
 own_span (Faulty class) = None
 
 -- where the own list of the file at a place is
 abbrev pub own_span_at : List Kept → ℕ → Option ListSpan
 own_span_at files place = option_and_then own_span (slice_get files place)
 
+-- a reading without the requirements that the main file excludes
+abbrev pub kept_reading : Main → Result Dependency Class → Result Dependency Class
+kept_reading main (Ok file) = Ok (record {
+  declared = file.declared;
+  go = file.go;
+  requirements = without_excluded main file.requirements;
+})
+kept_reading main (Err class) = Err class
+
 -- what is kept of a file, as a reading
 abbrev pub summary_reading : List ModuleVersion → Kept → Result Dependency Class
-summary_reading modules (Valid summary) = Ok (with_requirements summary.file (at_span modules summary.all))
+summary_reading modules (Valid summary) = Ok (with_requirements summary.file (at_span modules summary.list.span))
 summary_reading modules (Faulty class) = Err class

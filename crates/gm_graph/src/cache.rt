@@ -36,17 +36,17 @@ ghost use Rattle.gm_store.specs.Asked.{Name, Reply, answer_in, name_of};
 ghost use Rattle.gm_store.specs.Requests.{refused_for};
 ghost use Rattle.gm_store.specs.States.{AddsAnswer};
 ghost use Rattle.gm_store.specs.declared.files.FileName.{FileName};
-ghost use Rattle.gm_file.specs.Listed.{with_requirements};
+ghost use Rattle.gm_file.specs.Listed.{Head};
 ghost use Rattle.gm_file.specs.Main.{without_excluded};
 ghost use Rattle.gm_graph.specs.Private.Asking.{AsksOne, IsAskableFile, IsLoadFaultOf};
-ghost use Rattle.gm_graph.specs.Reading.{IsFileReading, file_of};
+ghost use Rattle.gm_graph.specs.Held.{IsKeptReading};
+ghost use Rattle.gm_graph.specs.Reading.{file_of};
 ghost use Rattle.gm_graph.specs.Places.{place_limit};
 ghost use Rattle.gm_graph.specs.Private.Held.{IsConsistent};
 ghost use Rattle.gm_graph.specs.Private.KeptLists.{AreKeptOnce, NotesAll, own_lists};
 ghost use Rattle.gm_graph.specs.Lent.{lent_modules};
-ghost use Rattle.gm_graph.specs.Summaries.{at_span, summary_reading};
-ghost use Rattle.gm_graph.specs.Private.Summaries.{AreKeptIn, AreListsInOrder, GrowsFrom, IsSummaryIn, IsKeptIn, listed_reading, order_is_fact, span_found};
-ghost use Rattle.gm_graph.specs.declared.cache.summary.Kept.{Kept};
+ghost use Rattle.gm_graph.specs.Summaries.{at_span, kept_reading, span_unless, summary_reading};
+ghost use Rattle.gm_graph.specs.Private.Summaries.{AreKeptIn, AreListsInOrder, AreSpansInOrder, GrowsFrom, IsKeptIn, IsListIn, kept_with, listed_reading, order_is_fact, span_found};
 
 use crate::cache::class::Class;
 use crate::cache::depth::Depth;
@@ -58,7 +58,7 @@ use crate::cache::naming::{file_name, is_askable};
 use crate::cache::parts::CacheParts;
 use crate::cache::paths::is_right_path;
 use crate::cache::reading::{ListedReading, read_answer};
-use crate::cache::summary::{Kept, ListSpan, Summary, summary_of};
+use crate::cache::summary::{Kept, KeptList, ListSpan, Summary, leave_out};
 use crate::cache::turn_history::TurnHistory;
 use crate::cache::visit::{Verdict, Visit};
 use gm_file::{ListedFile, MainModule};
@@ -115,42 +115,41 @@ fn add_first(
     Ok(())
 }
 
-/// The summary of a file whose requirements are those of the list from this place on. If an earlier file has the same,
-/// these are cut off again, and the summary says where the earlier file's are.
-fn shared_summary(
+/// Where the list of the next file is, whose requirements are those of the list of modules from this place on. The
+/// excluded ones are taken out. If an earlier file has the same list, these are cut off again.
+fn kept_list(
     alloc: Global,
     lists: &mut ListIndex,
     modules: &mut ModuleList,
     main: &MainModule,
     files: &[Kept],
-    file: ListedFile,
     start: usize,
-) -> Result<Summary, NoMemory>
+) -> Result<KeptList, NoMemory>
     requires few { length files.now < place_limit }
     requires start { start ≤ length modules.old.numbers }
-    requires listed { AreKeptIn main.now (take start (modules_of modules.old)) files.now }
+    requires listed { AreKeptIn (take start (modules_of modules.old)) files.now }
     requires notes { NotesAll lists.old (own_lists modules.old.numbers files.now) }
-    ensures reading { IfOk result (λ summary. summary_reading (modules_of modules.new) (Kept.Valid summary)
-        ≡ Ok (with_requirements file (drop start (modules_of modules.old)))) }
-    ensures listed { IfOk result (IsSummaryIn main.now (modules_of modules.new) files.now) }
-    ensures order { IfOk result (λ summary.
-        AreListsInOrder start (Kept.Valid summary ∷ []) (length modules.new.numbers)) }
-    ensures cut { IfOk result (λ summary. IsSome summary.same_as → length modules.new.numbers ≤ start) }
+    ensures has { IfOk result (λ list. at_span (modules_of modules.new) list.span
+        ≡ without_excluded main.now (drop start (modules_of modules.old))) }
+    ensures listed { IfOk result (IsListIn (modules_of modules.new) files.now) }
+    ensures order { IfOk result (λ list.
+        AreSpansInOrder start (span_unless list.same_as list.span ∷ []) (length modules.new.numbers)) }
+    ensures cut { IfOk result (λ list. IsSome list.same_as → length modules.new.numbers ≤ start) }
     ensures notes { NotesAll lists.new (own_lists modules.new.numbers files.now) }
-    ensures next { IfOk result (λ summary.
-        NotesAll lists.new (own_lists modules.new.numbers (files.now ++ Kept.Valid summary ∷ []))) }
+    ensures next { IfOk result (λ list. (file : Head)
+        → NotesAll lists.new (own_lists modules.new.numbers (files.now ++ kept_with file list ∷ []))) }
     ensures grows { GrowsFrom start modules.old modules.new }
 {
+    leave_out(alloc, modules, main, start)?;
     if let Some(same) = lists.find(modules, files, start)? {
         modules.truncate(start);
-        return Ok(Summary {
-            file,
-            all: same.all,
-            kept: same.kept,
-            same_as: Some(same.place),
-        });
+        return Ok(same);
     }
-    summary_of(alloc, modules, main, file, start)
+    let end = modules.len();
+    Ok(KeptList {
+        span: ListSpan { start, end },
+        same_as: None,
+    })
 }
 
 /// What is kept of a file that was read. The requirements of a valid one are those of the list from this place on.
@@ -165,11 +164,11 @@ fn kept_of(
 ) -> Result<Kept, NoMemory>
     requires few { length files.now < place_limit }
     requires start { start ≤ length modules.old.numbers }
-    requires listed { AreKeptIn main.now (take start (modules_of modules.old)) files.now }
+    requires listed { AreKeptIn (take start (modules_of modules.old)) files.now }
     requires notes { NotesAll lists.old (own_lists modules.old.numbers files.now) }
     ensures reading { IfOk result (λ kept. summary_reading (modules_of modules.new) kept
-        ≡ listed_reading (drop start (modules_of modules.old)) read) }
-    ensures listed { IfOk result (IsKeptIn main.now (modules_of modules.new) files.now) }
+        ≡ kept_reading main.now (listed_reading (drop start (modules_of modules.old)) read)) }
+    ensures listed { IfOk result (IsKeptIn (modules_of modules.new) files.now) }
     ensures order { IfOk result (λ kept. AreListsInOrder start (kept ∷ []) (length modules.new.numbers)) }
     ensures notes { NotesAll lists.new (own_lists modules.new.numbers files.now) }
     ensures next { IfOk result (λ kept. NotesAll lists.new (own_lists modules.new.numbers (files.now ++ kept ∷ []))) }
@@ -177,8 +176,8 @@ fn kept_of(
 {
     match read {
         ListedReading::Valid(file) => {
-            let summary = shared_summary(alloc, lists, modules, main, files, file, start)?;
-            Ok(Kept::Valid(summary))
+            let list = kept_list(alloc, lists, modules, main, files, start)?;
+            Ok(Kept::Valid(Summary { file, list }))
         }
         ListedReading::Faulty(class) => Ok(Kept::Faulty(class)),
     }
@@ -235,10 +234,9 @@ impl<'a> Cache<'a> {
         requires few { file_count self.old < place_limit }
         ensures reading { IfOk result (λ kept. (reply : Reply)
             × AddsAnswer (F.state files.old) (F.state files.new) (name_of name.now) reply
-            × IsFileReading (sums_in self.old) (name_of name.now) reply
+            × IsKeptReading (main_in self.old) (sums_in self.old) (name_of name.now) reply
             (summary_reading (modules_of self.new.modules) kept)) }
-        ensures listed { IfOk result
-            (IsKeptIn (main_in self.old) (modules_of self.new.modules) self.old.files.files.items) }
+        ensures listed { IfOk result (IsKeptIn (modules_of self.new.modules) self.old.files.files.items) }
         ensures order { IfOk result (λ kept. AreListsInOrder self.new.first (self.new.files.files.items ++ kept ∷ [])
             (length self.new.modules.numbers)) }
         ensures next { IfOk result (λ kept. NotesAll self.new.lists (own_lists self.new.modules.numbers

@@ -23,7 +23,7 @@ pub record IsConsistent (main : Main) (sums : Option Sums) (first : ℕ) (list :
   pub places_within : length files.places.items ≤ length list.modules
   pub notes : NotesFiles main list.modules files
   pub in_order : AreListsInOrder first files.files.items (length list.numbers)
-  pub listed : AreKeptIn main (modules_of list) files.files.items
+  pub listed : AreKeptIn (modules_of list) files.files.items
 
 -- all modules that have numbers, each at the place that is its number
 abbrev pub lent_table : Lent → List ModuleVersion

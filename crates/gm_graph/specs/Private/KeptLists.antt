@@ -18,7 +18,7 @@ numbers_from start list = part start (length list.numbers) list.numbers
 -- the numbers of the own list of a file: none if it shares the list of an earlier one, or has a fault
 abbrev pub own_list : List ℕ → Option Kept → List ℕ
 own_list numbers (Some (Valid summary)) =
-    cond (is_some summary.same_as) [] (part summary.all.start summary.all.end numbers)
+    cond (is_some summary.list.same_as) [] (part summary.list.span.start summary.list.span.end numbers)
 own_list numbers kept = []
 
 -- those of the file at each place

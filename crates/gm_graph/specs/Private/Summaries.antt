@@ -1,21 +1,20 @@
 -- What is kept of an answer, and where its requirements are.
-use Rattle.std.specs.Prelude.{◌≡◌, ◌≤◌, ◌∷◌, [], ⊤, ℕ, List, Option, Some, None, Result, Ok, Err, length, map, slice_get, unwrap_or}
+use Rattle.std.specs.Prelude.{◌≡◌, ◌≤◌, ◌∷◌, [], ⊤, ℕ, List, Option, Some, None, Result, Ok, Err, length, map, slice_get, take, unwrap_or}
 use Rattle.std.specs.Option.{option_and_then}
 use Rattle.std.proofs.Math.Bridge.{le_prop}
 use Rattle.gm_name.specs.ModuleVersion.{ModuleVersion}
 use Rattle.gm_name_table.specs.Listed.{Appends, NumberedList, part}
 use Rattle.gm_file.specs.Fields.{Dependency}
 use Rattle.gm_file.specs.Listed.{Head, with_requirements}
-use Rattle.gm_file.specs.Main.{Main, without_excluded}
 use Rattle.gm_graph.specs.declared.cache.class.Class.{Class}
-use Rattle.gm_graph.specs.declared.cache.list_index.SameList.{SameList}
 use Rattle.gm_graph.specs.declared.cache.reading.ListedReading.{ListedReading}
 use Rattle.gm_graph.specs.declared.cache.reading.ListedReading.TheVariants as listed
 use Rattle.gm_graph.specs.declared.cache.summary.Kept.{Kept}
 use Rattle.gm_graph.specs.declared.cache.summary.Kept.TheVariants.{Valid, Faulty}
+use Rattle.gm_graph.specs.declared.cache.summary.KeptList.{KeptList}
 use Rattle.gm_graph.specs.declared.cache.summary.ListSpan.{ListSpan}
 use Rattle.gm_graph.specs.declared.cache.summary.Summary.{Summary}
-use Rattle.gm_graph.specs.Summaries.{at_span, listed_span, own_span, own_span_at}
+use Rattle.gm_graph.specs.Summaries.{listed_span, own_span, own_span_at}
 
 -- A span is within the list.
 pub record IsWithinList (modules : List ModuleVersion) (span : ListSpan) : Type 0 where
@@ -36,6 +35,10 @@ nowhere = record { start = 0; end = 0 }
 -- Modules were put to the end of the list, and each that had a number has it still.
 abbrev pub Grows : NumberedList → NumberedList → Type 0
 Grows old new = (more : List ModuleVersion) × Appends old new more
+
+-- the front of a list, up to a place
+abbrev pub cut : ℕ → NumberedList → NumberedList
+cut start list = record { modules = list.modules; numbers = take start list.numbers }
 
 -- If the old list is one of so many modules with others at its end, the new one is that with others at its end.
 abbrev pub GrowsFrom : ℕ → NumberedList → NumberedList → Type 0
@@ -65,42 +68,41 @@ order_is_fact from (None ∷ spans) to = order_is_fact from spans to
 abbrev pub AreListsInOrder : ℕ → List Kept → ℕ → Type 0
 AreListsInOrder from files to = AreSpansInOrder from (map own_span files) to
 
--- A summary has the requirements of its file, without the excluded ones, and both are in the list.
-pub record IsSummary (main : Main) (modules : List ModuleVersion) (summary : Summary) : Type 0 where
-  pub all_within : IsWithinList modules summary.all
-  pub kept_within : IsWithinList modules summary.kept
-  pub without : at_span modules summary.kept ≡ without_excluded main (at_span modules summary.all)
+-- what is kept of a file with this list, which says this beside its requirements
+abbrev pub kept_with : Head → KeptList → Kept
+kept_with file list = Valid (record { file = file; list = list })
 
--- The requirements of a file are in the list of modules, and the list that it shares is that of one of these files.
-abbrev pub IsSummaryIn : Main → List ModuleVersion → List Kept → Summary → Type 0
-IsSummaryIn main modules files summary = IsSummary main modules summary
-    × ((place : ℕ) → summary.same_as ≡ Some place → own_span_at files place ≡ Some summary.kept)
+-- A list is in the list of modules, and one that is shared is that of one of these files.
+abbrev pub IsListIn : List ModuleVersion → List Kept → KeptList → Type 0
+IsListIn modules files list = IsWithinList modules list.span
+    × ((place : ℕ) → list.same_as ≡ Some place → own_span_at files place ≡ Some list.span)
 
--- The same of what is kept of a file, which may be a fault.
-abbrev pub IsKeptIn : Main → List ModuleVersion → List Kept → Kept → Type 0
-IsKeptIn main modules files (Valid summary) = IsSummaryIn main modules files summary
-IsKeptIn main modules files (Faulty class) = ⊤
+-- The requirements of a file, unless it has a fault, are so.
+abbrev pub IsKeptIn : List ModuleVersion → List Kept → Kept → Type 0
+IsKeptIn modules files (Valid summary) = IsListIn modules files summary.list
+IsKeptIn modules files (Faulty class) = ⊤
 
--- The same of each of these files that has no fault.
-abbrev pub AreKeptIn : Main → List ModuleVersion → List Kept → Type 0
-AreKeptIn main modules files = (place : ℕ) (summary : Summary) → slice_get files place ≡ Some (Valid summary)
-    → IsSummaryIn main modules files summary
+-- Those of each of these files that has no fault are so.
+abbrev pub AreKeptIn : List ModuleVersion → List Kept → Type 0
+AreKeptIn modules files = (place : ℕ) (summary : Summary) → slice_get files place ≡ Some (Valid summary)
+    → IsListIn modules files summary.list
 
 -- The requirements of each file are in the list of modules.
 abbrev pub AreWithinList : List ModuleVersion → List Kept → Type 0
 AreWithinList modules files = (place : ℕ) (summary : Summary) → slice_get files place ≡ Some (Valid summary)
-    → IsWithinList modules summary.all
+    → IsWithinList modules summary.list.span
 
--- The own list of the file at this place has the modules with these numbers.
-pub record IsSameList (list : NumberedList) (files : List Kept) (numbers : List ℕ) (same : SameList) : Type 0 where
+-- This is the own list of one of the files, and has the modules with these numbers.
+pub record IsSameList (list : NumberedList) (files : List Kept) (numbers : List ℕ) (same : KeptList) : Type 0 where
   pub file : Head
-  pub there : slice_get files same.place
-      ≡ Some (Valid (record { file = file; all = same.all; kept = same.kept; same_as = None }))
-  pub has : part same.all.start same.all.end list.numbers ≡ numbers
+  pub place : ℕ
+  pub shared : same.same_as ≡ Some place
+  pub there : slice_get files place ≡ Some (kept_with file (record { span = same.span; same_as = None }))
+  pub has : part same.span.start same.span.end list.numbers ≡ numbers
 
 -- the place of the earlier file whose list it shares, if it shares one
 abbrev pub same_list : Kept → Option ℕ
-same_list (Valid summary) = summary.same_as
+same_list (Valid summary) = summary.list.same_as
 same_list (Faulty class) = None
 
 -- the place of the file that has the list of the file at a place

@@ -13,7 +13,7 @@ ghost use Rattle.gm_graph.specs.Places.{place_limit};
 ghost use Rattle.gm_graph.specs.Private.KeptLists.{NotesAll, NotesBesideSame, list_tag, numbers_from, own_lists, place_for};
 ghost use Rattle.gm_graph.specs.Private.Summaries.{AreWithinList, IsSameList};
 
-use crate::cache::summary::{Kept, ListSpan};
+use crate::cache::summary::{Kept, KeptList};
 use gm_name::NoMemory;
 use gm_name_table::{ModuleList, TagIndex};
 use std::alloc::Global;
@@ -36,34 +36,22 @@ fn tag_of(numbers: &[u32]) -> u32
     tag
 }
 
-/// The own list of a file, which has the same modules as another.
-#[derive(Clone, Copy)]
-pub(crate) struct SameList {
-    /// The place of the file.
-    pub(crate) place: u32,
-    /// Where its requirements are.
-    pub(crate) all: ListSpan,
-    /// Where they are without the excluded ones.
-    pub(crate) kept: ListSpan,
-}
-
 /// The own list of the file at a place, if it has the modules with these numbers.
-fn list_at(modules: &ModuleList, files: &[Kept], place: u32, numbers: &[u32]) -> Option<SameList>
+fn list_at(modules: &ModuleList, files: &[Kept], place: u32, numbers: &[u32]) -> Option<KeptList>
     requires { AreWithinList (modules_of modules.now) files.now }
     ensures same { IfSome result (IsSameList modules.now files.now numbers.now) }
     ensures none { result ≡ None → 8 ≤ length numbers.now
         → own_lists modules.now.numbers files.now place ≢ numbers.now }
 {
     match files.get(place as usize)? {
-        Kept::Valid(summary) if summary.same_as.is_none() => {
-            let span = summary.all;
+        Kept::Valid(summary) if summary.list.same_as.is_none() => {
+            let span = summary.list.span;
             if modules.numbers(span.start, span.end) != numbers {
                 return None;
             }
-            Some(SameList {
-                place,
-                all: span,
-                kept: summary.kept,
+            Some(KeptList {
+                span,
+                same_as: Some(place),
             })
         }
         _ => None,
@@ -110,7 +98,7 @@ impl ListIndex {
         files: &[Kept],
         noted: Option<u32>,
         list: &[u32],
-    ) -> Option<SameList>
+    ) -> Option<KeptList>
         requires within { AreWithinList (modules_of modules.now) files.now }
         requires long { 8 ≤ length list.now }
         requires noted { noted ≡ place_for self.now list.now }
@@ -155,7 +143,7 @@ impl ListIndex {
         modules: &ModuleList,
         files: &[Kept],
         start: usize,
-    ) -> Result<Option<SameList>, NoMemory>
+    ) -> Result<Option<KeptList>, NoMemory>
         requires few { length files.now < place_limit }
         requires within { AreWithinList (modules_of modules.now) files.now }
         requires start { start ≤ length modules.now.numbers }

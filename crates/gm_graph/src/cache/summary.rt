@@ -1,18 +1,17 @@
 //! What the cache keeps of a file that was read.
 //!
 //! The requirements of all files are in one list of modules, since files name the same modules again and again. A
-//! summary says where those of its file are.
+//! summary says where those of its file are. What the main file excludes is taken out of the list before.
 
-ghost use Rattle.std.specs.Prelude.{◌≡◌, ◌≤◌, List, IfOk, None, OnOk, Some, drop, length};
+ghost use Rattle.std.specs.Prelude.{◌≡◌, ◌≤◌, List, IfOk, OnOk, Some, drop, length};
 ghost use Rattle.std.specs.List.{list_any};
 ghost use Rattle.gm_name.specs.ModuleVersion.{ModuleVersion};
 ghost use Rattle.gm_name_table.specs.Listed.{Appends, modules_of};
 ghost use Rattle.gm_file.specs.Listed.{with_requirements};
 ghost use Rattle.gm_file.specs.Main.{is_excluded, without_excluded};
 ghost use Rattle.gm_graph.specs.Private.Turns.{leads_on};
-ghost use Rattle.gm_graph.specs.Summaries.{at_span, own_span};
-ghost use Rattle.gm_graph.specs.Private.KeptLists.{numbers_from, own_list};
-ghost use Rattle.gm_graph.specs.Private.Summaries.{Grows, IsSummary, nowhere, same_list, span_found};
+ghost use Rattle.gm_graph.specs.Summaries.{own_span};
+ghost use Rattle.gm_graph.specs.Private.Summaries.{Grows, cut, nowhere, same_list, span_found};
 
 use crate::cache::class::Class;
 use crate::cache::depth::Depth;
@@ -39,18 +38,22 @@ impl ListSpan {
     }
 }
 
+/// Where the requirements of a file are, without the excluded ones.
+#[derive(Clone, Copy)]
+pub(crate) struct KeptList {
+    /// Where they are in the list of modules.
+    pub(crate) span: ListSpan,
+    /// The place of the earlier file whose list this is, if it is that of one.
+    pub(crate) same_as: Option<u32>,
+}
+
 /// What the cache keeps of a valid file.
 #[derive(Drop)]
 pub(crate) struct Summary {
     /// What the file says, other than its requirements.
     pub(crate) file: ListedFile,
-    /// Where its requirements are.
-    pub(crate) all: ListSpan,
-    /// Where its requirements without the excluded ones are: in the same place if none is excluded, so that most
-    /// files have their requirements in the list once.
-    pub(crate) kept: ListSpan,
-    /// The place of the earlier file whose list this one shares, if it shares one: `all` and `kept` are that file's then.
-    pub(crate) same_as: Option<u32>,
+    /// Its requirements.
+    pub(crate) list: KeptList,
 }
 
 /// What the cache keeps of a file.
@@ -93,48 +96,26 @@ fn append(modules: &mut ModuleList, more: &[ModVer]) -> Result<(), NoMemory>
     Ok(())
 }
 
-/// The summary of a file whose requirements are those of the list from this place on. If some are excluded, the
-/// others are appended to the list.
-pub(crate) fn summary_of(
+/// Takes the excluded modules out of the list from this place on. The only refusal is `NoMemory`, after which the list
+/// may lack others, too.
+pub(crate) fn leave_out(
     alloc: Global,
     modules: &mut ModuleList,
     main: &MainModule,
-    file: ListedFile,
     start: usize,
-) -> Result<Summary, NoMemory>
+) -> Result<(), NoMemory>
     requires { start ≤ length modules.old.numbers }
-    ensures file { IfOk result (λ summary. summary.file ≡ file) }
-    ensures all { IfOk result (λ summary.
-        at_span (modules_of modules.new) summary.all ≡ drop start (modules_of modules.old)) }
-    ensures kept { IfOk result (IsSummary main.now (modules_of modules.new)) }
-    ensures begins { IfOk result (λ summary. start ≤ summary.kept.start) }
-    ensures own { IfOk result (λ summary. summary.same_as ≡ None) }
-    ensures list { IfOk result (λ summary.
-        own_list modules.new.numbers (Some (Kept.Valid summary)) ≡ numbers_from start modules.old) }
-    ensures grows { Grows modules.old modules.new }
+    ensures ok { OnOk result (Appends (cut start modules.old) modules.new
+        (without_excluded main.now (drop start (modules_of modules.old)))) }
+    ensures grows { Grows (cut start modules.old) modules.new }
 {
     let end = modules.len();
-    let all = ListSpan { start, end };
     if !has_excluded(main, modules.part(start, end)) {
-        return Ok(Summary {
-            file,
-            all,
-            kept: all,
-            same_as: None,
-        });
+        return Ok(());
     }
     let others = copy_kept(alloc, main, modules.part(start, end))?;
-    append(modules, &others)?;
-    let kept = ListSpan {
-        start: end,
-        end: modules.len(),
-    };
-    Ok(Summary {
-        file,
-        all,
-        kept,
-        same_as: None,
-    })
+    modules.truncate(start);
+    append(modules, &others)
 }
 
 impl Summary {
@@ -158,7 +139,7 @@ impl Kept {
         ensures { result ≡ span_found (Some self.now) }
     {
         match self {
-            Kept::Valid(summary) => summary.kept,
+            Kept::Valid(summary) => summary.list.span,
             Kept::Faulty(_) => ListSpan::nowhere(),
         }
     }
@@ -168,7 +149,7 @@ impl Kept {
         ensures { result ≡ own_span self.now }
     {
         match self {
-            Kept::Valid(summary) if summary.same_as.is_none() => Some(summary.kept),
+            Kept::Valid(summary) if summary.list.same_as.is_none() => Some(summary.list.span),
             _ => None,
         }
     }
@@ -178,7 +159,7 @@ impl Kept {
         ensures { result ≡ same_list self.now }
     {
         match self {
-            Kept::Valid(summary) => summary.same_as,
+            Kept::Valid(summary) => summary.list.same_as,
             Kept::Faulty(_) => None,
         }
     }

@@ -1,5 +1,4 @@
-use Rattle.std.proofs.Common.{◌≡◌, ◌∙◌, ◌∷◌, [], ℕ, Err, None, Option, ap, arith, length, refl, subst, sym}
-use Rattle.gm_file.specs.Main.{Main}
+use Rattle.std.proofs.Common.{◌≡◌, ◌∙◌, ◌∷◌, [], ℕ, Err, None, Option, ap, arith, length, refl, sym}
 use Rattle.gm_store.specs.Asked.{Name, name_of}
 use Rattle.gm_store.specs.Requests.{refused_for}
 use Rattle.gm_graph.specs.declared.cache.file_table.FileTable.{FileTable}
@@ -17,7 +16,7 @@ use Rattle.gm_graph.proofs.PuttingPlaces.{same_files}
 use Rattle.gm_graph.proofs.SharedLists.{listed_push}
 use Rattle.gm_graph.proofs.HeldFiles.{added_some, kept_some}
 use Rattle.gm_graph.specs.Private.KeptLists.{NotesAll, own_lists}
-use Rattle.gm_graph.specs.Private.Summaries.{AreKeptIn, AreListsInOrder, IsKeptIn}
+use Rattle.gm_graph.specs.Private.Summaries.{AreKeptIn, AreListsInOrder}
 use Rattle.gm_name_table.specs.Listed.{modules_of}
 use Rattle.gm_graph.proofs.Ordered.{begins_added, has_added}
 use Rattle.gm_graph.proofs.MoreAnswers.{knows_read, none_still, not_asked, sound_read}
@@ -72,15 +71,13 @@ invariant_of-self-in-Ok g c =
         first_are = was.first_are;
         places_within = c.add.ensures.within (length (table_in mid)) is.within was.places_within;
         holds_some = added_some (main_in mid) (sums_in mid) mid.modules mid.files c.add.new.self c.add.result (name_of c.in_ok-name.name) kept
-            (read.0, rw c.read_file.ensures.lent.sums read.2) c.add.ensures.adds c.add.ensures.err was.holds_some;
+            (read.0, rw (c.read_file.ensures.lent.main, c.read_file.ensures.lent.sums) read.2) c.add.ensures.adds c.add.ensures.err was.holds_some;
         notes = c.add.ensures.notes (main_in mid) (table_in mid) is was.notes;
         in_order = has_added files c.add.new.self.files.items kept c.add.ensures.files
             (λ all. AreListsInOrder mid.first all (length mid.modules.numbers)) was.in_order c.in-Ok.ensures.order;
         listed = has_added files c.add.new.self.files.items kept c.add.ensures.files
-            (AreKeptIn (main_in mid) (modules_of mid.modules)) was.listed
-            (listed_push (main_in mid) (modules_of mid.modules) files kept was.listed
-            (subst (λ (m : Main). IsKeptIn m (modules_of mid.modules) files kept) (sym c.read_file.ensures.lent.main)
-            (rw c.read_file.ensures.files c.in-Ok.ensures.listed)));
+            (AreKeptIn (modules_of mid.modules)) was.listed
+            (listed_push (modules_of mid.modules) files kept was.listed (rw c.read_file.ensures.files c.in-Ok.ensures.listed));
       };
       notes = has_added files c.add.new.self.files.items kept c.add.ensures.files
           (λ all. NotesAll mid.lists (own_lists mid.modules.numbers all)) mid.notes (rw c.read_file.ensures.files c.in-Ok.ensures.next);

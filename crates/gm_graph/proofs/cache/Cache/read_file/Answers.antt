@@ -1,6 +1,7 @@
-use Rattle.std.proofs.Common.{Ok, Err, refl}
+use Rattle.std.proofs.Common.{Ok, Err, drop, refl}
 use Rattle.gm_store.specs.Asked.{name_of}
-use Rattle.gm_graph.specs.Cached.{main_in}
+use Rattle.gm_name_table.specs.Listed.{modules_of}
+use Rattle.gm_graph.specs.Private.Summaries.{listed_reading}
 use Rattle.gm_graph.proofs.AskedFile.{asked_one, asks_passed, asks_still}
 use Rattle.gm_graph.proofs.GrownCache.{grown_consistent, grown_notes}
 use Rattle.gm_graph.proofs.Keeping.{holds_grown, holds_itself}
@@ -12,7 +13,7 @@ pub kept_of-requires-clause-listed : goal.kept_of-requires-clause-listed
 kept_of-requires-clause-listed g c =
     let cache = c.args.self.now in
     rw c.files.ensures
-    (listed_front (main_in cache) cache.modules c.read_answer.new.modules cache.files.files.items c.len-start.result
+    (listed_front cache.modules c.read_answer.new.modules cache.files.files.items c.len-start.result
     c.len-start.ensures.len c.read_answer.ensures.grows cache.consistent.listed)
 
 pub kept_of-requires-clause-notes : goal.kept_of-requires-clause-notes
@@ -80,8 +81,15 @@ returns-clause-next g c = rw c.files.ensures at c.in_ok-kept.ensures.next
 pub returns-clause-reading : goal.returns-clause-reading
 returns-clause-reading g c =
     let (reply, _, _, adds) = c.in_ok-ask.ensures.answered in
-    let same = c.last.ensures.value (g.F.Asks.state c.args.files.now).asked (name_of c.args.name.now, reply) adds in
-    (reply, adds, rw (c.in_ok-kept.ensures.reading, c.len-start.ensures.len) (rw same at (c.in_ok-read.ensures.reading c.last.ensures.within_limit)))
+    let same = c.last.ensures.value (g.F.Asks.state c.args.files.now).asked (name_of c.args.name.now, reply) adds in (
+      reply,
+      adds,
+      record {
+        said = listed_reading (drop c.len-start.result (modules_of c.read_answer.new.modules)) c.in_ok-read.read;
+        reads = rw c.len-start.ensures.len (rw same at (c.in_ok-read.ensures.reading c.last.ensures.within_limit));
+        without = c.in_ok-kept.ensures.reading;
+      },
+    )
 
 pub returns-clause-asks : goal.returns-clause-asks
 returns-clause-asks g c =

@@ -15,10 +15,12 @@ returns-else-ne c =
     record {
       same = record {
         file = summary.file;
+        place = c.args.place;
+        shared = refl;
         there = slice_get_read files (length files) c.args.place c.in_ok-summary.field-0.now refl found.3.0 found.1
             ∙ ap (λ (kept : Kept). Some kept) c.in-Valid.is
-            ∙ ap (λ (o : Option ℕ). Some (Valid (record { file = summary.file; all = summary.all; kept = summary.kept; same_as = o })))
-            (none_if summary.same_as c.if-is_none.ensures);
+            ∙ ap (λ (o : Option ℕ). Some (Valid (record { file = summary.file; list = record { span = summary.list.span; same_as = o } })))
+            (none_if summary.list.same_as c.if-is_none.ensures);
         has = sym c.numbers.ensures.numbers ∙ same_numbers c.numbers.result.now c.args.numbers.now c.if-ne.ensures;
       };
       none = λ e. absurd (cc e);
