@@ -455,14 +455,14 @@ def main(*given):
     """Looks up what the documents name, prints what isn't there, and returns the status."""
     if given[:1] == ("--accept",):
         return sentences.accept(given[1:])
-    wrong = not given and sentences.compare() | names.main()
+    wrong = not given and sentences.compare()
     if not git("rev-parse", "HEAD"):
         sys.exit("documents: this is no repository of git, so nothing can be looked up")
     sources, tally = Sources(), Tally()
     documents = ["README.md", *glob.glob("docs/**/*.md", recursive=True), *glob.glob("crates/*/PROOFS.md"), MISTAKES]
     for name in given or sorted(documents):
         Document(name, sources, tally).read()
-    for keep in () if given else (keep_budgets, keep_figures, keep_alike, keep_derives, messages.keep):
+    for keep in () if given else (keep_budgets, keep_figures, keep_alike, keep_derives, messages.keep, names.keep):
         keep(tally)
     return int(tally.status() or wrong)
 

@@ -19,6 +19,8 @@ import sys
 
 CRATES = pathlib.Path("crates")
 COPYING = "page", "page_commands"  # the crates whose definitions are copies of others
+# the crates of which neither the program nor a library of users is made
+ASIDE = re.compile("gomod_(tests|case_.*|laws)|gm_file_edit_laws|run_cases|page|page_commands|library_example")
 # a `use` of either language: the words before it, the path, the names in braces, another name of a module
 USE = re.compile(r"(?m)^ *((?:unfoldable |pub |ghost )*)use ([\w.]+?)(?:\.\{([^}]*)\}| as (\w+))?;?$")
 # one of the code: its path, the names in braces, another name
@@ -37,6 +39,11 @@ CLAUSE = re.compile(r"(?m)^(?://.*\n)*(?:requires|ensures)\*? (?:(\w+) )?\{.*(?:
 def files(pattern, crate="*"):
     """The files of all crates, or of one, that are like a pattern."""
     return sorted(CRATES.glob(f"{crate}/{pattern}"))
+
+
+def product_files(pattern):
+    """Those of the crates that the program and libraries are made of."""
+    return [it for it in files(pattern) if not ASIDE.fullmatch(it.parts[1])]
 
 
 def first_sentence(path):
