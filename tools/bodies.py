@@ -1,8 +1,5 @@
-#!/usr/bin/env -S python3 -B
-"""Checks what no contract says of a body: which functions reach the system, and that none makes up a want of memory.
-
-    tools/bodies.py            compares the sources of the libraries and of the program with tools/bodies.txt
-    tools/bodies.py --print    prints the rows that they ask for, without reasons
+"""Checks what no contract says of a body, for tools/documents.py: which functions reach the system, and that none makes
+up a want of memory. It compares the sources of the libraries and of the program with tools/bodies.txt.
 
 What a function does with real files, words and streams is in no clause, and a body that answers "no memory" meets any
 contract. So a row of tools/bodies.txt, each with its reason, stands for
@@ -25,7 +22,6 @@ import functools
 import pathlib
 import re
 
-import script
 from script import checksum
 from sources import code_of, files, functions, items_of, paths_of
 
@@ -52,7 +48,8 @@ TOLD = re.compile(r"\b(?:cycle|repeat\w*|from_fn|successors)\(|(?:(?!\w+::MAX\b)
                   r"|\.(?:extend|collect)\(")
 WIDTH = re.compile(r"\b(?:format|write|writeln)!\((?:[^\"]*)\"[^\"]*\{\w*:[^}\"]*(?:\$|\*|\d\d)")
 LOOP = re.compile(r"\b(?:while|loop)\b[^{;]*\{|\bfor [^{;]*\.\.(?![^{;]*len\(\))[^{;]*\{")
-ALONE = {"makes-a-Lent": r"\bLent(?:::at\(| \{)", "appends-a-turn": r"(?:\.|TurnHistory::)and\(", "lends": r"\blend_at\("}
+ALONE = {"makes-a-Lent": r"\bLent(?:::at\(| \{)", "appends-a-turn": r"(?:\.|TurnHistory::)and\(",
+         "lends": r"\blend_at\("}
 SMALL = r"\d{1,3}"
 LENGTH = rf"(?:[\w.]+\.(?:len|count|\w+_count)\(\))(?: \+ {SMALL})?|{SMALL}"
 
@@ -238,22 +235,12 @@ def rows():
         yield kind, body.file, body.name, what
 
 
-def main(option=""):
-    """Compares both sides, or prints one, and returns the status."""
-    made = [" ".join(it) for it in rows()]
-    if option:
-        print("\n".join(made))
-        return 0
-    listed = [it.rpartition(": ")[0] for it in LIST.read_text().split("\n") if it and it[0] not in "# "]
-    more = collections.Counter(made) - collections.Counter(listed)
-    less = collections.Counter(listed) - collections.Counter(made)
-    for row in more.elements():
-        print(f"the sources have what {LIST} hasn't: {row}")
-    for row in less.elements():
-        print(f"{LIST} has what the sources haven't: {row}")
-    print(f"{len(made)} places that no contract speaks of, each for the reason in {LIST}; {len(more) + len(less)} wrong")
-    return 1 if more or less else 0
-
-
-if __name__ == "__main__":
-    script.run(main, "( --print)?")
+def keep(tally):
+    """Compares both sides."""
+    made = collections.Counter(" ".join(it) for it in rows())
+    listed = collections.Counter(re.findall(r"(?m)^([^#\s].*): ", LIST.read_text()))
+    tally["places that no contract speaks of", True] += (made & listed).total()
+    for row in (made - listed).elements():
+        tally.tell("places that no contract speaks of", False, f"{LIST} hasn't what the sources have: {row}")
+    for row in (listed - made).elements():
+        tally.tell("places that no contract speaks of", False, f"the sources haven't what {LIST} has: {row}")

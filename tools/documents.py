@@ -1,27 +1,28 @@
 #!/usr/bin/env -S python3 -B
-"""Checks what the documents name: that each file, crate, function, clause, law, test, edit, commit and title of a case
-is there, that counts are right, and that documents are no longer than their budgets.
+"""Checks what the documents name, and all else that files alone show.
 
-    tools/documents.py           README.md, all documents of docs/, PROOFS.md and MISTAKES.md of crates, what is told of
-                                 next, and what tools/names.py looks at
-    tools/documents.py FILE..    what these name alone
+    tools/documents.py                  README.md, all documents of docs/, PROOFS.md and MISTAKES.md of crates, and what
+                                        is told of below
+    tools/documents.py FILE..           what these name alone
     tools/documents.py --accept NAME..  writes the checksums anew of the sentences bound to these laws, or to `all`
+    tools/documents.py --trusted LOG    whether docs/proof/PROVED.md has the `axioms` lines and the verdict of gomod in
+                                        a log of `rt ci`, or of `rt check` in crates/gomod
+    tools/documents.py --trust LOG      writes them there
 
-What is looked at is a table in docs/dev/DEVELOPING.md ("What a document names"). README.md has at most 600 words
-outside examples and tables, and at most eight sentences on what is verified, of at most 30 words each; a release has at
-most 500 words in CHANGELOG.md. The other budgets are a table below, of words without the bars of tables, fenced code,
-comments, quotes (lines that begin with `>`), and what scripts write between marks (`<!-- show`). Each figure that
-README.md shows of speed is the one of docs/dev/BENCHMARKS.md, and both name the commit that was measured, which changed
-a source. docs/use/MESSAGES.md has each line that a case prints (tools/messages.py). Versions and calls of the system
-are those of the scripts that have them, too.
+What a document names is a table in docs/dev/DEVELOPING.md ("What a document names"). How long one may be is a table
+below, without bars of tables, fenced code, comments, quotes (`>`), and what scripts write between marks (`<!-- show`).
+README.md has at most 600 words outside examples and tables, and eight sentences of 30 on what is verified; a release
+has 500 in CHANGELOG.md. README.md's figures of speed are those of docs/dev/BENCHMARKS.md, and both name the commit that
+was measured, which changed a source. Types derive no Hash, and Debug if they are errors or docs/lib/LIBRARY.md names
+them.
 
-For each sentence of README.md on what is verified, and each of docs/proof/PROVED.md that names a law, there is a
-checksum of the sentence and one of what the law states (tools/sentences.py). If one is no longer right, both texts are
-printed. Who changes one compares them before --accept.
+If a sentence on what is proved, or what its law states, isn't the one of its checksum (tools/sentences.py), both are
+printed. Who changes one compares them before --accept. Then come the lines that cases print (tools/messages.py), names
+of options (tools/names.py), what no contract says of a body (tools/bodies.py), and whether each edit that must fail
+names its clause, has a twin, and changes src/ alone.
 
-It needs git and python3, but no program. In a clone without its whole history commits are not looked for, and it says
-so. It prints each thing that is wrong, with its file and line, how many commits changed a source since the figures were
-measured, and how many of each kind it looked at. The status is 1 if one was wrong.
+It needs git and python3, but no program. In a clone without its whole history no commits are looked for. The status is
+1 if something is wrong.
 """
 
 import collections
@@ -34,8 +35,10 @@ import re
 import sys
 import typing
 
+import bodies
 import messages
 import names
+import refusals
 import script
 import sentences
 from script import Tally, git, read
@@ -64,14 +67,15 @@ BUDGETS = """
  4930 docs/dev/PROOFS.md crates/*/PROOFS.md
   800 docs/dev/BENCHMARKS.md
 """
-NUMBERS = "one two three four five six seven eight nine ten eleven twelve".split()
+NUMBERS = "zero one two three four five six seven eight nine ten eleven twelve".split()
 # what a document has, and the file that has the same
 ALIKE = (
     ("docs/use/RECIPES.md", r"curl (\d+\.\d+) or newer", "example/fetch-missing.sh", r"curl \((\d+\.\d+) or newer"),
     ("docs/proof/PROVED.md", r"calls of the system alone: ([\w, ]+?) \|", "tools/opened.py", r"OWN = set\(\"([\w ]+)"),
 )
 MISTAKES, FIGURES = "crates/run_cases/MISTAKES.md", "docs/dev/BENCHMARKS.md"
-LIBRARY = "docs/lib/LIBRARY.md"
+LIBRARY, PROVED = "docs/lib/LIBRARY.md", pathlib.Path("docs/proof/PROVED.md")
+PARTS = "src", "specs", "proofs"
 
 # names in backquotes one after another, each with a remark in brackets or without
 LIST = r"`\w+`(?: \([^()]*\))?(?:(?:, and |, | and )`\w+`(?: \([^()]*\))?)*"
@@ -81,10 +85,7 @@ SHOWN = r"^<!-- show [^\n]*? -->\n.*?^<!-- end -->$"
 PATH = re.compile(r"(?<![\w/.@:~$!-])\.?\w[\w.-]*(?:/[\w.*-]+)*/?")
 COMMIT = re.compile(r"(?<![\w.=-])(?=\d*[a-f])(?=[a-f]*\d)(?:[0-9a-f]{40}|[0-9a-f]{7,12})(?![\w-])")
 WORD = re.compile(r"[^\s(){}\[\],;.:<>&|\"`]+")
-
-
-def lines_of(path):
-    return read(path).split("\n")
+TITLES = r'\b([a-z_]+\.txt), ("[^"]+"(?:(?:, and |, | and )"[^"]+")*)'
 
 
 def names_in(listed):
@@ -107,7 +108,6 @@ class Sources:
         listed = git("ls-files", "-co", "--exclude-standard").split("\n")
         self.files = {it for it in listed if it and os.path.lexists(it)}
         self.paths = self.files | {str(it) for path in self.files for it in pathlib.Path(path).parents}
-        self.bases = {os.path.basename(it) for it in self.files}
         self.crates = {it.split("/")[1] for it in self.files if it.startswith("crates/") and it.count("/") > 1}
         self.edits = {(it.split("/")[1], it.split("/")[3][:-5]) for it in self.files if it.endswith(".edit")}
         self.words = collections.defaultdict(set)  # folder of a crate: the words of its files, without comments
@@ -117,238 +117,214 @@ class Sources:
         self.titles = collections.defaultdict(set)  # file: titles of cases
         for path in map(pathlib.Path, sorted(self.files)):
             if path.suffix in (".rt", ".antt"):
-                folder = self.words[path.parts[1], path.parts[2]]
                 text = code_of(path) if path.suffix == ".rt" else plain(path.read_text(encoding="utf-8"))
-                folder.update(WORD.findall(text), path.with_suffix("").parts)
+                self.words[path.parts[1:3]].update(WORD.findall(text), path.with_suffix("").parts)
                 if path.suffix == ".rt":
                     self.read_code(path, text)
             elif re.fullmatch(r"crates/run_cases/data/(sizes/|program/)?\w+\.txt", str(path)):
-                self.titles[path.name] |= {it[4:] for it in lines_of(path) if it.startswith("=== ")}
+                self.titles[path.name].update(re.findall(r"(?m)^=== (.*)", read(path)))
         self.version = re.search(r'VERSION: &str = "(.*)"', read("crates/gomod_words/src/help.rt"))[1]
         self.counted = self.counts()
 
     def read_code(self, path, text):
         """Reads the functions of a source."""
         crate, modules = path.parts[1], set(path.with_suffix("").parts[3:])
-        is_law = crate.endswith("_laws") or "laws" in modules
-        self.public[crate] |= {it.name for it in public_items(path)} | set(path.with_suffix("").parts[3:])
+        self.public[crate] |= {it.name for it in public_items(path)} | modules
         self.tests.update(re.findall(r"(?m)^ *#\[test\]\n(?: *#\[.*\n)* *(?:pub )?fn (\w+)", text))
         for one, block in functions(text):
             owners = re.findall(r"^[\w:]+", block.trait) + [block.name] if block else []
-            within = {it.split("::")[-1] for it in owners}
+            within = modules.union(it.split("::")[-1] for it in owners)
             clauses = set(re.findall(r"(?m)^\s+(?:ensures|requires)\*? ([a-z]\w*)", one.text))
             is_public = one.visibility == "pub" or bool(block and (block.trait or block.kind == "trait"))
-            self.calls[one.name].append(Call(crate, within | modules, clauses, is_public))
-            self.laws |= {one.name} if is_law else set()
+            self.calls[one.name].append(Call(crate, within, clauses, is_public))
+            self.laws |= {one.name} if crate.endswith("_laws") or "laws" in modules else set()
 
     def is_name(self, name, is_inner):
         """Whether a source has a name: in src/ and specs/, or, with the inner ones, in proofs/ too."""
-        folders = ("src", "specs", "proofs") if is_inner else ("src", "specs")
         return (name in ELSEWHERE or name in self.crates or any(name == edit for _, edit in self.edits)
-                or any(name in words for (_, folder), words in self.words.items() if folder in folders))
+                or any(name in words for (_, part), words in self.words.items() if part in PARTS[:2 + is_inner]))
 
     def leads(self, path, is_public):
         """Whether a path of names, as `Type::function` or `crate::module::Type`, leads to something (public)."""
         *owners, last = path.split("::")
-        crates = {owners[0]} if owners[0] in self.crates else self.crates
+        crates = self.crates.intersection(owners[:1]) or self.crates
         inner = set(owners) - self.crates
         if last in self.calls and last[0].islower():
             return any(it.crate in crates and inner <= it.within and (it.is_public or not is_public)
                        for it in self.calls[last])
-        for it in crates:
-            words = self.words[it, "src"] | self.words[it, "specs"]
-            if {last, *inner} <= words and (not is_public or (inner or {last}) <= self.public[it]):
-                return True
-        return False
+        return any({last, *inner} <= self.words[it, "src"] | self.words[it, "specs"]
+                   and (not is_public or (inner or {last}) <= self.public[it]) for it in crates)
 
     def clauses_of(self, path, crates):
-        """The names of the clauses of the functions that a call may be, or None if there is no such function."""
+        """The names of the clauses of the functions that a call may be."""
         *owners, last = path.split("::")
-        crates = {owners[0]} if owners and owners[0] in self.crates else crates
-        for among in (crates, self.crates):
-            found = [it.clauses for it in self.calls[last]
-                     if it.crate in among and set(owners) - self.crates <= it.within]
-            if found:
+        for among in (self.crates.intersection(owners[:1]) or crates, self.crates):
+            if found := [it.clauses for it in self.calls[last]
+                         if it.crate in among and set(owners) - self.crates <= it.within]:
                 return set().union(*found)
-        return None
+        return set()
 
     def is_file(self, path):
         """Whether there is such a file or folder; a part in capitals is any name."""
-        path = "/".join(re.sub(r"^[A-Z]+(?=\.|$)", "*", it) for it in path.split("/"))
-        names = (path, f"{path}.antt", f"{path}.rt")
-        return any(it in self.paths or "*" in it and fnmatch.filter(self.paths, it) for it in names)
+        path = re.sub(r"(?<![^/])[A-Z]+(?=[./]|$)", "*", path)
+        return any(it in self.paths or "*" in it and fnmatch.filter(self.paths, it)
+                   for it in (path, f"{path}.antt", f"{path}.rt"))
 
     def counts(self):
         """What can be counted, by its name in a document."""
         cases = re.match(r"(\d+) passed, 0 failed, (\d+) runs", read("crates/run_cases/stdout"))
-        variants = {kind: len(re.findall(r"(?m)^    ([A-Z]\w*)\b", re.search(
-            rf"(?ms)^pub enum {kind}\b.*?^\}}", read(f"crates/{file}"))[0])) for kind, file in (
-            ("Command", "gomod_words/src/usage.rt"), ("OperationKind", "gm_operation/src/kind.rt"))}
+        commands, operations = (
+            len(re.findall(r"(?m)^    [A-Z]\w*\b", re.search(rf"(?ms)^pub enum {kind}\b.*?^\}}", read(file))[0]))
+            for kind, file in (("Command", "crates/gomod_words/src/usage.rt"),
+                               ("OperationKind", "crates/gm_operation/src/kind.rt")))
         return {
             "cases": int(cases[1]), "runs": int(cases[2]), "edits": len(self.edits), "crates": len(self.crates),
-            "programs": sum(f"crates/{it}/src/main.rt" in self.files for it in self.crates),
-            "libraries": sum(f"crates/{it}/src/lib.rt" in self.files for it in self.crates),
-            "tests": len(self.tests), "commands": variants["Command"], "operations": variants["OperationKind"],
+            "programs": len(fnmatch.filter(self.files, "crates/*/src/main.rt")),
+            "libraries": len(fnmatch.filter(self.files, "crates/*/src/lib.rt")),
+            "tests": len(self.tests), "commands": commands, "operations": operations,
         }
 
 
 class Document:
-    """One document, and what was found in it."""
+    """One document, and what was found in it. What reads a line gives the kind of each thing that it names, the thing,
+    and whether it is there."""
 
-    def __init__(self, name, sources, tally):
-        self.name, self.sources, self.tally = name, sources, tally
+    def __init__(self, name, sources):
+        self.name, self.sources = name, sources
         self.base = os.path.basename(name)
-        self.number, self.section, self.header = 0, set(), []
-
-    def tell(self, kind, is_right, message):
-        self.tally.tell(kind, is_right, f"{self.name}:{self.number}: {message}")
+        self.section, self.header = set(), []
 
     def crates_in(self, text):
-        return {it for it in re.findall(r"\w+", text) if it in self.sources.crates}
+        return self.sources.crates.intersection(re.findall(r"\w+", text))
 
     def crates_for(self, line):
         """The crates that a line may speak of: those of the section and those that it names, or else all."""
         return (self.section | self.crates_in(line)) if self.section else self.sources.crates
 
-    def read(self):
+    def keep(self, tally):
         """Looks up all that the document names."""
-        text = re.sub(r"(?ms)^```.*?^```$", lambda it: "\n" * it[0].count("\n"), read(self.name))
-        lines = text.split("\n")
-        for self.number, line in enumerate(lines, 1):
+        lines = re.sub(r"(?ms)^```.*?^```$", lambda it: "\n" * it[0].count("\n"), read(self.name)).split("\n")
+        for number, line in enumerate(lines, 1):
             if line.startswith("## ") or (line.startswith("### ") and self.section):
                 named = self.crates_in(line.split(":")[0])
                 self.section = named if line.startswith("## ") or named else self.section
-            self.read_files(line)
-            if line.startswith("    "):
-                self.read_choice(line)
-                self.read_others(line)
-                continue
-            is_head = line.startswith("|") and "".join(lines[self.number: self.number + 1]).startswith("|---")
+            is_head = line.startswith("|") and "".join(lines[number: number + 1]).startswith("|---")
             self.header = self.header if line.startswith("|") and not is_head else []
-            for look in (self.read_names, self.read_clauses, self.read_edits, self.read_commits, self.read_titles,
-                         self.read_counts, self.read_others):
-                look(line)
+            looks = [self.files, self.others]
+            looks += [self.choices] if line.startswith("    ") else [
+                self.names, self.crates, self.clauses, self.edits, self.commits, self.titles, self.counts]
+            for kind, thing, is_there in (it for look in looks for it in look(line)):
+                tally.tell(kind, is_there, f"{self.name}:{number}: {kind}: there is no {thing}")
             if is_head:
                 self.header = [it.strip() for it in line.strip().strip("|").split(" | ")]
 
-    def cells(self, line):
-        """The cells of a row of a table, each with the name of its column."""
+    def cells(self, line, columns, flags=0):
+        """The cells of a row of a table whose column has such a name."""
         row = re.split(r"(?<!\\)\|", line.strip()[1:-1]) if line.startswith("|") else []
-        return list(zip(self.header, row))
+        return [cell for column, cell in zip(self.header, row) if re.search(columns, column, flags)]
 
-    def read_files(self, line):
-        """Looks up files and folders."""
-        for found in PATH.finditer(line):
-            word = found[0].rstrip(".").rstrip("/")
+    def files(self, line):
+        """Files and folders."""
+        for found in PATH.findall(line):
+            word = found.rstrip(".").rstrip("/")
             first, *rest = word.split("/")
             if "out" in rest or f"{word}/".startswith(MADE):
                 continue
-            if rest and first in ("src", "specs", "proofs"):
-                is_there = any(self.sources.is_file(f"crates/{it}/{word}") for it in self.crates_for(line))
-            elif rest and first in self.sources.crates and rest[0] in ("src", "specs", "proofs", "data"):
-                is_there = self.sources.is_file(f"crates/{word}")
+            if rest and first in PARTS:
+                places = [f"crates/{it}/{word}" for it in self.crates_for(line)]
+            elif rest and first in self.sources.crates and rest[0] in (*PARTS, "data"):
+                places = [f"crates/{word}"]
             elif rest and first in self.sources.paths:
-                is_there = self.sources.is_file(word)
+                places = [word]
             elif re.fullmatch(r"[\w-]+\.(?:rt|antt|sh|py|rs|txt|md)", word) and not line.startswith("    "):
-                is_there = word in self.sources.bases
+                yield "files", word, any(f"/{it}".endswith(f"/{word}") for it in self.sources.files)
+                continue
             else:
                 continue
-            self.tell("files", is_there, f"there is no file {word}")
+            yield "files", word, any(map(self.sources.is_file, places))
 
-    def read_names(self, line):
-        """Looks up names in backquotes, and crates."""
+    def names(self, line):
+        """Names in backquotes."""
         is_inner = self.base == "PROOFS.md" or "proofs/" in line
         for text in re.findall(r"`([^`]+)`", line):
             if re.fullmatch(r"\w+(?:::\w+)+", text) and text.split("::")[0] not in OTHER_ROOTS:
-                is_right = self.sources.leads(text, self.base in ("README.md", "LIBRARY.md"))
-                self.tell("paths of names", is_right, f"`{text}` leads to nothing")
+                yield "paths of names", text, self.sources.leads(text, self.base in ("README.md", "LIBRARY.md"))
             elif re.fullmatch(r"[a-z]\w*_\w*|[A-Z][a-z]\w*[A-Z]\w*", text) or (
                     self.base == "PROOFS.md" and re.fullmatch(r"[a-z]\w*(?:-\w+)+", text)):
-                self.tell("names", self.sources.is_name(text, is_inner), f"there is no `{text}`")
-        for name in re.findall(r"(?<![\w/.@])(?:gm|gomod)_\w+", line):
-            self.tell("crates", self.sources.is_name(name, False), f"there is no crate {name}")
+                yield "names", text, self.sources.is_name(text, is_inner)
         for kind, listed in re.findall(rf"\b(law|test)s? ({LIST})", line):
-            for name in names_in(listed):
-                is_there = name in (self.sources.laws if kind == "law" else self.sources.tests)
-                self.tell(f"{kind}s", is_there, f"there is no {kind} `{name}`")
-        for column, cell in self.cells(line):
-            if re.search(r"\bCalls?\b|\bLaws?\b|\bClause\b|\bCarried by\b", column) and self.base != "CASES.md":
-                for name in re.findall(r"`([a-z]+|[A-Z][a-z]+)`", re.sub(r"\([^()]*\)", "", cell)):
-                    self.tell("names", self.sources.is_name(name, False), f"there is no `{name}`")
-            if column == "Crate" and re.fullmatch(r" *\w+(?:, \w+)* *", cell):
-                for name in re.findall(r"\w+", cell):
-                    self.tell("crates", name in self.sources.crates, f"there is no crate {name}")
+            there = self.sources.laws if kind == "law" else self.sources.tests
+            yield from ((f"{kind}s", it, it in there) for it in names_in(listed))
+        columns = r"\bCalls?\b|\bLaws?\b|\bClause\b|\bCarried by\b"
+        for cell in self.cells(line, columns) if self.base != "CASES.md" else ():
+            for name in re.findall(r"`([a-z]+|[A-Z][a-z]+)`", re.sub(r"\([^()]*\)", "", cell)):
+                yield "names", name, self.sources.is_name(name, False)
 
-    def read_clauses(self, line):
-        """Looks up the clauses of calls."""
+    def crates(self, line):
+        for name in re.findall(r"(?<![\w/.@])(?:gm|gomod)_\w+", line):
+            yield "crates", name, self.sources.is_name(name, False)
+        for cell in self.cells(line, "^Crate$"):
+            if re.fullmatch(r" *\w+(?:, \w+)* *", cell):
+                yield from (("crates", it, it in self.sources.crates) for it in re.findall(r"\w+", cell))
+
+    def clauses(self, line):
+        """The clauses of calls."""
         forms = re.findall(rf"{CALL}(?: \([^()]*\))?,? \(?(?:and )?clauses? ({LIST})(?! of `)", line)
         forms += [it[::-1] for it in re.findall(rf"clauses? ({LIST}) of {CALL}", line)]
-        forms += [it[::-1] for column, cell in self.cells(line) if column == "Clause"
-                  for it in re.findall(rf"({LIST}) of {CALL}", cell)]
+        forms += [it[::-1] for cell in self.cells(line, "^Clause$") for it in re.findall(rf"({LIST}) of {CALL}", cell)]
         for call, listed in forms:
             known = self.sources.clauses_of(call, self.crates_for(line))
-            for name in names_in(listed):
-                self.tell("clauses", known is not None and name in known, f"`{call}` has no clause `{name}`")
+            yield from (("clauses", f"{it} of {call}", it in known) for it in names_in(listed))
 
-    def read_edits(self, line):
-        """Looks up edits that must fail."""
+    def edits(self, line):
+        """Edits that must fail, or that went."""
         went = self.header[:1] == ["Edit that went"]
         for crate, name in re.findall(r"(?<![\w/])(\w+)/([a-z]\w*)(?![\w/.])", line):
             if crate in self.sources.crates and f"crates/{crate}/{name}" not in self.sources.paths:
                 is_there = (crate, name) in self.sources.edits
-                self.tell("edits", is_there != went, f"the edit {crate}/{name} is {'still' if went else 'not'} there")
-        for listed in re.findall(rf"\bedits? ({LIST})", line):
-            for name in filter(lambda it: "_" in it, names_in(listed)):
-                self.tell("edits", any(name == edit for _, edit in self.sources.edits), f"there is no edit `{name}`")
+                yield "edits", f"{crate}/{name}{' that went' * went}", is_there != went
+        for name in (it for listed in re.findall(rf"\bedits? ({LIST})", line) for it in names_in(listed) if "_" in it):
+            yield "edits", name, any(name == edit for _, edit in self.sources.edits)
 
-    def read_commits(self, line):
-        """Looks up commits."""
-        for found in COMMIT.finditer(line):
-            if is_shallow():
-                self.tally.tell("commits not looked for", True)
-            else:
-                whole = git("rev-parse", f"{found[0]}^{{commit}}")
-                is_right = whole and whole == git("merge-base", whole, "HEAD")
-                self.tell("commits", is_right, f"there is no commit {found[0]} before this one")
+    def commits(self, line):
+        for it in COMMIT.findall(line):
+            whole = git("rev-parse", f"{it}^{{commit}}")
+            yield (("commits not looked for", it, True) if is_shallow() else
+                   ("commits", f"{it} before this one", whole and whole == git("merge-base", whole, "HEAD")))
 
-    def read_titles(self, line):
-        """Looks up the titles of cases."""
-        after = set()
-        for file, titles in re.findall(r'\b([a-z_]+\.txt), ("[^"]+"(?:(?:, and |, | and )"[^"]+")*)', line):
-            for title in re.findall(r'"([^"]+)"', titles):
-                after.add(title)
-                self.tell("titles of cases", title in self.sources.titles[file], f'{file} has no case "{title}"')
-        for column, cell in self.cells(line):
-            for title in re.findall(r'"([^"]+)"', cell) if re.search(r"\bcase|\bfails\b", column, re.I) else ():
-                if title not in after:
-                    is_there = any(title in it for it in self.sources.titles.values())
-                    self.tell("titles of cases", is_there, f'there is no case "{title}"')
+    def titles(self, line):
+        """The titles of cases."""
+        after = [(file, it) for file, titles in re.findall(TITLES, line) for it in re.findall(r'"([^"]+)"', titles)]
+        for file, title in after:
+            yield "titles of cases", f'{file}, "{title}"', title in self.sources.titles[file]
+        for cell in self.cells(line, r"\bcase|\bfails\b", re.I):
+            for title in set(re.findall(r'"([^"]+)"', cell)) - {title for _, title in after}:
+                yield "titles of cases", title, any(title in it for it in self.sources.titles.values())
 
-    def read_choice(self, line):
+    def choices(self, line):
         for file, word in re.findall(r"\brun_cases ([a-z_]+\.txt) (\w+)", line):
-            is_there = any(word in it for it in self.sources.titles[file])
-            self.tell("titles of cases", is_there, f"{file} has no case whose title has '{word}'")
+            yield "titles of cases", f"{file} with '{word}'", any(word in it for it in self.sources.titles[file])
 
-    def read_counts(self, line):
+    def counts(self, line):
         numbers, things = "|".join(NUMBERS), "|".join(self.sources.counted)
         for said, what in re.findall(rf"\b[Aa]ll (\d[\d,]*|{numbers}) ({things})\b", line):
-            number = NUMBERS.index(said) + 1 if said in NUMBERS else int(said.replace(",", ""))
+            number = NUMBERS.index(said) if said in NUMBERS else int(said.replace(",", ""))
             there = self.sources.counted[what]
-            self.tell("counts", number == there, f"there are {there:,} {what}, not {said}")
+            yield "counts", f"such number: there are {there:,} {what}, not {said}", number == there
 
-    def read_others(self, line):
-        """Looks up versions of the program and headings."""
+    def others(self, line):
+        """Versions of the program, and headings."""
         version = self.sources.version
-        for said in re.findall(r"gomod (\d+\.\d+\.\d+ \([^()]*\))", line):
-            self.tell("versions", said == version, f"gomod --version prints {version}")
-        for said in re.findall(r"gomod-(\d+\.\d+\.\d+)-", line):
-            self.tell("versions", said == version.split()[0], f"gomod --version prints {version}")
-        for said in re.findall(r"\blogic (?:is )?`?([0-9a-f]{16})\b", line):
-            self.tell("versions", said in version, f"gomod --version has not the logic {said}")
+        logic = re.search("[0-9a-f]{16}|$", version)[0]
+        for form, there in ((r"gomod (\d+\.\d+\.\d+ \([^()]*\))", version),
+                            (r"gomod-(\d[\d.]+\d)-", version.split()[0]),
+                            (r"\blogic (?:is )?`?([0-9a-f]{16})\b", logic)):
+            for said in re.findall(form, line):
+                yield "versions", f"{said}: gomod --version prints {version}", said == there
         for base, title in re.findall(r'\b([A-Z]+\.md), "([^"]+)"', line):
             paths = [it for it in self.sources.files if os.path.basename(it) == base]
-            is_there = any(re.fullmatch(rf"#+ {re.escape(title)}", it) for path in paths for it in lines_of(path))
-            self.tell("headings", is_there, f'{base} has no section "{title}"')
+            is_there = any(re.search(rf"(?m)^#+ {re.escape(title)}$", read(it)) for it in paths)
+            yield "headings", f'{base}, "{title}"', is_there
 
 
 @functools.cache
@@ -361,31 +337,23 @@ def is_shallow():
 
 def words_of(path):
     """How many words a document has, without bars of tables, fenced code, comments, and what other files say."""
-    text = re.sub(rf"(?ms)^```.*?^```$|{SHOWN}|<!--.*?-->|^>[^\n]*$", "", read(path))
-    rows = re.sub(r"(?m)^\|[-:| ]+\|$", "", text).split("\n")
-    return sum(len((re.sub(r"(?<!\\)\|", " ", it) if it.startswith("|") else it).split()) for it in rows)
+    text = re.sub(rf"(?ms)^```.*?^```$|{SHOWN}|<!--.*?-->|^>[^\n]*$|^\|[-:| ]+\|$", "", read(path))
+    return sum(len((re.sub(r"(?<!\\)\|", " ", it) if it.startswith("|") else it).split()) for it in text.split("\n"))
 
 
-def words_in(lines):
-    """How many words these lines have, outside examples, tables and comments."""
-    return sum(len(it.split()) for it in lines if not re.match(r"    |\||\s*<!--", it))
-
-
-def sections_of(path):
-    sections, heading = collections.defaultdict(list), ""
-    for line in lines_of(path):
-        heading = line[3:] if line.startswith("## ") else heading
-        sections[heading].append(line)
-    return sections
+def words_in(text):
+    """How many words a text has, outside examples, tables and comments."""
+    return sum(len(it.split()) for it in text.split("\n") if not re.match(r"    |\||\s*<!--", it))
 
 
 def keep_budgets(tally):
     """Whether all documents are as short as they should be."""
-    readme = sections_of("README.md")
-    claims = [it[2:] for it in readme["What is verified"] if it.startswith("- ")]
-    budgets = [("README.md", sum(map(words_in, readme.values())), 600), ("README.md, What is verified", len(claims), 8)]
+    readme = read("README.md")
+    claims = re.findall(r"(?m)^- (.*)", readme.partition("\n## What is verified\n")[2].partition("\n## ")[0])
+    budgets = [("README.md", words_in(readme), 600), ("README.md, What is verified", len(claims), 8)]
     budgets += [(f"README.md, '{it}'", len(it.split()), 30) for it in claims]
-    budgets += [(f"CHANGELOG.md, {it}", words_in(lines), 500) for it, lines in sections_of("CHANGELOG.md").items()]
+    budgets += [(f"CHANGELOG.md, {it.partition(chr(10))[0]}", words_in(it), 500)
+                for it in re.split(r"(?m)^(?=## )", read("CHANGELOG.md"))]
     for most, *patterns in (it.split() for it in BUDGETS.strip().split("\n")):
         for it in (it for it in patterns if not glob.glob(it)):
             tally.tell("budgets", False, f"there is no file {it}")
@@ -395,7 +363,7 @@ def keep_budgets(tally):
         tally.tell("budgets", number <= most, f"{what}: {number:,}, and at most {most:,} should be")
 
 
-# ---- figures and messages
+# ---- what two files say
 
 
 def shown_in(path):
@@ -441,31 +409,51 @@ def keep_figures(tally):
 
 def keep_derives(tally):
     """Whether types derive no Hash, and Debug if they are errors or docs/lib/LIBRARY.md names them: each is proved."""
-    named = re.findall(CALL, re.search(r"`Debug` is derived by errors and by (.*), `Hash`", read(LIBRARY))[1])
-    derives = {name: words.split(", ") for path in glob.glob("crates/*/src/**/*.rt", recursive=True)
-               for words, name in re.findall(DERIVE, read(path))}
-    for name in sorted({it for it, words in derives.items() if "Debug" in words and "Error" not in words} ^ {*named}):
-        tally.tell("derives", False, f"{LIBRARY}: {name} derives Debug or is named there, and not both")
-    for name in (it for it, words in derives.items() if "Hash" in words):
-        tally.tell("derives", False, f"{LIBRARY}: {name} derives Hash, and nothing is named there")
-    tally.tell("derives", True, "")
+    named = set(re.findall(CALL, re.search(r"`Debug` is derived by errors and by (.*), `Hash`", read(LIBRARY))[1]))
+    for path in glob.glob("crates/*/src/**/*.rt", recursive=True):
+        for words, name in ((words.split(", "), name) for words, name in re.findall(DERIVE, read(path))):
+            tally.tell("derives", "Hash" not in words, f"{path}: {name} derives Hash")
+            if "Debug" in words and "Error" not in words:
+                tally.tell("derives", name in named, f"{LIBRARY}: {name} derives Debug, and isn't named there")
+                named.discard(name)
+    for name in named:
+        tally.tell("derives", False, f"{LIBRARY}: {name} derives no Debug, or is an error")
 
 
-def main(*given):
+def trusted(log, is_written):
+    """Compares what a log says that the check of gomod trusts with PROVED.md, or writes it there; gives the status."""
+    parts = re.split(r"(?m)^== (\S+).*\n", read(log))
+    said = dict(zip(parts[1::2], parts[2::2])).get("gomod", "") if len(parts) > 1 else parts[0]
+    verdicts = re.findall(r"(?m)^logic=proved.*target=.*", said)
+    if not verdicts:
+        print("documents: the log has no verdict of gomod, so nothing was compared")
+        return 0
+    # what speeds a check up alone isn't in the gate's verdict
+    lines = [*re.findall(r"(?m)^axioms \w+: .*", said), re.sub(" (incremental|cache)=trusted", "", verdicts[-1])]
+    text, count = re.subn(r"(?ms)^(<!-- show trusted -->\n```\n).*?^(```\n<!-- end -->)$",
+                          lambda it: it[1] + "".join(f"{line}\n" for line in lines) + it[2], PROVED.read_text())
+    if not count:
+        sys.exit(f"documents: {PROVED} has no marks `<!-- show trusted -->`")
+    return script.keep(PROVED, text, not is_written, "tools/documents.py --trust LOG")
+
+
+def main(*words):
     """Looks up what the documents name, prints what isn't there, and returns the status."""
-    if given[:1] == ("--accept",):
-        return sentences.accept(given[1:])
-    wrong = not given and sentences.compare()
+    if words[:1] == ("--accept",):
+        return sentences.accept(words[1:])
+    if words[:1] in (("--trust",), ("--trusted",)):
+        return trusted(words[1], words[0] == "--trust")
     if not git("rev-parse", "HEAD"):
         sys.exit("documents: this is no repository of git, so nothing can be looked up")
     sources, tally = Sources(), Tally()
     documents = ["README.md", *glob.glob("docs/**/*.md", recursive=True), *glob.glob("crates/*/PROOFS.md"), MISTAKES]
-    for name in given or sorted(documents):
-        Document(name, sources, tally).read()
-    for keep in () if given else (keep_budgets, keep_figures, keep_alike, keep_derives, messages.keep, names.keep):
+    for name in words or sorted(documents):
+        Document(name, sources).keep(tally)
+    for keep in () if words else (sentences.keep, keep_budgets, keep_figures, keep_alike, keep_derives, messages.keep,
+                                  names.keep, bodies.keep, refusals.keep):
         keep(tally)
-    return int(tally.status() or wrong)
+    return tally.status()
 
 
 if __name__ == "__main__":
-    script.run(main, r"(( --accept)?( (?!-)\S+)+)?")
+    script.run(main, r"(( --accept)?( (?!-)\S+)+| --trust(ed)? (?!-)\S+)?")

@@ -5,7 +5,6 @@ place is still proved.
     tools/refusals.py                     every edit of every crate
     tools/refusals.py NAME.. NAME/EDIT..  those of these crates, or these edits alone
     tools/refusals.py --only ..           checks for each edit and twin the function alone that `# clause:` names
-    tools/refusals.py --table ..          proves nothing, and prints what each edit does, its name, and its clause
 
 An edit, crates/NAME/must-fail/EDIT.edit, has lines that the merge gate passes over:
 
@@ -17,9 +16,9 @@ An edit, crates/NAME/must-fail/EDIT.edit, has lines that the merge gate passes o
 
 For each edit it prints a line: `refused`, `other` with the goals where it was refused instead, or `PROVED`; and for its
 twin `twin proved` or `twin REFUSED`. The status is 1 if an edit was not refused at its clause, names none, or its twin
-was not proved. A goal whose answer only names what the edit took away does not count. With --table the status is 1 if
-an edit names no clause, has no twin, or changes more than src/: an edit that takes answers out of proofs/ may be
-refused for that alone.
+was not proved. A goal whose answer only names what the edit took away does not count. tools/documents.py looks that
+each edit names a clause, has a twin, and changes src/ alone: one that takes answers out of proofs/ may be refused for
+that alone.
 
 It needs rt and python3, and the crates as ./build or `rt all check` leaves them (the libraries below a crate are enough
 for `--only`), and takes about half a minute a check.
@@ -156,22 +155,14 @@ def make_room(work, name):
     return f"{work}/crates/{name}"
 
 
-def print_table(edits_by_crate):
-    """A row for each edit: its name in words, its crate and name, and the clause at which it is refused."""
-    is_well = True
-    print("| Body | Edit | Clause |\n|---|---|---|")
-    for name, edits in edits_by_crate:
-        for edit in edits:
-            pairs, clause = read_edit(f"crates/{name}/must-fail/{edit}.edit")
-            lacks = ["no clause is named"] if clause is None else []
-            lacks += ["no twin"] if all(twin is None for _, _, _, twin in pairs) else []
-            lacks += [f"changes {path}" for path in dict.fromkeys(it[0] for it in pairs) if not path.startswith("src/")]
-            place = [f"`{clause[1]}` of `{clause[0]}`"] if clause else []
-            print(f"| {edit.replace('_', ' ')} | {name}/{edit} | {'; '.join(place + lacks)} |")
-            if lacks:
-                print(f"crates/{name}/must-fail/{edit}.edit: {', '.join(lacks)}", file=sys.stderr)
-            is_well &= not lacks
-    return is_well
+def keep(tally):
+    """Whether each edit names its clause, has a twin and changes src/ alone, for tools/documents.py."""
+    for file in files("must-fail/*.edit"):
+        pairs, clause = read_edit(file)
+        lacks = [] if clause else ["names no clause"]
+        lacks += [] if any(twin is not None for _, _, _, twin in pairs) else ["has no twin"]
+        lacks += [f"changes {path}" for path, *_ in pairs if not path.startswith("src/")]
+        tally.tell("edits that must fail", not lacks, f"{file}: it {', '.join(lacks)}")
 
 
 def edits_of(chosen):
@@ -189,13 +180,10 @@ def edits_of(chosen):
 
 
 def main(*words):
-    """Tries the edits that the words choose, or prints their table, and returns the status."""
+    """Tries the edits that the words choose, and returns the status."""
     is_quick = "--only" in words
-    edits_by_crate = edits_of([word for word in words if word not in ("--only", "--table")])
-    if "--table" in words:
-        return 0 if print_table(edits_by_crate) else 1
     is_well = True
-    for name, edits in edits_by_crate:
+    for name, edits in edits_of([word for word in words if word != "--only"]):
         with tempfile.TemporaryDirectory(prefix="refusals-") as work:
             room = make_room(work, name)
             is_proved, _, said = (True, [], "") if is_quick else check(room, {})
@@ -207,4 +195,4 @@ def main(*words):
 
 
 if __name__ == "__main__":
-    script.run(main, r"( --(only|table))*( (?!-)\S+)*")
+    script.run(main, r"( --only)?( (?!-)\S+)*")

@@ -13,7 +13,6 @@ import pathlib
 import re
 import sys
 
-import script
 from script import checksum, git
 from sources import definitions_in, files, items_of, reached_from, used_in_clauses
 
@@ -132,12 +131,10 @@ def sentences(file):
                                (place[0], at) if bound else None)
 
 
-def compare():
-    """Prints each sentence whose checksums are no longer right, and gives the status."""
-    tally = script.Tally()
+def keep(tally):
+    """Whether the checksums of each sentence are right."""
     for one in (it for file in SECTIONS for it in sentences(file)):
         tally.tell("sentences and laws", *judged(one))
-    return tally.status()
 
 
 def judged(one):
