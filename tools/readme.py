@@ -21,9 +21,9 @@ before them (`From CRATE:`); the whole program, that of crates/library_example, 
 by the commands beside it. Each link to a file of the repository, or to a heading of one, has to lead there, and in
 README.md and docs/use no comment may follow a command, since zsh takes one that is typed for words.
 
-It needs bin/gomod (./build makes it), bash and python3, and unless --quick is given the toolchain of Rattle and 3.4 GB
-of memory. It prints each difference, how many of each were right and wrong, and how many examples were skipped for want
-of which commands. The status is 1 if one was wrong.
+It needs bin/gomod (./build makes it), and unless --quick is given the toolchain of Rattle and 3.4 GB of memory. The
+last lines count what was right and wrong, and the examples that were skipped for want of which commands. The status is
+1 if one was wrong.
 """
 
 import collections
@@ -44,49 +44,26 @@ from script import Tally, read, run_within, write
 SECONDS = 300
 OPTIONAL = ("bwrap", "curl", "dot", "git", "jq", "vim")
 COPIED = ("README.md", "CHANGELOG.md", "docs", "example", "share")
-# The passes over a document: what they are called, the shell, and whether its blocks run from the last to the first.
-PASSES = (
-    ("in order", ["bash", "-c"], False), ("backwards", ["bash", "-c"], True), ("in zsh", ["zsh", "-f", "-c"], False)
-)
+# The passes over a document: what they are called, the shell, and in which steps its blocks are taken.
+PASSES = (("in order", ["bash", "-c"], 1), ("backwards", ["bash", "-c"], -1), ("in zsh", ["zsh", "-f", "-c"], 1))
 # What users paste into a shell that they type in.
 PASTED = r"README\.md|docs/use/\w+\.md"
-# The section whose program is compiled, and how many lines that may have.
+# The section whose program is compiled, how many lines that may have, and its source.
 PROGRAM_SECTION = r"(?ms)^## A whole program\n.*?(?=^## |\Z)"
-PROGRAM_LINES = 40
-PROGRAM_SOURCE = "crates/library_example/src/main.rt"
-# How the text before a piece of code ends, with the crate that has it.
-CRATE_NAMED = r"\bFrom (\w+):\Z"
+PROGRAM_LINES, PROGRAM_SOURCE = 40, "crates/library_example/src/main.rt"
+SANDBOX = ["bwrap", "--unshare-all", "--ro-bind", "/", "/", "true"]
 
 
-def blocks(lines):
-    """The blocks of examples: the number of the first line, and the lines without their indent."""
-    block, begins = [], 0
-    for number, line in enumerate([*lines, "end"], 1):
-        if line.startswith("    ") or (block and not line.strip()):
-            begins = begins if block else number
-            block.append(line[4:])
-            continue
-        while block and not block[-1].strip():
-            block.pop()
-        if block and block[0].startswith("$ "):
-            yield begins, block
-        block = []
+def number_at(text, place):
+    return text.count("\n", 0, place) + 1
 
 
-def examples(begins, block):
-    """The commands of a block: line, command and what it prints."""
-    found = []
-    for number, line in enumerate(block, begins):
-        if line.startswith("$ "):
-            found.append([number, line[2:], ""])
-        else:
-            found[-1][2] += line + "\n"
-    return found
-
-
-def is_set_up(commands):
-    """Whether a block only makes the scratch folder of its page, so that it comes first in any order."""
-    return all(re.fullmatch(r"\w+=\$\(mktemp -d\)", command) for _, command, _ in commands)
+def blocks(text):
+    """The blocks of examples, each of commands: the number of the line, the command, and what it prints."""
+    for block in re.finditer(r"(?m)^    .*\n(?:    .*\n|\n+(?=    ))*", text):
+        if block[0].startswith("    $ "):
+            yield [(number_at(text, block.start() + it.start()), it[1], re.sub("(?m)^    ", "", it[2]))
+                   for it in re.finditer(r"(?m)^    \$ (.*)\n((?:(?!    \$ ).*\n)*)", block[0])]
 
 
 def absent(commands):
@@ -94,25 +71,13 @@ def absent(commands):
     words = set(re.findall(r"[\w./-]+", "\n".join(commands)))
     for file in [it for it in words if it.endswith(".sh") and os.path.isfile(it)]:
         words |= set(re.findall(r"[\w./-]+", re.sub(r"(?m)^\s*#.*", "", read(file))))
-    there = [it for it in OPTIONAL if shutil.which(it) and (it != "bwrap" or makes_sandboxes())]
-    return [it for it in OPTIONAL if it in words and it not in there]
+    return [it for it in OPTIONAL if it in words and not is_there(it)]
 
 
 @functools.cache
-def makes_sandboxes():
-    words = ["bwrap", "--unshare-all", "--ro-bind", "/", "/", "true"]
-    return subprocess.run(words, capture_output=True).returncode == 0
-
-
-def lay_room(room):
-    """Lays the files of the current folder: those that examples may read are copied, others are links."""
-    for name in os.listdir():
-        if name in COPIED and os.path.isdir(name):
-            shutil.copytree(name, f"{room}/{name}", symlinks=True)
-        elif name in COPIED:
-            shutil.copy2(name, f"{room}/{name}")
-        elif name != ".git":
-            os.symlink(os.path.abspath(name), f"{room}/{name}")
+def is_there(command):
+    return shutil.which(command) and (
+        command != "bwrap" or subprocess.run(SANDBOX, capture_output=True).returncode == 0)
 
 
 def files_in(room):
@@ -121,19 +86,23 @@ def files_in(room):
     for folder, folders, names in os.walk(room):
         for path in (os.path.join(folder, it) for it in [*folders, *names]):
             is_link, is_folder = os.path.islink(path), os.path.isdir(path)
-            content = (os.readlink(path) if is_link else "a folder" if is_folder
-                       else read(path) if os.path.isfile(path) else "a pipe")
-            found[os.path.relpath(path, room)] = content
+            found[os.path.relpath(path, room)] = (
+                os.readlink(path) if is_link else "a folder" if is_folder else
+                read(path) if os.path.isfile(path) else "a pipe")
     return found
 
 
 @contextlib.contextmanager
 def scratch_room():
-    """A scratch folder with the files of this one in `top`, and a folder for temporary files beside it."""
+    """A scratch folder with the files of this one in `top`, of which those that examples may read are copied and others
+    are links, and a folder for temporary files beside it."""
     with tempfile.TemporaryDirectory(prefix="gomod-readme-") as folder:
         os.makedirs(f"{folder}/top")
         os.makedirs(f"{folder}/tmp")
-        lay_room(f"{folder}/top")
+        names = set(os.listdir()) - {".git"}
+        subprocess.run(["cp", "-a", *names.intersection(COPIED), f"{folder}/top"], check=True)
+        for name in names.difference(COPIED):
+            os.symlink(os.path.abspath(name), f"{folder}/top/{name}")
         yield folder
 
 
@@ -176,27 +145,22 @@ class Documents:
         self.tally = Tally()
         self.skipped = collections.Counter()
 
-    def run_examples(self, name, lines):
+    def run_examples(self, name, text):
         """Runs the examples of a document, all in one shell, in each of the passes."""
-        found = []
-        for begins, block in blocks(lines):
-            commands = examples(begins, block)
-            lacking = absent([command for _, command, _ in commands])
-            if lacking:
-                self.skipped[", ".join(lacking)] += len(commands)
+        found, wrong = [], set()
+        for block in blocks(text):
+            if lacking := absent([command for _, command, _ in block]):
+                self.skipped[", ".join(lacking)] += len(block)
             else:
-                found.append(commands)
-        set_up = [it for it in found if is_set_up(it)]
-        others = [it for it in found if not is_set_up(it)]
-        wrong = set()
-        for title, shell, is_backwards in PASSES if found else ():
-            if not shutil.which(shell[0]):
+                found.append(block)
+        set_up = [it for it in found if all(re.fullmatch(r"\w+=\$\(mktemp -d\)", command) for _, command, _ in it)]
+        for title, shell, step in PASSES if found else ():
+            if shutil.which(shell[0]):
+                order = [*set_up, *(it for it in found[::step] if it not in set_up)]
+                wrong |= self.run_pass(f"{name} ({title})", [it for block in order for it in block], shell)
+            else:
                 self.skipped[shell[0]] += sum(map(len, found))
-                continue
-            order = [*set_up, *(reversed(others) if is_backwards else others)]
-            wrong |= self.run_pass(f"{name} ({title})", [it for block in order for it in block], shell)
-        count = sum(map(len, found))
-        self.tally["examples", True] += count - len(wrong)
+        self.tally["examples", True] += sum(map(len, found)) - len(wrong)
         self.tally["examples", False] += len(wrong)
 
     def run_pass(self, name, commands, shell):
@@ -241,13 +205,11 @@ class Documents:
             wrong.append("$scratch/mods")
         self.tally.tell("strangers' projects", not wrong, f"a stranger's project: {', '.join(wrong)}")
 
-    def find_comments(self, name, lines):
+    def find_comments(self, name, text):
         """Whether no indented line has a comment behind a command: zsh takes one that is typed for words."""
-        for number, line in enumerate(lines, 1):
-            if not re.match(r"    (?!\$ )", line):
-                continue
-            message = f"{name}:{number}: a comment behind a command, which zsh takes for words"
-            self.tally.tell("lines without a prompt", not re.search(r"\S\s+# ", line), message)
+        for it in re.finditer(r"(?m)^    (?!\$ )(.*)", text):
+            message = f"{name}:{number_at(text, it.start())}: a comment behind a command, which zsh takes for words"
+            self.tally.tell("lines without a prompt", not re.search(r"\S\s+# ", it[1]), message)
 
     def compare_code(self, name, text):
         """Whether each piece of code is in a source of the crate that is named before it, and the whole program is that
@@ -256,34 +218,23 @@ class Documents:
         for found in re.finditer(r"(?ms)^```rust\n(.*?)^```$", text):
             before, ends = text[ends:found.start()].strip(), found.end()
             if before:
-                named = re.search(CRATE_NAMED, before)
-                crate = named[1] if named else ""
+                crate = re.search(r"\bFrom (\w+):\Z|$", before)[1]
             place = PROGRAM_SOURCE if found[1].startswith("//!") else crate and f"crates/{crate}/src/**/*.rt"
-            is_right = any(found[1] in read(it) for it in glob.glob(place, recursive=True))
+            is_right = place and any(found[1] in read(it) for it in glob.glob(place, recursive=True))
             wrong = f"this code is not in {place}" if place else "no `From CRATE:` stands before this code"
-            number = text.count("\n", 0, found.start()) + 1
-            self.tally.tell("pieces of code", is_right, f"{name}:{number}: {wrong}")
+            self.tally.tell("pieces of code", is_right, f"{name}:{number_at(text, found.start())}: {wrong}")
 
     def follow_links(self, name, text):
         """Whether each link to a file, or to a heading of one, leads there."""
-        for found in re.finditer(r"\]\(([^)#\s]*)(?:#([^)\s]*))?\)", text):
-            if re.match(r"[a-z]+:", found[1]):
-                continue
+        for found in re.finditer(r"\]\(((?![a-z]+:)[^)#\s]*)(?:#([^)\s]*))?\)", text):
             path = os.path.join(os.path.dirname(name), found[1]) if found[1] else name
             is_right = os.path.exists(path) and (found[2] is None or found[2] in anchors(path))
-            number = text.count("\n", 0, found.start()) + 1
-            self.tally.tell("links", is_right, f"{name}:{number}: there is no {found[0][2:-1]}")
-
-    def compile_program(self, name, text):
-        """Does what a page says of its whole program, and compares what that prints."""
-        wrong = problem_of(text)
-        self.tally.tell("programs", not wrong, f"{name}: the whole program: {wrong}")
+            self.tally.tell("links", is_right, f"{name}:{number_at(text, found.start())}: there is no {found[0][2:-1]}")
 
 
 def anchors(path):
-    if not path.endswith(".md"):
-        return set()
-    headings = re.findall(r"(?m)^#+ (.*)", re.sub(r"(?ms)^```.*?^```", "", read(path)))
+    """The headings of a page, as links have them."""
+    headings = re.findall(r"(?m)^#+ (.*)", re.sub(r"(?ms)^```.*?^```", "", read(path))) if path.endswith(".md") else []
     return {re.sub(r"[^\w\- ]", "", it.lower()).replace(" ", "-") for it in headings}
 
 
@@ -298,7 +249,7 @@ def problem_of(text):
     parts = section and re.search(rf"(?ms){indented}.*?^```rust\n(//!.*?)^```$.*?{indented}", section[0])
     if not parts:
         return "there are no commands, no program or no run"
-    make, program, run = re.sub(r"(?m)^    ", "", parts[1]), parts[2], re.sub(r"(?m)^    ", "", parts[3])
+    make, run, program = *(re.sub(r"(?m)^    ", "", parts[it]) for it in (1, 3)), parts[2]
     code = [it for it in program.split("\n") if it.strip() and not re.match(r"\s*//|(?:ghost )?use ", it)]
     if len(code) > PROGRAM_LINES:
         return f"the program has {len(code)} lines outside use, blank lines and comments; {PROGRAM_LINES} are the most"
@@ -314,27 +265,24 @@ def problem_of(text):
 
 def main(*names):
     """Tries the documents that the words name."""
-    if names[:1] != ("--archive",):
-        script.need_gomod()
-    is_quick = names[:1] == ("--quick",)
-    names = names[1:] if is_quick else names
-    program = os.path.abspath("bin")
-    if names[:1] == ("--archive",):
-        program = os.path.abspath(f"{names[1]}/bin")
+    is_quick, is_archive = names[:1] == ("--quick",), names[:1] == ("--archive",)
+    documents = Documents(os.path.abspath(f"{names[1]}/bin" if is_archive else "bin"))
+    if is_archive:
         os.chdir(f"{names[1]}/share/doc/gomod")
-        names = ()
-    documents = Documents(program)
+    else:
+        script.need_gomod()
+    names = () if is_archive else names[is_quick:]
     for name in names or ["README.md", "CHANGELOG.md", *sorted(glob.glob("docs/**/*.md", recursive=True))]:
         text = read(name)
         # the whole program runs elsewhere, and leaves its lines here, so that others keep their numbers
-        rest = re.sub(PROGRAM_SECTION, lambda it: "\n" * it[0].count("\n"), text)
-        documents.run_examples(name, rest.split("\n"))
+        documents.run_examples(name, re.sub(PROGRAM_SECTION, lambda it: "\n" * it[0].count("\n"), text))
         if re.fullmatch(PASTED, name):
-            documents.find_comments(name, text.split("\n"))
+            documents.find_comments(name, text)
         if os.path.basename(name) == "LIBRARY.md" and os.path.isdir("crates"):
             documents.compare_code(name, text)
             if not is_quick:
-                documents.compile_program(name, text)
+                wrong = problem_of(text)
+                documents.tally.tell("programs", not wrong, f"{name}: the whole program: {wrong}")
         documents.follow_links(name, text)
     if not names and os.path.isdir("crates"):
         documents.run_on_stranger()
