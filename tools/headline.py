@@ -5,9 +5,9 @@ definitions and with docs/proof/SPEC.md.
                                copies of the definitions that `list` needs into crates/page/specs, and of those that
                                the other commands need into crates/page_commands/specs
     tools/headline.sh --check  changes nothing, and tells which page or copy is out of step, or too long, and what
-                               tools/private.py finds wrong
+                               tools/private.py finds wrong; the status is 1 if there is one
 
-Between the marks `<!-- show .. -->` and `<!-- end -->` of a page stands what the sources say:
+Between the marks `<!-- show .. -->` and `<!-- end -->` of a page stands what the sources say; the rest is by hand:
 
     show FILE: NAME..           these definitions of a file below crates/, with their comments
     show contract FILE F: C..   these clauses of the function F in a source, or its `signature`
@@ -16,20 +16,18 @@ Between the marks `<!-- show .. -->` and `<!-- end -->` of a page stands what th
     show files CRATE: NAME..    the files of a crate's specs/ with definitions that the contract of `run` reaches, and
                                 these, each after those that it uses: its first sentence, and how many are reached
 
-All other text is written by hand. A quote (a line that begins with `>`) must stand in docs/proof/SPEC.md word by word.
-A definition stands on one page only. HEADLINE shows a name before what it is made of, REPORTS after that. Section 2 of
-HEADLINE says what each name of the standard library is that the page has.
+A quote (a line that begins with `>`) must stand in docs/proof/SPEC.md word by word. A definition stands on one page
+only: HEADLINE shows a name before what it is made of, REPORTS after that. Section 2 of HEADLINE says what each name of
+the standard library is that the page has.
 
 The copies are of all definitions that `ListEnds` or COPIES reaches, but for those that a crate of copies defines by
 hand: specs/Types.antt, Files.antt and Runs.antt, which stand in for types of the code, for what bytes say, for the
 go.sum, and for runs.
 
-Each definition that the contract of `run` reaches must be on HEADLINE or REPORTS, or in a file that DEFINITIONS names.
-Those of crates that know module graphs, if `list` needs them, must be on HEADLINE or REPORTS. On HEADLINE there may be
-45 definitions with 170 lines from `ListEnds` down. No type that its crate doesn't export may be reached.
-
-The last line counts what one reads to believe the contract of `run`, as HEADLINE.md says; neither empty lines nor
-comments count. The status of --check is 1 if a page or a copy is out of step.
+Each definition that the contract of `run` reaches must be on HEADLINE or REPORTS, or in a file that DEFINITIONS names;
+those of crates that know module graphs, if `list` needs them, on one of the first two. HEADLINE may have 45 definitions
+of 170 lines from `ListEnds` down; neither empty lines nor comments count. No type that its crate doesn't export may be
+reached.
 """
 
 import functools
@@ -156,12 +154,9 @@ class Page:
                 self.defined += found
                 self.uses |= used
 
-    def wrong_quotes(self, spec):
-        """What the page quotes, each with one blank between words, and the rules don't say."""
-        for group in re.findall(r"(?m)(?:^>.*\n)+", self.text):
-            quote = " ".join(group.replace("\n>", "\n").removeprefix(">").split())
-            if quote not in spec:
-                yield f"docs/proof/SPEC.md does not say: {quote}"
+    def quotes(self):
+        """What the page quotes, with one blank between words."""
+        return [" ".join(re.sub("(?m)^>", "", it).split()) for it in re.findall(r"(?m)(?:^>.*\n)+", self.text)]
 
     def early(self):
         """The names of the page that it uses before it shows them, each with the definition that uses it."""
@@ -276,34 +271,33 @@ class Copies:
         head = f"-- A copy from {file}, which tools/headline.sh writes."
         return "\n\n".join(["\n".join([head, *uses]), *(one.whole() for one in ones)]) + "\n"
 
-    def renew(self, option):
-        """Writes the copies, or says which is out of step; gives how many are."""
+    def texts(self):
+        """The text of each file of copies."""
         texts = {self.base_of(file): self.text_of(file, ones) for file, ones in self.copied.items()}
         texts["Lib"] = "".join(f"pub mod {base}\n" for base in sorted([*texts, *self.by_hand]))
-        strange = [it for it in self.specs.glob("*.antt") if it.stem not in texts and it.stem not in BY_HAND]
-        for path in strange:
+        return {self.specs / f"{name}.antt": text for name, text in texts.items()}
+
+    def strange(self):
+        """Files that are neither by hand nor copies."""
+        known = [*BY_HAND, "Lib", *map(self.base_of, self.copied)]
+        for path in (it for it in self.specs.glob("*.antt") if it.stem not in known):
+            yield path
             print(f"{path}: it is a copy of nothing that the pages reach")
-        texts = {self.specs / f"{name}.antt": text for name, text in texts.items()}
-        wrong = [script.keep(path, text, bool(option), "tools/headline.sh") for path, text in texts.items()]
-        return len(strange) + sum(wrong)
 
 
 # ---- what is wrong
 
 
-def faults_of(page, other, spec):
-    """What is wrong with HEADLINE and REPORTS, apart from what is out of step."""
+def faults_of(page, other, index):
+    """What is wrong with the pages, apart from what is out of step."""
+    spec = " ".join((FOLDER / "SPEC.md").read_text().split())
     for it in {*page.defined}.intersection(other.defined):
         yield f"{other.path}: {it.name} of {it.file} stands on {page.path}, too"
-    yield from (f"{it.path}: {wrong}" for it in (page, other) for wrong in it.wrong_quotes(spec))
-    yield from (f"{other.path}: {wrong}" for wrong in other.early())
-
-
-def miscounts(page, other, index):
-    """What the contract of `run` reaches and no page has, and the counts that HEADLINE has otherwise."""
+    yield from (f"{it.path}: docs/proof/SPEC.md does not say: {quote}" for it in (page, other) for quote in it.quotes()
+                if quote not in spec)
+    yield from (f"{other.path}: {it}" for it in other.early())
     every, of_list = reached_by_run()
-    there = {*page.defined, *other.defined}
-    for it in every - there:
+    for it in every.difference(page.defined, other.defined):
         crate = it.file.parts[1]
         if crate in GRAPH and it in of_list or crate not in index.crates:
             yield f"{page.path}: neither it nor REPORTS.md has {it.name} of {it.file}"
@@ -316,8 +310,6 @@ def miscounts(page, other, index):
             yield f"{page.path}: section 2 doesn't say what {name} is"
     top, _ = reached_from([place(*LIST[0])], lambda one: one not in page.defined)
     size, lines = (sum(it.size() for it in found) for found in (top, of_list))
-    print(f"{page.path}, from `ListEnds`: {len(top)} definitions, {size} lines; in all {len(of_list)} and {lines}; "
-          f"of all commands {len(every)}")
     if len(top) > MOST_DEFINITIONS or size > MOST_LINES:
         yield f"{page.path}: from `ListEnds` down at most {MOST_DEFINITIONS} definitions and {MOST_LINES} lines"
     for it in (f"{len(top)}, from `ListEnds` down, on this page", f"in {len(of_list)} definitions of {lines:,} lines",
@@ -329,13 +321,15 @@ def miscounts(page, other, index):
 def main(option=""):
     """Renews or compares the pages and the copies, prints what is wrong, and returns the status."""
     page, other, index = pages = [Page(it) for it in ("HEADLINE", "REPORTS", "DEFINITIONS")]
-    spec = " ".join((FOLDER / "SPEC.md").read_text().split())
-    wrong = [*faults_of(page, other, spec), *miscounts(page, other, index)]
+    wrong = [*faults_of(*pages)]
     print(*wrong, sep="\n", end="\n" if wrong else "")
     texts = {it.path: it.renewed(other if it is page else page) for it in pages}
-    copies = [Copies(*it).renew(option) for it in COPIES.items()]
+    for crate, ends in COPIES.items():
+        copies = Copies(crate, ends)
+        texts |= copies.texts()
+        wrong += copies.strange()
     kept = [script.keep(path, text, bool(option), "tools/headline.sh") for path, text in texts.items()]
-    return int(bool(option and private.main()) or bool(wrong) or any(kept) or any(copies))
+    return int(bool(option and private.main()) or bool(wrong) or any(kept))
 
 
 if __name__ == "__main__":
