@@ -9,19 +9,17 @@ isn't as it was when the checksums were written, which git tells, the check name
 import collections
 import dataclasses
 import functools
-import pathlib
 import re
 import sys
 
-from script import checksum, git
+from script import checksum, git, read, write
 from sources import definitions_in, files, items_of, reached_from, used_in_clauses
 
-SECTIONS = {"README.md": "What is verified", "docs/proof/PROVED.md": "What you can rely on"}
-ASIDE = {"README.md": "tools/readme_sentences.txt"}  # where the checksums are that don't stand beside the sentences
+README, PROVED = "README.md", "docs/proof/PROVED.md"
+SECTIONS = {README: "What is verified", PROVED: "What you can rely on"}
+ASIDE = "tools/readme_sentences.txt"  # the checksums of README.md
 BOUND = re.compile(r"(?:\s*<!-- bound to )?([\w:, ]+): (\w*) (\w*)(?: -->)?")
-BULLET = re.compile(r"\s*- ")
-WHOLE = "gomod_laws"  # the crate whose definitions are followed from file to file
-FIRST = [WHOLE, "gomod_run"]  # if crates have laws of one name, a name alone is that of the first of these
+FIRST = ["gomod_laws", "gomod_run"]  # if crates have laws of one name, a name alone is that of the first of these
 SHOWN = set()  # the changed definitions whose text was printed
 CHECKS = "checks"  # stands for a law: what the check of a crate says of each of its functions
 
@@ -49,21 +47,19 @@ def public_functions():
     """The functions of the sources by their names: for each its crate, whether it is a law's, its file and contract."""
     found = collections.defaultdict(list)
     for path in files("src/**/*.rt"):
-        crate = path.parts[1]
-        is_law = crate.endswith("_laws") or "laws" in path.with_suffix("").parts
-        for one in items_of(path.read_text()):
-            if one.kind == "fn" and one.visibility == "pub":
-                stated = re.sub(r"(?m)^[ \t]*//.*\n", "", one.contract).removesuffix("{}").removesuffix("{")
-                found[one.name].append((crate, is_law, path, stated))
+        is_law = path.parts[1].endswith("_laws") or "laws" in path.with_suffix("").parts
+        for one in (it for it in items_of(path.read_text()) if it.kind == "fn" and it.visibility == "pub"):
+            stated = re.sub(r"(?m)^[ \t]*//.*\n", "", one.contract).removesuffix("{}").removesuffix("{")
+            found[one.name].append((path.parts[1], is_law, path, stated))
     return found
 
 
 def law(name):
-    """The crate, the file and the contract of a law or call, by its name or path, or None."""
+    """The file and the contract of a law or call, by its name or path, or None."""
     *path, last = name.split("::")
     known = [it for it in public_functions().get(last, []) if (it[0] in path if path else it[1])]
-    best = [it for crate in FIRST for it in known if it[0] == crate] or known
-    return (best[0][0], *best[0][2:]) if len(known) == 1 or best != known else None
+    best = next(filter(None, ([it for it in known if it[0] == crate] for crate in FIRST)), known)
+    return best[0][2:] if len(best) == 1 else None
 
 
 def stated(text):
@@ -76,7 +72,7 @@ def reached(name):
     """The definitions that the contract of a law reaches."""
     if name == CHECKS:
         return []
-    _, file, contract = law(name)
+    file, contract = law(name)
     found, _ = reached_from(one for _, one in used_in_clauses(file, [contract]))
     return sorted(found, key=lambda it: (str(it.file), it.line))
 
@@ -86,7 +82,7 @@ def statement(name):
     if name == CHECKS:
         return "checks: each function of each crate is safe, and returns"
     parts = sorted(f"{it.file}: {stated(it.text)}" for it in reached(name))
-    return "\n".join([f"{name}:", law(name)[2].rstrip(), *parts])
+    return "\n".join([f"{name}:", law(name)[1].rstrip(), *parts])
 
 
 def changed(one):
@@ -105,35 +101,33 @@ def changed(one):
 # ---- sentences
 
 
-def named_in(text):
-    """The laws and calls that a sentence names."""
-    return [it for it in dict.fromkeys(re.findall(r"`((?:\w+::)*[a-z]\w+)`", text)) if law(it)]
-
-
 def lines_of(file):
-    return pathlib.Path(file).read_text().split("\n")
+    return read(file).split("\n")
 
 
-def sentences(file):
-    """The sentences of a document that are or should be bound."""
-    lines, is_inside, aside = lines_of(file), False, ASIDE.get(file)
-    place = (aside, iter(enumerate(lines_of(aside)))) if aside else (file, None)
-    for number, line in enumerate(lines, 1):
-        if line.startswith("## "):
-            is_inside = line == f"## {SECTIONS[file]}"
-        elif is_inside and BULLET.match(line):
-            text = line.split("- ", 1)[1]
-            at, comment = next(place[1], (0, "")) if aside else (number, "".join(lines[number: number + 1]))
-            bound = BOUND.fullmatch(comment)
-            laws = (not aside and named_in(text)) or (re.split(r",? +", bound[1]) if bound else [])
-            if laws or aside:
-                yield Sentence(file, number, text, laws, bound.groups()[1:] if bound else ("", ""),
-                               (place[0], at) if bound else None)
+def sentences():
+    """The sentences that are or should be bound."""
+    asides = iter(enumerate(lines_of(ASIDE)))
+    for file, section in SECTIONS.items():
+        lines, is_inside = lines_of(file), False
+        for number, line in enumerate(lines, 1):
+            if line.startswith("## "):
+                is_inside = line == f"## {section}"
+            elif is_inside and re.match(r"\s*- ", line):
+                text = line.split("- ", 1)[1]
+                here = file, number, "".join(lines[number:][:1])
+                place = (ASIDE, *next(asides, (0, ""))) if file == README else here
+                bound = BOUND.fullmatch(place[2])
+                named = [] if file == README else re.findall(r"`((?:\w+::)*[a-z]\w+)`", text)
+                laws = [it for it in dict.fromkeys(named) if law(it)] or (re.split(r",? +", bound[1]) if bound else [])
+                if laws or file == README:
+                    yield Sentence(file, number, text, laws, bound.groups()[1:] if bound else ("", ""),
+                                   place[:2] if bound else None)
 
 
 def keep(tally):
     """Whether the checksums of each sentence are right."""
-    for one in (it for file in SECTIONS for it in sentences(file)):
+    for one in sentences():
         tally.tell("sentences and laws", *judged(one))
 
 
@@ -153,21 +147,19 @@ def judged(one):
 
 def accept(names):
     """Writes the checksums anew of the sentences that are bound to these laws, and gives whether a name is of none."""
-    used = set()
-    for one in reversed([it for file in SECTIONS for it in sentences(file)]):
-        mine = {it.split("::")[-1] for it in one.laws} & {it.split("::")[-1] for it in names}
-        if not one.laws or not (mine or names == ("all",)):
+    names, used = {it.split("::")[-1] for it in names}, {"all"}
+    for one in reversed([*sentences()]):
+        mine = {it.split("::")[-1] for it in one.laws} & names
+        if not one.laws or not (mine or names == {"all"}):
             continue
         used |= mine
         file, at = one.at or (one.file, one.number)
         lines, row = lines_of(file), f"{', '.join(one.laws)}: {' '.join(one.now())}"
         if file == one.file:
-            margin = re.match(" *", lines[one.number - 1])[0]
-            row = f"{margin}  <!-- bound to {row} -->"
+            row = f"{re.match(' *', lines[one.number - 1])[0]}  <!-- bound to {row} -->"
         lines[at: at + (one.at is not None)] = [row]
-        pathlib.Path(file).write_text("\n".join(lines))
+        write(file, "\n".join(lines))
         print(f"{one.file}:{one.number}: {one.text[:100]}")
-    unknown = {it.split("::")[-1] for it in names} - used - {"all"}
-    for name in sorted(unknown):
+    for name in sorted(names - used):
         print(f"documents: no sentence is bound to {name}", file=sys.stderr)
-    return bool(unknown)
+    return bool(names - used)
