@@ -23,10 +23,9 @@ import pathlib
 import re
 
 from script import checksum
-from sources import code_of, files, functions, items_of, paths_of
+from sources import CRATES, code_of, functions, items_of, paths_of, product_files
 
-LIST, SOURCES = pathlib.Path("tools/bodies.txt"), pathlib.Path("crates")
-OTHERS = re.compile(r"gomod_(?:tests|case|laws)|run_cases|page|library_example")
+LIST = pathlib.Path("tools/bodies.txt")
 # what reaches nothing outside the program, and what does without being imported
 INSIDE = re.compile(
     r"std::(?:alloc|collections|fmt|hash|mem|str)(?:::|$)|std::borrow::CowStr|std::cmp::Ordering|std::env::FillError"
@@ -57,30 +56,29 @@ LENGTH = rf"(?:[\w.]+\.(?:len|count|\w+_count)\(\))(?: \+ {SMALL})?|{SMALL}"
 def end_of(text, at):
     """Where the bracket ends that opens at a place."""
     depth = 0
-    for here in range(at, len(text)):
-        depth += (text[here] in "([{") - (text[here] in ")]}")
+    for it in re.compile(r"([(\[{])|[)\]}]").finditer(text, at):
+        depth += 1 if it[1] else -1
         if not depth:
-            return here
+            return it.start()
     return len(text)
 
 
-def split(text):
-    """The arguments of a call, or the parts of a `vec!`."""
-    found, begin, at = [], 0, 0
-    while at < len(text):
-        at = end_of(text, at) if text[at] in "([{" else at
-        if at < len(text) and text[at] in ",;":
-            found.append(text[begin:at])
-            begin = at + 1
-        at += 1
-    return [it for it in (" ".join(one.split()) for one in [*found, text[begin:]]) if it]
+def split(text, at):
+    """The arguments in the bracket that opens at a place, or the parts of a `vec!`."""
+    found, end, at = [""], end_of(text, at), at + 1
+    while at < end:
+        after = end_of(text, at) if text[at] in "([{" else at + 1
+        found[-1] += text[at:after]
+        found += [""] if text[at] in ",;" else []
+        at = after
+    return [it for it in (" ".join(one.strip(",;").split()) for one in found) if it]
 
 
 class Body:
     """A function with a body: its file, its name, and its text without what strings say."""
 
     def __init__(self, path, one, block):
-        self.file = str(path.relative_to(SOURCES))
+        self.file = str(path.relative_to(CRATES))
         self.crate = self.file.partition("/")[0]
         self.type, self.name = block.name if block else "", one.name
         self.impl = block.text.partition("{")[0] if block else ""
@@ -91,8 +89,7 @@ class Body:
     def parameters(self):
         """The names and types of what it takes, without `self`."""
         begin = re.search(r"\bfn \w+(?:<(?:[^<>]|<[^<>]*>)*>)?\(", self.head).end()
-        given = split(self.head[begin:end_of(self.head, begin - 1)])
-        return [it.partition(": ")[::2] for it in given if ": " in it]
+        return [it.partition(": ")[::2] for it in split(self.head, begin - 1) if ": " in it]
 
     def key(self):
         """How it is called: `new` by its type from all crates, another one by its name in its crate."""
@@ -101,7 +98,7 @@ class Body:
     def calls(self, names):
         """The place, the name and the arguments of each call by a pattern of names."""
         for it in re.finditer(rf"(?<!fn )(?<!\w)({names})(?:!?\(|!\[)", self.text):
-            yield it.start(), it[1], split(self.text[it.end():end_of(self.text, it.end() - 1)])
+            yield it.start(), it[1], split(self.text, it.end() - 1)
 
     def values(self):
         """What each variable is made of."""
@@ -131,7 +128,7 @@ def reaches(text, names):
 def rows_of_file(path, bodies):
     """What is said of one file: its functions that reach the system, and other items that do or name a want of
     memory."""
-    text, file = code_of(path), str(path.relative_to(SOURCES))
+    text, file = code_of(path), str(path.relative_to(CRATES))
     imported = {own: "::".join(it) for own, it in paths_of(text).items()}
     names = {own for own, it in imported.items() if it.split("::")[0] in ("std", "rt", "core") and not INSIDE.match(it)}
     rest = text
@@ -155,7 +152,7 @@ def rows_of_file(path, bodies):
 @functools.cache
 def constants_of(file):
     """What each constant of a file is."""
-    return {name: [it] for name, it in re.findall(r"\bconst (\w+): \w+ = ([^;]*);", code_of(SOURCES / file))}
+    return {name: [it] for name, it in re.findall(r"\bconst (\w+): \w+ = ([^;]*);", code_of(CRATES / file))}
 
 
 def memory_rows(body):
@@ -219,7 +216,7 @@ def size_rows(bodies):
 
 def rows():
     """All that the sources ask for a row of, in order."""
-    paths = [it for it in files("src/**/*.rt") if not OTHERS.match(str(it.relative_to(SOURCES)))]
+    paths = product_files("src/**/*.rt")
     by_file = {path: [Body(path, *it) for it in functions(code_of(path)) if not it[0].text.endswith(";")]
                for path in paths}
     bodies = [it for one in by_file.values() for it in one]
