@@ -18,9 +18,7 @@
 # version doesn't say that it is proved. Unless --check is given, it refuses a version that isn't the first one in
 # CHANGELOG.md with its day, or whose tag (as v1.2.0) is at another commit, a program that isn't the one that the last
 # proof left, a gate that failed or ran with another program, changes that aren't committed, and a program without one
-# of its records: bin/refused.txt (tools/refuse-memory.sh), opened.txt (tools/program.sh, where strace is), checked.txt
-# (`tools/cases.sh --checked`), mistakes.txt (tools/mistakes.py) and texts.txt (`tools/compare_go.py --check` with go
-# 1.19.8).
+# of its records, files of bin/ that are listed below with what leaves them.
 #
 # It needs bin/gomod, git, GNU tar, gzip and python3. The status is 1 if it refuses, and 2 for wrong arguments.
 set -euo pipefail
@@ -91,7 +89,7 @@ check_archive() {
   echo "glibc: $least is the least"
 }
 
-to=$from gate='' refusals='' opened='' checked='' mistakes='' texts='' check='' unproved=''
+to=$from gate='' check='' unproved=''
 case $#:${1-}:${2-} in
   1:--check:) check=yes ;;
   2:--check:--unproved) check=yes unproved=yes ;;
@@ -115,18 +113,19 @@ if [ -z "$check" ]; then
   fi
   [[ $gate =~ ^[1-9][0-9]*\ passed,\ 0\ failed$ ]] || refuse "this is no gate that passed: '$gate'"
   [ -z "$(git status --porcelain)" ] || refuse "there are changes that aren't committed"
-  refusals=$(record_of refused tools/refuse-memory.sh "allocations were refused of another program")
-  opened=$(record_of opened "tools/program.sh, where strace is" "what another program opens was looked at")
-  checked=$(record_of checked "tools/cases.sh --checked" "the cases ran with checks of other sources")
-  mistakes=$(record_of mistakes tools/mistakes.py "the wrong bodies were those of other sources")
-  texts=$(record_of texts "tools/compare_go.py --check, where go 1.19.8 is" "texts of another program were compared")
 fi
-records="gate: ${gate:-none}
-each allocation refused: ${refusals:-none}
-what each command opens: ${opened:-none}
-cases with checks: ${checked:-none}
-wrong bodies: ${mistakes:-none}
-texts beside go: ${texts:-none}"
+# each record: its file, what leaves it, why it may be refused, and what it is called in RELEASE.txt
+records="gate: ${gate:-none}" record=none
+while IFS='|' read -r name how why label; do
+  [ -n "$check" ] || record=$(record_of "$name" "$how" "$why")
+  records+=$'\n'"$label: $record"
+done << 'RECORDS'
+refused|tools/refuse-memory.sh|allocations were refused of another program|each allocation refused
+opened|tools/program.sh, where strace is|what another program opens was looked at|what each command opens
+checked|tools/cases.sh --checked|the cases ran with checks of other sources|cases with checks
+mistakes|tools/mistakes.py|the wrong bodies were those of other sources|wrong bodies
+texts|tools/compare_go.py --check, where go 1.19.8 is|texts of another program were compared|texts beside go
+RECORDS
 
 version=$(bin/gomod --version)
 [[ -n $unproved || $version =~ $PROVED_MARK$ ]] || refuse "bin/gomod isn't proved: its version is '$version'"
