@@ -44,13 +44,8 @@ import sentences
 from script import Tally, git, read
 from sources import code_of, functions, plain, public_items
 
-# names of the toolchain and of its crates that documents have and no source does
-ELSEWHERE = set("""
-AllocError BTreeSet CowStr PartialOrd RefCell by_true get_or_insert get_or_insert_with index_mut into_iter or_else
-partition_point reserved-name rotate_left saturating_add sort_unstable split_first split_once then_with
-""".split())
-# what a path of names may begin with that is none of ours
-OTHER_ROOTS = set("Env Rc String Vec anyhow env mem std str A".split())
+# names of the toolchain that documents have and no source does, and what a path of names may begin with
+ELSEWHERE, OTHER_ROOTS = {"into_iter", "reserved-name"}, {"Rc", "Vec", "anyhow", "std"}
 # the crate that LIBRARY.md makes
 MADE = "crates/hello/"
 # how many words documents may have together: a number, and the documents or patterns of their names
