@@ -18,7 +18,8 @@ network, with all that it writes in a scratch folder. If go updates the main fil
 
 It prints the version of go, each difference that docs/use/GO.md does not name in full, with the number of its world,
 and for each command how many results were the same, refused by both, or differ in a way that has a row in the table of
-docs/use/GO.md; a result can differ in several. The status is 1 if there is a difference without a name.
+docs/use/GO.md (tools/go_differences.py); a result can differ in several. The status is 1 if there is a difference
+without a name.
 
 --rows asks both in worlds made by hand. The status is 1 unless each row of the table has a world, each world has a
 difference of its row and of no other, and both programs say what tools/go_rows.py has of them.
@@ -28,17 +29,19 @@ shows; of each row that none of these shows there is one text more. The status i
 shown, if one is shown and they don't differ, or answer another way, or if no text shows one. It is of go 1.19.8.
 
 --check compares a tidy module with the cache that `go mod download` filled, example/go.mod, example/tidy.mod, and the
-worlds of --rows, with the answers of go 1.19.8 in tools/go_answers.json (tools/recorded_go.py). If there is a go
-1.19.8, it compares 2000 texts too, from a number that the commit gives. Mistakes have to be
-found, too: a command without a line, a proxy without the .info of a pruned-out module, and a row, a world or a
-difference without the others.
+worlds of --rows, with the answers of go 1.19.8 in tools/go_answers.json. If there is a go 1.19.8, it compares 2000
+texts too, from a number that the commit gives. Mistakes have to be found, too: a command without a line, a proxy
+without the .info of a pruned-out module, and a row, a world or a difference without the others.
 
 It needs bin/gomod (./build makes it), a go command of 1.19 or later (in Debian: apt-get install golang-go) and python3.
 300 worlds take about 35 s of CPU time.
 """
 
 import argparse
-import collections
+import contextlib
+import hashlib
+import io
+import json
 import os
 import random
 import re
@@ -47,80 +50,91 @@ import shutil
 import subprocess
 import sys
 import tempfile
+from unittest import mock
 
+import go_differences
 import go_rows
 import go_texts
 import script
-from go_worlds import (
-    UNFETCHABLE, World, escaped, fits, is_import_path, latest_of, lay_tidy_world, lay_version,
-    operations, unescaped
-)
-from script import read, write
+from go_differences import BOTH, SAME, Comparison, Differences, pieces_of
+from go_worlds import UNFETCHABLE, World, escaped, is_import_path, lay_tidy_world, lay_version, operations, unescaped
+from script import TOP, read, write
 
-TOP = os.path.dirname(os.path.dirname(os.path.abspath(__file__)))
-GOMOD = os.path.join(TOP, "bin", "gomod")
-SAME, BOTH = "the same", "refused by both"
+GOMOD, ANSWERS, TEXTS = TOP / "bin/gomod", TOP / "tools/go_answers.json", 2000
 SECONDS = 120
-# What go says about a file of a module, and what gomod then reports.
-FAULTS = [
-    (r"missing go\.sum entry", {"NoSum", "Missing", "NotFetchable"}),
-    (r"checksum mismatch", {"SumDiffers"}),
-    (r"no such file or directory", {"Missing"}),
-    (r"missing dot in first path element|malformed module path", {"NotFetchable"}),
-    (r"declares its path as|missing module line", {"WrongPath"}),
-    (r"parsing go\.mod|errors parsing|go\.mod:\d+", {"Malformed"}),
-]
-# What go says of a file that gomod reads, or refuses for another reason; what gomod says of one that go reads.
-GO_ALONE = [
-    (r"invalid go version", go_rows.TO_GOMOD),
-    (r"unknown (directive|block type): (toolchain|godebug|tool|ignore)\b", go_rows.NEWER),
-    (r"unexpected input character '\\u", go_rows.HIDDEN),
-    (r'version "\S+" invalid', go_rows.UNFIT),
-    (r"appears to be Windows path", "Windows"),
-]
-GOMOD_ALONE = [
-    (r" NotUtf8$", go_rows.NOT_UTF8),
-    (r" (BadGo|WrongArguments)$", go_rows.BLOCK),
-    (r" Misfit$", go_rows.INCOMPATIBLE),
-    (r" (BadByte|BadEscape|NestedOpen|BadPath|TooLong|TooMany)$", go_rows.PROFILE),
-]
+NO_ROW = ": a difference that docs/use/GO.md does not name"
 
 
-class Differences:
-    """Counts by command and kind. A kind that isn't SAME or BOTH is the first field of a row of docs/use/GO.md."""
+class Programs:
+    """go and gomod, each of which is run in a folder."""
 
-    def __init__(self):
-        lines = read(f"{TOP}/docs/use/GO.md").split("\n")
-        self.names = {line.split("|")[1].strip() for line in lines if line.startswith("| ")} - {"What"}
-        self.counts = collections.defaultdict(collections.Counter)
-        self.unexplained = 0
+    def __init__(self, go):
+        self.real = go
 
-    def count(self, command, kind, number=1):
-        if kind not in (SAME, BOTH) and kind not in self.names:
-            sys.exit(f"compare-go: docs/use/GO.md has no row '{kind}'")
-        self.counts[command][kind] += number
+    def go(self, words, folder, environment, _proxy):
+        return run([self.real, *words], folder, environment)
 
-    def add(self, others):
-        self.unexplained += others.unexplained
-        for command, counts in others.counts.items():
-            self.counts[command].update(counts)
+    def gomod(self, words, folder):
+        return run([GOMOD, *words], folder)
 
-    def report(self, where, command, came, wanted, note=""):
-        """Counts and prints a difference that has no reason."""
-        self.unexplained += 1
-        print(f"{where}: {command}: a difference that docs/use/GO.md does not name{note and ': ' + note}")
-        for what, text in (("gomod", came), ("go", wanted)):
-            print(f"  {what}:")
-            for line in text.splitlines() or ["(nothing)"]:
-                print(f"    {line}")
-        sys.stdout.flush()
 
-    def print(self):
-        for command, kinds in self.counts.items():
-            print(f"{command}:")
-            for kind, number in sorted(kinds.items(), key=lambda it: (it[0] not in (SAME, BOTH), -it[1], it[0])):
-                print(f"  {number:6} {kind}")
-        print(f"differences that docs/use/GO.md does not name: {self.unexplained}")
+def run(words, folder, environment=None):
+    return subprocess.run(words, cwd=folder, capture_output=True, timeout=SECONDS, stdin=subprocess.DEVNULL,
+                          env=environment)
+
+
+class Recorded(Programs):
+    """The same with recorded answers in go's place, each to the words, GOFLAGS, and the files of the folder and of the
+    proxy: the status, what was printed, the files of the folder that go changed, and those of the cache if it is looked
+    at then, without their text if they are as in the proxy. What is empty is left out, and a go.sum that go may write.
+    If there is a real go, it is asked for what lacks. A command of gomod may lose lines."""
+
+    def __init__(self, answers, real=""):
+        super().__init__(real)
+        self.answers, self.cut = answers, ""
+
+    def gomod(self, words, folder):
+        ran = super().gomod(words, folder)
+        if words[0] == self.cut:
+            ran.stdout = re.sub(rb".*rsc\.io/sampler.*\n", b"", ran.stdout)
+        return ran
+
+    def go(self, words, folder, environment, proxy):
+        flags, cache = environment["GOFLAGS"], f"{environment['GOMODCACHE']}/cache/download"
+        has_sums, room = flags == "-mod=readonly" or words[:2] == ("mod", "tidy"), os.path.dirname(proxy)
+        before, laid = files_below(folder, has_sums), files_below(proxy)
+        given = hashlib.sha256(json.dumps([words, flags, before, laid]).encode()).hexdigest()
+        key = " ".join([given[:8], *(it for it in [flags, *words] if it and not it.startswith("{{"))])
+        if self.real and key not in self.answers:
+            ran = super().go(words, folder, environment, proxy)
+            after = files_below(folder, has_sums)
+            kept = files_below(cache) if words[:2] in (("mod", "graph"), ("mod", "download")) else {}
+            answer = {
+                "status": ran.returncode, "out": ran.stdout.decode().replace(room, "<ROOM>"),
+                "err": ran.stderr.decode().replace(room, "<ROOM>") if ran.returncode else "",
+                "files": {name: text for name, text in after.items() if before.get(name) != text},
+                "cache": {name: None if laid.get(name) == text else text for name, text in kept.items()
+                          if re.search(r"/list$|\.mod$", name)},
+            }
+            self.answers[key] = {what: it for what, it in answer.items() if it}
+        answer = self.answers.get(key, {"status": 1, "err": f"there is no recorded answer '{key}'"})
+        for name, text in answer.get("files", {}).items():
+            write(f"{folder}/{name}", text)
+        for name, text in answer.get("cache", {}).items():
+            write(f"{cache}/{name}", laid[name] if text is None else text)
+        out, err = (answer.get(it, "").replace("<ROOM>", room).encode() for it in ("out", "err"))
+        return subprocess.CompletedProcess(words, answer.get("status", 0), out, err)
+
+
+def files_below(folder, has_sums=True):
+    """The text of each file, by its name; of zip files the names alone."""
+    found = {}
+    for base, _, names in os.walk(folder):
+        for name in names:
+            if has_sums or not name.endswith(".sum"):
+                at = os.path.join(base, name)
+                found[os.path.relpath(at, folder)] = "" if name.endswith(".zip") else read(at)
+    return dict(sorted(found.items()))
 
 
 class Result:
@@ -137,382 +151,36 @@ class Result:
 class Commands:
     """go and gomod, in a scratch folder of their own, without a network."""
 
-    def __init__(self, go, room, proxy):
-        self.go, self.proxy, self.cache = go, proxy, f"{room}/cache"
+    def __init__(self, programs, room, proxy):
+        self.programs, self.proxy, self.cache = programs, proxy, f"{room}/cache"
         self.said = {"go": "", "gomod": ""}  # all that the two printed
         self.environment = {
-            "PATH": os.path.dirname(go) + ":/usr/bin:/bin", "HOME": room, "GOPATH": f"{room}/gopath",
-            "GOMODCACHE": self.cache, "GOCACHE": f"{room}/build", "GOENV": "off", "GOWORK": "off",
-            "GOPROXY": f"file://{proxy}", "GOSUMDB": "off", "GONOSUMDB": "*", "GOPRIVATE": "", "GONOPROXY": "",
-            "GOTOOLCHAIN": "local", "GOVCS": "*:off", "GO111MODULE": "on", "GOTELEMETRY": "off", "GOMAXPROCS": "1",
+            "PATH": "/usr/bin:/bin", "HOME": room, "GOPATH": f"{room}/gopath", "GOMODCACHE": self.cache,
+            "GOCACHE": f"{room}/build", "GOENV": "off", "GOWORK": "off", "GOPROXY": f"file://{proxy}", "GOSUMDB": "off",
+            "GONOSUMDB": "*", "GOPRIVATE": "", "GONOPROXY": "", "GOTOOLCHAIN": "local", "GOVCS": "*:off",
+            "GO111MODULE": "on", "GOTELEMETRY": "off", "GOMAXPROCS": "1",
         }
 
     def ask_go(self, folder, *words, mod="readonly", flags=None):
         flags = {"GOFLAGS": flags if flags is not None else f"-mod={mod}" if mod else ""}
-        return self.run("go", [self.go, *words], folder, {**self.environment, **flags})
+        return self.heard("go", self.programs.go(words, folder, self.environment | flags, self.proxy))
 
     def ask(self, folder, *words):
-        return self.run("gomod", [GOMOD, *words], folder, None)
-
-    def run(self, program, words, folder, environment):
-        ran = Result(subprocess.run(words, cwd=folder, capture_output=True, timeout=SECONDS, stdin=subprocess.DEVNULL,
-                                    env=environment))
-        self.said[program] += ran.out + ran.err
-        return ran
+        return self.heard("gomod", self.programs.gomod(words, folder))
 
     def ask_graph(self, folder, *words, sums=False):
-        return self.ask(folder, *words, "--proxy", self.proxy, *(["--sum", "go.sum"] if sums else []))
+        return self.ask(folder, *words, "--proxy", self.proxy, *["--sum", "go.sum"] * sums)
+
+    def heard(self, program, ran):
+        result = Result(ran)
+        self.said[program] += result.out + result.err
+        return result
 
 
-# The text of a go.mod, read loosely.
-
-
-def words_of(line):
-    words = re.findall(r'"[^"]*"|`[^`]*`|=>|[()\[\],]|[^\s()\[\],]+', line.partition("//")[0])
-    return [it.strip('"`') for it in words]
-
-
-def pieces_of(text):
-    """The directives of a go.mod, each with the comment on its line, and the comment lines."""
-    directives, comments, verb = [], [], None
-    for line in text.splitlines():
-        words, comment = words_of(line), line.partition("//")[2].strip()
-        if not words:
-            comments += [comment] if "//" in line else []
-        elif verb is None and words[-1] == "(":
-            verb = words[0]
-        elif words == [")"]:
-            verb = None
-        elif not (verb is None and words[1:] == ["(", ")"]):
-            directives.append((verb or words[0], tuple(words if verb else words[1:]), comment))
-    return collections.Counter(directives), collections.Counter(comments)
-
-
-# The comparison.
-
-
-def left_of(args):
-    """What an exclude or a replace is about."""
-    return tuple(args[:args.index("=>")] if "=>" in args else args)
-
-
-def go_faults(text):
-    """The modules that go's report blames, each with the classes of gomod that say the same."""
-    blamed = list(re.finditer(r"([^\s:@]+@v[^\s:/]+)(?:/go\.mod)?(?: \(replaced by [^)]*\))?: ", text))
-    ends = [it.start() for it in blamed[1:]] + [len(text)]
-    for name, message in [(it[1], text[it.end():end]) for it, end in zip(blamed, ends)] or [(None, text)]:
-        yield name, next((classes for pattern, classes in FAULTS if re.search(pattern, message)), set())
-
-
-class Comparison:
-    """One world, or one cache and main file."""
-
-    def __init__(self, where, commands, found):
-        self.where, self.commands, self.found = where, commands, found
-        self.replaced = {}
-
-    def both_refuse(self, came, wanted):
-        """Whether gomod reports what go does: the module that it blames, or the line of the main file."""
-        line = re.match(r"go\.mod:(\d+): (\S+)", came.err)
-        if line:
-            same = r"conflicting replacements" if line[2] == "ConflictingReplace" else rf"go\.mod:{line[1]}\b"
-            return re.search(same, wanted.err) is not None
-        faults = re.findall(r"^(\S+@\S+?): (\S+)", came.err, re.M)
-        return any(kind in classes and blamed in (None, name, self.replaced.get(name))
-                   for name, kind in faults for blamed, classes in go_faults(wanted.err))
-
-    def same_lines(self, came, wanted, is_graph):
-        """Whether both printed the same lines; of a graph in any order, and without go's newer kinds of modules."""
-        if came.status or wanted.status:
-            return False
-        ours, theirs = came.out.splitlines(), wanted.out.splitlines()
-        if is_graph:
-            newer = [it for it in theirs if re.search(r"(^| )(go|toolchain)@\S+", it)]
-            theirs = sorted(set(theirs) - set(newer), key=lambda it: it.encode())
-            if newer:
-                self.found.count("graph", go_rows.NEWER)
-            return sorted(set(ours), key=lambda it: it.encode()) == theirs and len(set(ours)) == len(ours)
-        return ours == theirs
-
-    def compare_graph(self, main, has_sums):
-        """list, graph and chain. Where go updates the main file, gomod reads what that leaves."""
-        mod, before = ("readonly" if has_sums else "mod"), read(f"{main}/go.mod")
-        wanted = self.commands.ask_go(main, "list", "-m", "all", mod=mod)
-        is_refused = "updates to go.mod needed" in wanted.err
-        if is_refused or pieces_of(read(f"{main}/go.mod")) != pieces_of(before):
-            self.found.count("list", "An untidy main file")
-            if is_refused:
-                mod, main = "mod", shutil.copytree(main, f"{main}.tidy")
-                wanted = self.commands.ask_go(main, "list", "-m", "all", mod=mod)
-            if wanted.status:
-                return
-        if not self.judge("list", main, has_sums, wanted):
-            return
-        graph = self.commands.ask_go(main, "mod", "graph", mod=mod)
-        if self.judge("graph", main, has_sums, graph) and wanted.status == 0 and graph.status == 0:
-            self.compare_chains(main, wanted.out.splitlines(), graph.out.splitlines())
-            came = self.commands.ask(main, "list", "--proxy", f"{self.commands.cache}/cache/download")
-            if not self.same_lines(came, wanted, False):
-                self.found.report(self.where, "list", came.text(), wanted.text(), "from the cache that go filled")
-
-    def judge(self, command, main, has_sums, wanted):
-        """Whether one command, with --sum if there is a go.sum, has the result of go."""
-        came = self.commands.ask_graph(main, command, sums=has_sums)
-        kinds = set(re.findall(r"^\S+@\S+: (\S+)$", came.err, re.M)) if has_sums else set()
-        name = None
-        is_mismatch = "checksum mismatch" in wanted.err
-        if kinds == {"SumDiffers"} and not is_mismatch and self.has_second_hashes(main, came):
-            name = go_rows.SECOND
-        elif "NoSum" in kinds and "missing go.sum entry" not in wanted.err:
-            name = "Checksums"
-        if name:
-            self.found.count(command, name)
-            came = self.commands.ask_graph(main, command)
-        if self.same_lines(came, wanted, command == "graph"):
-            self.found.count(command, SAME)
-            return True
-        kind = read_by_one(came, wanted)
-        if came.status and wanted.status and self.both_refuse(came, wanted):
-            kind = BOTH
-        elif kind:
-            pass
-        elif re.search(r"^(\S+@\S+: Malformed|go\.mod:)[ \d]+:? BadVersion$", came.err, re.M):
-            kind = go_rows.NOT_CANONICAL
-        elif came.status == 0 and self.is_untidy(command, main, wanted):
-            kind = "An untidy main file"
-        elif command == "list" and came.status == 0 and self.is_unneeded(came, wanted):
-            kind = "A file that the list does not need"
-        if kind:
-            self.found.count(command, kind)
-        else:
-            self.found.report(self.where, command, came.text(), wanted.text())
-        return kind == BOTH
-
-    def is_untidy(self, command, main, wanted):
-        """Whether go's result is that of the main file as it updates it, or a refusal as it updates one."""
-        rows = dict(it.split(" ")[:2] for it in self.commands.ask_graph(main, "list").out.splitlines()[1:])
-        required = [args for verb, args, _ in pieces_of(read(f"{main}/go.mod"))[0] if verb == "require"]
-        if all(rows.get(path, version) == version for path, version in required):
-            return False
-        if wanted.status:
-            return True
-        copy = shutil.copytree(main, f"{main}.{command}")
-        if not any(verb == "go" for verb, _, _ in pieces_of(read(f"{main}/go.mod"))[0]):
-            self.commands.ask_go(copy, "mod", "edit", "-go=1.16", mod="")  # an update would write its own version
-        self.commands.ask_go(copy, "list", "-m", "all", mod="mod")
-        return self.same_lines(self.commands.ask_graph(copy, command), wanted, command == "graph")
-
-    def is_unneeded(self, came, wanted):
-        """Whether go refuses the hash of a file that is listed and that gomod does not ask for."""
-        rows = [it.split(" ") for it in came.out.splitlines()[1:]]
-        names = {"@".join(it[:2]) for it in rows} | {"@".join(it[3:]) for it in rows}
-        return any(classes == {"SumDiffers"} and name in names for name, classes in go_faults(wanted.err))
-
-    def has_second_hashes(self, main, came):
-        sums = [line.split() for line in read(f"{main}/go.sum").splitlines()]
-        names = [f"{path}@{version.removesuffix('/go.mod')}" for path, version, _ in sums]
-        blamed = re.findall(r"^(\S+@\S+): ", came.err, re.M)
-        return all(names.count(self.replaced.get(it, it)) > 1 for it in blamed)
-
-    def compare_chains(self, main, rows, lines):
-        """A chain of gomod takes lines of go's graph, and none that is shorter leads there."""
-        edges = collections.defaultdict(list)
-        for line in lines:
-            left, right = line.split(" ")
-            edges[left].append(right)
-        levels, queue = {rows[0]: 0}, [rows[0]]
-        for step in queue:
-            for to in edges[step]:
-                if to not in levels:
-                    levels[to] = levels[step] + 1
-                    queue.append(to)
-        for row in random.Random(len(lines)).sample(rows, min(3, len(rows))):
-            path, *rest = row.split(" ")
-            step = f"{path}@{rest[0]}" if rest else path
-            came = self.commands.ask_graph(main, "chain", path)
-            steps = came.out.splitlines()
-            if (came.status == 0 and steps[0] == rows[0] and steps[-1] == step and len(steps) == levels[step] + 1
-                    and all(to in edges[at] for at, to in zip(steps, steps[1:]))):
-                self.found.count("chain", SAME)
-            else:
-                self.found.report(self.where, "chain", came.text(), f"a chain to {step} of {levels[step] + 1} steps\n")
-
-    def compare_versions(self, folder, paths, excludes):
-        """versions, asked for from a main module that requires nothing."""
-        write(f"{folder}/go.mod", "module example.com/asker\n\ngo 1.16\n"
-              + "".join(f"exclude {path} {version}\n" for path, version in excludes))
-        form = "{{.Path}}{{range .Versions}} {{.}}{{end}}\t{{with .Error}}{{printf \"%q\" .Err}}{{end}}"
-        for words in [], ["-retracted"]:
-            asked = ["list", "-m", "-e", "-versions", *words, "-f", form, *paths]
-            wanted = self.commands.ask_go(folder, *asked, mod="mod")
-            rows = dict.fromkeys(paths, ("", "no row"))
-            for line in wanted.out.splitlines():
-                row, _, error = line.partition("\t")
-                rows[row.split(" ")[0]] = row, error
-            for path in paths:
-                came = self.commands.ask_graph(folder, "versions", path, *(f"-{it}" for it in words))
-                kinds = self.kinds_of_row(path, came, *rows[path], words, excludes)
-                command = "versions --retracted" if words else "versions"
-                self.tell(command, kinds, came.text(), "\n".join(rows[path]), path)
-
-    def tell(self, command, kinds, *report):
-        """Counts the kinds of a difference, or reports it if there is none, or one without a name."""
-        if not kinds or None in kinds:
-            self.found.report(self.where, command, *report)
-        for kind in kinds if None not in kinds else []:
-            self.found.count(command, kind)
-
-    def kinds_of_row(self, path, came, row, error, words, excludes):
-        """The kinds of a difference between the versions of a path that gomod prints and those of go's row."""
-        ours, theirs = came.out.split()[1:], row.split(" ")[1:]
-        once = list(dict.fromkeys(theirs))
-        if came.status == 0 and not error and ours == once:
-            return [SAME if once == theirs else go_rows.TWICE]
-        lines = read(f"{self.commands.proxy}/{escaped(path)}/@v/list").splitlines()
-        listed = [it.split()[0] for it in lines if re.match(r"v\d+(\.\d+){0,2}([-+]|\s|$)", it)]
-        listed = [it for it in listed if not re.search(r"\d{14}-[0-9a-f]{12}", it)]
-        fitting = [it for it in listed if fits(path, it)]
-        if came.status == 0 and not error:
-            kept = [it for it in once if fits(path, it)]
-            shown = [it for it in ours if (path, it) not in excludes]
-            if kept == shown:
-                told = {go_rows.EXCLUDED: shown != ours, go_rows.MISFITS: kept != once, go_rows.TWICE: once != theirs}
-                return [name for name, is_met in told.items() if is_met]
-        if not error and fitting and all((path, it) in excludes for it in fitting):
-            return [go_rows.EXCLUDED]
-        if came.err.endswith("BadVersion\n"):
-            return [go_rows.NOT_CANONICAL]
-        if not words and latest_of(listed) not in fitting:
-            return [go_rows.MISFITS]
-        if not words and "+incompatible" in latest_of(fitting):
-            return ["The latest version with `+incompatible`"]
-        return [BOTH] if came.status and error else []
-
-    def compare_edit(self, main, operations):
-        """Compares what operations make of a main file."""
-        flags = [f"-{it}" for it in operations]
-        wanted = self.commands.ask_go(main, "mod", "edit", "-print", *flags, "go.mod", mod="")
-        came = self.commands.ask(main, "edit", "go.mod", *operations)
-        note = "edit " + " ".join(f"'{it}'" for it in operations) + "\n" + read(f"{main}/go.mod")
-        self.tell("edit", self.kinds_of_edit(main, came, wanted, operations), came.text(), wanted.text(), note)
-
-    def kinds_of_edit(self, main, came, wanted, operations):
-        """The kinds of a difference between two edits; none if there is no reason for it."""
-        if came.status and wanted.status:
-            return [BOTH]
-        if came.status:
-            number = re.fullmatch(r"edit (\d+): (Misfit|Spelling)\n", came.err)
-            if number and number[2] == "Misfit":
-                return [go_rows.MISFIT]
-            if number and re.search(r"@(v\d+(\.\d+)?|latest|master)$", operations[int(number[1]) - 1]):
-                return [go_rows.NOT_CANONICAL]
-            faults = {"ConflictingReplace": go_rows.TWO_REPLACES, "BadVersion": go_rows.NOT_CANONICAL}
-            return [faults[it] for it in faults if re.fullmatch(rf"go\.mod:\d+: {it}\n", came.err)]
-        if wanted.status:
-            if "invalid -go" in wanted.err and any(re.fullmatch(r"go=.*(\..*\.|rc).*", it) for it in operations):
-                return [go_rows.GO_EDIT]
-            return [read_by_one(came, wanted)]
-        return self.kinds_of_texts(read(f"{main}/go.mod"), came.out, wanted.out, operations) or [SAME]
-
-    def kinds_of_texts(self, before, came, wanted, operations):
-        """The kinds of the differences of two texts; None is one that has no name."""
-        cut = any(it.endswith("=./a@b") for it in operations)
-        kinds = {go_rows.GRAVE} if cut and "=> ./a b" in wanted else set()
-        wanted = wanted.replace("=> ./a b", "=> ./a@b") if kinds else wanted
-        whole = re.sub(r"( v\d+\.\d+)(?=\s)", r"\1.0", came)
-        kinds |= {go_rows.NOT_CANONICAL} if whole != came else set()
-        (ours, our_comments), (theirs, their_comments) = pieces_of(whole), pieces_of(wanted)
-        lost = our_comments - their_comments
-        if their_comments - our_comments:
-            return [None]
-        if lost - (lost_by_go(before) | lost_by_go(came)):
-            drops = any(it.startswith(("drop", "require", "replace")) for it in operations)
-            kinds.add("A comment on a line before an entry that an edit drops" if drops else None)
-        elif lost:
-            kinds.add(go_rows.DROPPED)
-        for verb, args, _ in ours - theirs:
-            left = left_of(args)
-            kept = [them for it, them, _ in theirs if it == verb and them[:len(left)] == left]
-            again = [us for it, us, _ in ours.elements() if it == verb and us[:len(left)] == left]
-            if verb == "replace" and is_rewritten(left[0], operations):
-                kinds.add(go_rows.REPLACE_IN_ONE_CALL)
-            elif verb in ("exclude", "replace") and len(again) > 1 and kept:
-                kinds.add(go_rows.DROPPED if args in kept else go_rows.TWO_REPLACES)
-            else:
-                kinds.add(None)
-        for verb, args, _ in theirs - ours:
-            if verb == "retract":
-                kinds.add(go_rows.RETRACT_IN_ONE_CALL if any("retract=" in it for it in operations) else None)
-            else:
-                is_named = verb == "replace" and is_rewritten(args[0], operations)
-                kinds.add(go_rows.REPLACE_IN_ONE_CALL if is_named else None)
-        return [None] if None in kinds else sorted(kinds)
-
-    def compare_layout(self, main, is_laid_out):
-        """Compares how a main file is laid out."""
-        wanted = self.commands.ask_go(main, "mod", "edit", "-fmt", "-print", "go.mod", mod="")
-        came = self.commands.ask(main, "fmt", "go.mod")
-        kinds = self.kinds_of_layout(main, came, wanted, is_laid_out)
-        self.tell("fmt", kinds, came.text(), wanted.text(), read(f"{main}/go.mod"))
-
-    def kinds_of_layout(self, main, came, wanted, is_laid_out):
-        """The kinds of a difference between two layouts; none if there is no reason for it."""
-        if came.status and wanted.status:
-            return [BOTH]
-        if came.status or wanted.status:
-            strict = self.commands.ask(main, "edit", "go.mod", "dropretract=v0.0.0")
-            if came.status == 0 and self.both_refuse(strict, wanted):
-                return ["`fmt` of a file with a faulty directive"]
-            if came.status == 0 and re.match(r"go\.mod:\d+: BadVersion$", strict.err, re.M):
-                return [go_rows.NOT_CANONICAL]
-            return [read_by_one(came, wanted)]
-        if came.out == wanted.out:
-            return [SAME]
-        return [] if is_laid_out else self.kinds_of_texts(came.out, came.out, wanted.out, []) or ["The layout"]
-
-
-def read_by_one(came, wanted):
-    """The row of a file that only one of the two reads, or that they refuse for reasons that differ."""
-    if wanted.status:
-        return next((row for pattern, row in GO_ALONE if re.search(pattern, wanted.err)), None)
-    if came.status:
-        return next((row for pattern, row in GOMOD_ALONE if re.search(pattern, came.err, re.M)), None)
-    return None
-
-
-def is_rewritten(path, operations):
-    """Whether a replace of all versions of the path is followed by another operation on one of it."""
-    at = next((at for at, it in enumerate(operations) if it.startswith(f"replace={path}=")), len(operations))
-    return any(re.match(rf"(drop)?replace={re.escape(path)}(?![-\w/.])", it) for it in operations[at + 1:])
-
-
-def lost_by_go(text):
-    """The comment lines that go loses as it formats: of a block that it drops or makes a line, and of repetitions."""
-    lost, block, before, inside, comments = collections.Counter(), None, [], [], []
-    times = collections.Counter((verb, left_of(args)) for verb, args, _ in pieces_of(text)[0].elements())
-    for line in text.splitlines():
-        words = words_of(line)
-        if not words and "//" in line:
-            comments.append(line.strip()[2:].strip())
-        elif words and words[-1] == "(" and block is None:
-            block, before, inside, comments = words[0], comments, [], []
-        elif words == [")"]:
-            lost.update(before + comments if len(inside) < 2 else [])
-            block, comments = None, []
-        elif words:
-            verb, left = block or words[0], left_of(words if block else words[1:])
-            if verb in ("exclude", "replace") and times[verb, left] > 1:
-                lost.update(comments)
-            else:
-                inside.append(left)
-            before, comments = before + comments, []
-    return lost
-
-
-def compare_world(go, seed, room, found):
+def compare_world(programs, seed, room, found):
     """Compares all commands in the world of a seed."""
     world = World(seed, room)
-    at = Comparison(f"world {seed}", Commands(go, room, world.proxy), found)
+    at = Comparison(f"world {seed}", Commands(programs, room, world.proxy), found)
     for (path, version), (right, _) in world.replaces.items():
         for known in world.versions.get(path, []):
             if version in (None, known) and " " in right:
@@ -556,7 +224,7 @@ def named_versions(text):
     return {it for it in pairs if re.fullmatch(rf"{element}(/{element})* v\d+\.\d+\.\d+[\w.+-]*", " ".join(it))}
 
 
-def compare_cache(go, cache, mod, edits, seed, room, found):
+def compare_cache(programs, cache, mod, edits, seed, room, found):
     """The same on a cache and a main file. The go.mod files of folders that replace modules are copied."""
     proxy, main, some = f"{room}/proxy", f"{room}/1/2/3/4/5/6/7/8/main", random.Random(seed)
     text = read(mod)
@@ -577,7 +245,7 @@ def compare_cache(go, cache, mod, edits, seed, room, found):
                 write(os.path.normpath(f"{main}/{args[-1]}/go.mod"), read(f"{folder}/go.mod"))
                 named |= named_versions(read(f"{folder}/go.mod"))
     paths = lay_cache(cache, proxy, named)
-    at = Comparison(mod, Commands(go, room, proxy), found)
+    at = Comparison(mod, Commands(programs, room, proxy), found)
     for _ in range(edits):
         at.compare_edit(main, operations(some, requires, replaces, excludes))
     at.compare_layout(main, False)
@@ -585,23 +253,23 @@ def compare_cache(go, cache, mod, edits, seed, room, found):
     at.compare_graph(main, os.path.exists(sums))
 
 
-def compare_tidy(go, room, found):
+def compare_tidy(programs, room, found):
     """The same on a module that go tidied, with the cache that `go mod download` filled for it."""
     proxy, main = f"{room}/source", f"{room}/tidied"
     lay_tidy_world(proxy, main)
     for words in ["tidy"], ["download"]:
-        commands = Commands(go, f"{room}/{words[0]}", proxy)
+        commands = Commands(programs, f"{room}/{words[0]}", proxy)
         ran = commands.ask_go(main, "mod", *words, mod="mod")
         if ran.status:
             sys.exit(f"compare-go: go mod {words[0]} failed: {ran.err}")
-    compare_cache(go, f"{commands.cache}/cache/download", f"{main}/go.mod", 0, 1, room, found)
+    compare_cache(programs, f"{commands.cache}/cache/download", f"{main}/go.mod", 0, 1, room, found)
 
 
-def compare_row_world(go, row, room, found):
+def compare_row_world(programs, row, room, found):
     """The world of a row of docs/use/GO.md, whose difference has to show there, and no other."""
     proxy, main = f"{room}/proxy", f"{room}/main"
     go_rows.lay(row, proxy, main)
-    commands, seen = Commands(go, room, proxy), Differences()
+    commands, seen = Commands(programs, room, proxy), Differences()
     at = Comparison(f"the world of '{row.name}', {row.ask}", commands, seen)
     command, *words = shlex.split(row.ask.replace("{proxy}", proxy).replace("\\", "\\\\"))
     if row.words:
@@ -659,8 +327,8 @@ def answer(ran):
 class TextWorlds:
     """The worlds of texts, one after another. They share a proxy, where only what differs is written."""
 
-    def __init__(self, go, room):
-        self.go, self.room, self.proxy, self.laid = go, room, f"{room}/proxy", {}
+    def __init__(self, programs, room):
+        self.programs, self.room, self.proxy, self.laid = programs, room, f"{room}/proxy", {}
 
     def lay(self, it, readers, main):
         """Writes the world of a text, with all that one of the two reads of it."""
@@ -693,7 +361,7 @@ class TextWorlds:
         *readers, shown = judged
         as_go, as_gomod = readers
         with tempfile.TemporaryDirectory(dir=self.room) as room:
-            main, commands = f"{room}/main", Commands(self.go, room, self.proxy)
+            main, commands = f"{room}/main", Commands(self.programs, room, self.proxy)
             self.lay(it, readers, main)
             asked, words, flags = questions(it, self.proxy)
             theirs = answer(commands.ask_go(main, *asked, flags=flags))
@@ -708,9 +376,9 @@ class TextWorlds:
             found.count(it.place, kind)
 
 
-def compare_texts(go, count, seed, room, found):
+def compare_texts(programs, count, seed, room, found):
     """So many texts from a number on, and one for each row that they ask about and that none of them shows."""
-    asked, seen, worlds = {row: set() for row in go_rows.ALONE}, set(), TextWorlds(go, room)  # the places of each row
+    asked, seen, worlds = {row: set() for row in go_rows.ALONE}, set(), TextWorlds(programs, room)  # the places of rows
     for number in range(seed, seed + count + 100000):
         it, is_more, missing = go_texts.make(number), number >= seed + count, asked.keys() - seen
         if is_more and not missing:
@@ -728,19 +396,20 @@ def compare_texts(go, count, seed, room, found):
         print(f"tools/go_texts.py: there is no text that shows the row '{row}'")
 
 
-def compare_rows(go, name, found):
+def compare_rows(programs, name, found):
     """The worlds of tools/go_rows.py, or those of one row: each row of docs/use/GO.md has one, or texts of
     tools/go_texts.py, and each is of a row."""
+    names = go_differences.names()
     named = {it.name for it in go_rows.ROWS} | set(go_rows.ALONE)
-    for it in sorted(found.names - named):
+    for it in sorted(names - named):
         print(f"docs/use/GO.md: tools/go_rows.py has no world that shows the row '{it}'")
-    for it in sorted(named - found.names):
+    for it in sorted(named - names):
         print(f"tools/go_rows.py: docs/use/GO.md has no row '{it}'")
-    if found.names != named:
+    if names != named:
         sys.exit("compare-go: docs/use/GO.md has other rows than tools/go_rows.py has worlds for")
     for row in go_rows.ROWS:
         if name in ("", row.name):
-            in_scratch(compare_row_world, go, row, found)
+            in_scratch(compare_row_world, programs, row, found)
 
 
 def in_scratch(compare, *words):
@@ -755,13 +424,8 @@ def in_scratch(compare, *words):
         shutil.rmtree(room)
 
 
-def main(*words):
-    """Compares worlds, rows of GO.md or a module, as the words say."""
-    if not os.access(GOMOD, os.X_OK):
-        sys.exit("compare-go: there is no bin/gomod: run ./build")
-    if words[:1] in (("--check",), ("--record",)):
-        import recorded_go
-        return recorded_go.main(*words)
+def parsed(words):
+    """What the words ask for."""
     parser = argparse.ArgumentParser(add_help=False, prog="compare-go")
     parser.add_argument("worlds", nargs="?", type=int)
     parser.add_argument("seed", nargs="?", type=int, default=1)
@@ -772,27 +436,123 @@ def main(*words):
     parser.add_argument("--mod", default="go.mod")
     asked = parser.parse_args(words)
     if asked.worlds is None:
-        asked.worlds = 2000 if asked.texts else 100
+        asked.worlds = TEXTS if asked.texts else 100
     if asked.worlds < 0 or asked.cache and not os.path.isdir(asked.cache):
         script.misused("it takes a number, and --cache a folder")
     if asked.rows and asked.rows not in {it.name for it in go_rows.ROWS}:
         script.misused(f"there is no row '{asked.rows}'")
-    (go, version), found = script.real_go(asked.go), Differences()
-    print(version)
+    return asked
+
+
+def compare(programs, asked):
+    """Compares worlds, rows of GO.md or a module, and returns the status."""
+    found = Differences()
     if asked.rows is not None:
-        compare_rows(go, asked.rows, found)
+        compare_rows(programs, asked.rows, found)
     elif asked.texts:
-        in_scratch(compare_texts, go, asked.worlds, asked.seed, found)
+        in_scratch(compare_texts, programs, asked.worlds, asked.seed, found)
     elif asked.cache:
-        in_scratch(compare_cache, go, asked.cache, asked.mod, asked.worlds, asked.seed, found)
+        in_scratch(compare_cache, programs, asked.cache, asked.mod, asked.worlds, asked.seed, found)
     else:
         tidy = Differences()
-        in_scratch(compare_tidy, go, tidy)
+        in_scratch(compare_tidy, programs, tidy)
         found.unexplained += tidy.unexplained
         for seed in range(asked.seed, asked.seed + asked.worlds):
-            in_scratch(compare_world, go, seed, found)
+            in_scratch(compare_world, programs, seed, found)
     found.print()
     return 1 if found.unexplained else 0
+
+
+class Check(script.Tally):
+    """How many comparisons were right and wrong."""
+
+    def expect(self, what, programs, words, status, *texts, kind="comparisons with recorded answers of go"):
+        """Whether a comparison ends with this status, and prints these texts."""
+        with contextlib.redirect_stdout(io.StringIO()) as printed:
+            try:
+                came = compare(programs, parsed(map(str, words)))
+            except SystemExit as fault:
+                came = 1
+                print(fault)
+        said = printed.getvalue()
+        missing = [f"  it doesn't print: {it}\n" for it in texts if it not in said]
+        message = f"{what}: status {came}, and {status} is right\n{''.join(missing)}  it prints:\n{said}"
+        self.tell(kind, came == status and not missing, message)
+        return came == status
+
+    def compare_all(self, programs, room):
+        """All comparisons with recorded answers."""
+        cache, none = f"{room}/cache", "differences that docs/use/GO.md does not name: 0\n"
+        for name in "cache/download", "mirror":
+            shutil.copytree(f"{TOP}/example/{name}", cache, dirs_exist_ok=True)
+        write(f"{room}/main/go.mod", read(f"{TOP}/example/tidy.mod"))
+        example = ["--cache", f"{TOP}/example/cache/download", "--mod", f"{TOP}/example/go.mod", 0]
+        commands = ("list", "graph", "chain", "versions", "fmt")
+        same = [f"{it}:\n{number:8} the same\n" for it, number in zip(commands, (1, 1, 3, 3, 1))]
+        self.expect("a module that go made tidy", programs, [0], 0, none)
+        self.expect("example/go.mod", programs, example, 0, *same, none)
+        tidy = ["--cache", cache, "--mod", f"{room}/main/go.mod", 0]
+        self.expect("example/tidy.mod", programs, tidy, 0, *same[:3], same[4], none)
+        self.expect("the worlds of the rows", programs, ["--rows"], 0, none)
+        for programs.cut in commands:
+            self.expect(f"gomod {programs.cut} without a line", programs, example, 1, f": {programs.cut}", NO_ROW)
+        programs.cut = ""
+        with mock.patch.dict(globals(), named_versions=lambda text: set()):
+            self.expect("a proxy without the .info of a pruned-out module", programs, [0], 1, NO_ROW, ".info: ")
+        row, names = go_rows.NOT_UTF8, go_differences.names()
+        others = [it for it in go_differences.GOMOD_ALONE if it[1] != row]
+        one_more, one_less = names | {"Another"}, names - {row}
+        for what, changed, says in (
+            ("a row without a world", {"names": lambda: one_more}, "has no world that shows the row 'Another'"),
+            ("a world without a row", {"names": lambda: one_less}, f"docs/use/GO.md has no row '{row}'"),
+            ("a difference that has no row", {"GOMOD_ALONE": others}, NO_ROW),
+        ):
+            with mock.patch.multiple(go_differences, **changed):
+                self.expect(what, programs, ["--rows", row], 1, says)
+
+    def compare_texts(self, wanted):
+        """Compares texts with a real go, if there is the version whose answers are recorded, others for each commit,
+        and leaves a record for tools/release.sh."""
+        found = [it for it in (shutil.which("go"), "/usr/lib/go-1.19/bin/go") if it and os.path.exists(it)]
+        real = next((it for it in found if script.real_go(it)[1] == wanted), None)
+        if not real:
+            print(f"skipped, texts beside go: there is no {wanted}")
+            return
+        seed = TEXTS * int(script.git("rev-parse", "HEAD", top=TOP)[:6] or "0", 16)
+        what = f"{TEXTS} texts from {seed}"
+        if self.expect(what, Programs(real), ["--texts", TEXTS, seed], 0, kind="texts beside go"):
+            program = hashlib.sha256(GOMOD.read_bytes()).hexdigest()
+            write(f"{TOP}/bin/texts.txt", f"{what} beside {wanted}\n{program}  bin/gomod\n")
+
+
+def check(recorded, real=""):
+    """Makes the comparisons of --check, and returns the status."""
+    tally, answers = Check(), recorded["answers"]
+    with tempfile.TemporaryDirectory(prefix="gomod-recorded-") as room:
+        tally.compare_all(Recorded(answers, real), room)
+    if real:
+        write(ANSWERS, json.dumps(recorded, indent=0) + "\n")
+    else:
+        tally.compare_texts(recorded["version"])
+    return tally.status()
+
+
+def main(*words):
+    """Compares what the words say, and returns the status."""
+    if not os.access(GOMOD, os.X_OK):
+        sys.exit("compare-go: there is no bin/gomod: run ./build")
+    match words:
+        case ["--check"]:
+            return check(json.loads(read(ANSWERS)))
+        case ["--record", command]:
+            real, version = script.real_go(command)
+            return check({"version": version, "answers": {}}, real)
+        case ["--check" | "--record", *_]:
+            script.misused("--check takes nothing, --record the name of a go command")
+    asked = parsed(words)
+    go, version = script.real_go(asked.go)
+    print(version)
+    return compare(Programs(go), asked)
 
 
 if __name__ == "__main__":
