@@ -9,15 +9,14 @@ loaded it makes no calls of the system but OWN, so none that writes elsewhere, s
 import collections
 import os
 import re
+import shutil
 import subprocess
-import sys
 from typing import NamedTuple
 
 # The calls that a command may make of the system when it is loaded. strace shows all others, and two of these.
 OWN = set("rt_sigaction getrandom brk mmap mremap munmap openat read close lseek write exit_group".split())
 CALLS = "!" + ",".join(sorted(OWN - {"openat", "read"}))
-LINE = re.compile(rb"(\d+) +(.*)\n")
-UNFINISHED, RESUMED = re.compile(rb"(.*) <unfinished \.\.\.>"), re.compile(rb"<\.\.\. \w+ resumed>(.*)")
+LINE = re.compile(rb"\d+ +(.*)\n")
 CALL = re.compile(rb"(\w+)\((.*)\) += (-?\d+|\?)( .*)?")
 OPEN = re.compile(rb'AT_FDCWD, "((?:\\x[0-9a-f]{2})*)", (O_\S+)')
 HEXADECIMAL = re.compile(rb"(?:\\x[0-9a-f]{2})+")
@@ -96,29 +95,29 @@ def allowed(run, case, folder):
 
 
 def tracer(log):
-    """The words that make strace write the calls of a command, and of all that it starts, to a file."""
+    """The words that make strace write the calls of a command to a file, if it is there, knows what it needs, and may
+    look at processes."""
     shown = ["-q", "-xx", "-s", "0", "-e", "signal=none", "-e", f"trace={CALLS}"]
-    return ["strace", "-f", "--seccomp-bpf", *shown, "-o", log]
-
-
-def can_be_seen(folder):
-    """Whether strace is there, knows what it needs, and may look at processes."""
-    log = os.path.join(folder, "try")
+    words = [shutil.which("strace") or "strace", "-f", "--seccomp-bpf", *shown, "-o", log]
     try:
-        done = subprocess.run([*tracer(log), "true"], stdin=subprocess.DEVNULL, stderr=subprocess.DEVNULL)
+        done = subprocess.run([*words, "true"], stdin=subprocess.DEVNULL, stderr=subprocess.DEVNULL)
     except FileNotFoundError:
-        return False
-    return done.returncode == 0 and os.path.getsize(log) > 0
+        return []
+    return words if done.returncode == 0 and os.path.getsize(log) > 0 else []
 
 
 def name_of(text):
     return bytes.fromhex(text.decode().replace("\\x", ""))
 
 
-def faults_of(calls, allowed_files):
-    """What is wrong with the calls of a command."""
+def faults_of(log, allowed_files):
+    """What is wrong with the calls of a command that strace wrote to a file."""
+    with open(log, "rb") as file:
+        begin, *calls = (LINE.fullmatch(it)[1] for it in file)
+    if not begin.startswith(b"execve("):
+        yield f"strace says {begin.decode()}"
     names, ended, is_loading = [], set(), True
-    for text in calls:
+    for text in (it for it in calls if not it.startswith(b"+++")):
         found = CALL.fullmatch(text)
         if not found:
             yield f"strace says {text.decode()}"
@@ -151,33 +150,3 @@ def faults_of(calls, allowed_files):
     if allowed_files.order is None:
         yield from (f"opens {it!r}, which its words do not name" for it in shortest if not allowed_files.has(it))
         yield from (f"opens {it!r} again" for it, times in collections.Counter(names).items() if times > 1)
-
-
-def calls_of(path, program):
-    """The calls of each process of the program in a log, in the order of their starts. A call during which another
-    process made one has two lines."""
-    begins = b'execve("%s"' % b"".join(b"\\x%02x" % it for it in program.encode())
-    found, unfinished, now = [], {}, {}
-    with open(path, "rb") as file:
-        for process, text in (LINE.fullmatch(it).groups() for it in file):
-            rest = RESUMED.fullmatch(text)
-            text = unfinished.pop(process) + rest[1] if rest else text
-            cut = UNFINISHED.fullmatch(text)
-            if cut:
-                unfinished[process] = cut[1]
-            elif text.startswith(begins):
-                now[process] = []
-                found.append(now[process])
-            elif text.startswith(b"+++"):
-                now.pop(process, None)
-            elif process in now:
-                now[process].append(text)
-    return found
-
-
-def all_faults(path, program, started):
-    """What is wrong with each command, by when it was started, given the log of these commands and no others."""
-    calls = calls_of(path, program)
-    if len(calls) != len(started):
-        sys.exit(f"program: strace saw {len(calls)} commands, and {len(started)} were started")
-    return {it.when: list(faults_of(own, it.allowed)) for it, own in zip(sorted(started), calls)}

@@ -1,8 +1,14 @@
-"""Runs the cases of command lines with bin/gomod, as tools/program.sh says, and then once more in another world.
+"""Runs the cases of command lines, as tools/program.sh says, in this world, and then in another one.
 
     program.py PROGRAM [--unproved] [--this | --other] [FILE.txt..] [TITLE..]
 
-tools/case_files.py reads the cases, and tools/other_world.py has the other world.
+tools/case_files.py reads the cases. The other world's program is nobody's, if root starts it, so that permissions
+count. Its environment is full of variables that the go command, a library or a terminal reads, and for every eighth
+command empty. Standard output and standard error are terminals, both for half of the commands, else one of them.
+Standard input is a terminal at which nobody types or, where the words name it, a file, or a terminal at which the text
+was typed. Output, report and status have to be those of the case all the same. A case with a range of sizes runs at
+about 1,000, one with a list at those up to 20,000, or at the least. If strace is there, each command runs under it, and
+tools/opened.py says what is wrong with what it saw.
 """
 
 import concurrent.futures
@@ -13,16 +19,21 @@ import multiprocessing
 import os
 import re
 import resource
+import selectors
+import shutil
+import signal
 import socket
 import subprocess
 import sys
 import tempfile
+import termios
 import threading
+import tty
 
-import other_world
+import opened
 import script
 from case_files import PIPES, bytes_below, case_of, chosen_cases, greatest_sizes, laid, moderate_sizes, shown
-from script import AT_ONCE
+from script import AT_ONCE, holding, read, ticks_of, write
 
 REFUSE_MEMORY = os.environ.pop("REFUSE_MEMORY", None)
 REFUSE_LATER = os.environ.pop("REFUSE_LATER", None)
@@ -42,6 +53,31 @@ OPEN_INPUT, _WRITER = os.pipe()
 SPARE, FACTOR = 64 << 20, 100
 # an output that takes no byte
 CUT = b"", b"", 3
+# What is typed at the end of a text, and how long a text may be to be typed.
+END_KEY, TYPED = b"\x04", 2000
+NOBODY = 65534
+# What a file of the environment has, below HOME.
+HOME_FILES = {
+    ".config/go/env": "GOFLAGS=-mod=mod\nGOPROXY=off\n",
+    "go.mod": "module example.com/home\n",
+    "go.work": "go 1.21\n\nuse .\n",
+    "go/pkg/mod/cache/download/example.com/a/@v/list": "v9.0.0\n",
+    "go/pkg/mod/cache/download/example.com/a/@v/v1.0.0.mod": "module example.com/a\n\nrequire example.com/z v1.0.0\n",
+}
+# HOME stands for the folder of that variable.
+VARIABLES = """
+GO111MODULE=off GOARCH=arm64 GOAUTH=netrc GOBIN=HOME/bin GOCACHE=HOME/cache GODEBUG=netdns=go,gctrace=1
+GOENV=HOME/.config/go/env GOEXPERIMENT=none GOFIPS140=off GOFLAGS=-mod=vendor,-modfile=other.mod GOGC=off
+GOINSECURE=* GOMAXPROCS=1 GOMEMLIMIT=1 GOMOD=HOME/go.mod GOMODCACHE=HOME/go/pkg/mod GONOPROXY=* GONOSUMCHECK=1
+GONOSUMDB=* GOOS=plan9 GOPATH=HOME/go GOPRIVATE=* GOPROXY=off GOROOT=HOME GOSUMDB=off GOTELEMETRY=on
+GOTMPDIR=HOME GOTOOLCHAIN=local GOTRACEBACK=crash GOVCS=*:off GOVERSION=go1.1 GOWORK=HOME/go.work
+GOMOD_PROXY=HOME/go/pkg/mod/cache/download GOMOD_FLAGS=--help GOMOD_CONFIG=HOME/go.mod GOMOD_COLOR=always
+LANG=tr_TR.UTF-8 LC_ALL=tr_TR.UTF-8 LC_COLLATE=C LC_CTYPE=tr_TR.ISO-8859-9 LANGUAGE=tr TERM=xterm-256color
+COLORTERM=truecolor CLICOLOR=1 CLICOLOR_FORCE=1 FORCE_COLOR=3 NO_COLOR=1 COLUMNS=20 LINES=5 PAGER=cat EDITOR=vi
+CI=true GITHUB_ACTIONS=true DEBUG=1 VERBOSE=1 RUST_BACKTRACE=full RUST_LOG=trace POSIXLY_CORRECT=1 TZ=Asia/Kathmandu
+PATH=/usr/bin:/bin PWD=/nowhere OLDPWD=/ SHELL=/bin/sh USER=nobody LOGNAME=nobody SHLVL=9 http_proxy=http://localhost:1
+https_proxy=http://localhost:1 XDG_CONFIG_HOME=HOME/.config XDG_CACHE_HOME=HOME/cache SOURCE_DATE_EPOCH=1
+"""
 
 
 def stack_of_readme():
@@ -60,24 +96,52 @@ def limited(kind, most):
         resource.setrlimit(kind, before)
 
 
-class Commands:
-    """The program, with what is known of its commands."""
+class World:
+    """A program, in a process that runs cases in a folder of its own."""
 
     here = None  # that of this process
+    name = ""
 
     def __init__(self, program, is_proved, scratch, turn):
-        self.program, self.is_proved, self.scratch, self.turn = program, is_proved, scratch, turn
-        self.stack = stack_of_readme()
-        self.starting = threading.Lock()  # limits are those of all threads
-        self.refusals = 0  # how many runs had an allocation refused
-        self.cut_runs = set()  # the commands that were tried with a stream that takes nothing, with the stream's name
-        self.home, self.temporary = (os.path.join(scratch, it) for it in ("home", "tmp"))
-        for folder in (self.home, self.temporary):
-            other_world.fill_home(folder)
-        self.environment = {**os.environ, "HOME": self.home, "TMPDIR": self.temporary}
+        self.program, self.is_proved, self.turn = program, is_proved, turn
+        self.folder = tempfile.mkdtemp(prefix="worker-", dir=scratch)
+        self.count = 0  # how many runs had an allocation refused, or were seen by strace
+        self.own_process()
+        self.home, self.temporary = (os.path.join(self.folder, it) for it in ("home", "tmp"))
+        for folder, (name, text) in itertools.product((self.home, self.temporary), HOME_FILES.items()):
+            write(os.path.join(folder, name), text)
+
+    def own_process(self):
+        """Changes this process."""
 
     def wanted(self, run):
         return run.wanted(self.is_proved)
+
+    def all_faults(self, path, case):
+        """What is wrong with a case, in lines, the first of which says which case it is."""
+        said, folder = [], self.folder.encode()
+        with laid(case, os.path.join(folder, b"case"), [folder], said) as place:
+            for run in case.commands():
+                said += self.faults_of(run, case, place)
+        return [f"{path}:{case.line}: {case.title}{self.name}", *said] if said else []
+
+
+class ThisWorld(World):
+    """This world, in which more is tried of a command."""
+
+    def __init__(self, *given):
+        super().__init__(*given)
+        self.stack = stack_of_readme()
+        self.starting = threading.Lock()  # limits are those of all threads
+        self.cut_runs = set()  # the commands that were tried with a stream that takes nothing, with the stream's name
+        self.environment = {**os.environ, "HOME": self.home, "TMPDIR": self.temporary}
+
+    @staticmethod
+    def takes(case):
+        """Whether a case is run as this user, with files as its words name them."""
+        is_large = REFUSE_MEMORY and (case.is_large() or case.has(*PIPES))
+        is_root = not os.geteuid()
+        return not (case.is_rooted() or is_large or (is_root and any(it.has_mode() for it in case.pieces)))
 
     def stream_to_cut(self, run):
         """The stream that the run writes to, if any, unless the same command was tried with that stream cut."""
@@ -137,7 +201,7 @@ class Commands:
         for words, is_later in WAYS if REFUSE_LATER else WAYS[:1]:
             for number, got in self.each_refused(run, case, folder, stdin, is_later):
                 if got not in allowed:
-                    return words.format(number), got
+                    return ", " + words.format(number), got
         return None
 
     def each_refused(self, run, case, folder, stdin, is_later):
@@ -155,35 +219,168 @@ class Commands:
                         if number == 1 or (out, report.removesuffix(PASSED), status) != self.wanted(run):
                             sys.exit(f"program: line {run.line}: no allocation was refused: $ {run.text.decode()}")
                         return
-                    self.refusals += 1
+                    self.count += 1
                     yield number, (out, report, status)
 
-    def fault_of(self, run, case, folder, stdin, file_bytes):
-        """What a run was, what it came to and what is wanted, or None if that is the same."""
-        got, over, wanted = self.result(run, case, folder, stdin, None, file_bytes, case.memory), "", self.wanted(run)
-        if got == wanted and REFUSE_MEMORY:
-            if not case.is_sized:
-                over, got = self.refused(run, case, folder, stdin) or ("", got)
+    def faults_of(self, run, case, folder):
+        """What is wrong with a run, in lines."""
+        stdin, wanted, over = case.stdin(), self.wanted(run), ""
+        file_bytes = len(stdin) + bytes_below(folder) if case.is_sized else None
+        got = self.result(run, case, folder, stdin, None, file_bytes, case.memory)
+        if got == wanted and REFUSE_MEMORY and not case.is_sized:
+            over, got = self.refused(run, case, folder, stdin) or ("", got)
             wanted = NO_MEMORY if over and REFUSE_LATER else wanted
         stream = self.stream_to_cut(run)
         if got == wanted and stream:
-            over, wanted = f"{stream} is /dev/full", CUT
+            over, wanted = f", {stream} is /dev/full", CUT
             got = self.result(run, case, folder, stdin, None, None, case.memory, stream)
-        return None if got == wanted else (over, got, wanted)
+        return [] if got == wanted else differing(run, got, wanted, over)
 
-    def all_faults(self, path, case):
-        """What is wrong with a case, in lines, the first of which says which case it is."""
-        root, said = tempfile.mkdtemp(prefix="case-", dir=self.scratch).encode(), []
-        with laid(case, root, [root, self.home.encode(), self.temporary.encode()], said) as folder:
-            stdin = case.stdin()
-            file_bytes = len(stdin) + bytes_below(folder) if case.is_sized else None
-            for run in case.commands():
-                fault = self.fault_of(run, case, folder, stdin, file_bytes)
-                if fault:
-                    over, got, wanted = fault
-                    said.append(f"  line {run.line}{over and ', '}{over}: $ {run.text.decode()}")
-                    said += [shown("got", *got), shown("wanted", *wanted)]
-        return [f"{path}:{case.line}: {case.title}", *said] if said else []
+
+def differing(run, got, wanted, over=""):
+    """What a run came to and what is wanted, in lines."""
+    return [f"  line {run.line}{over}: $ {run.text.decode()}", shown("got", *got), shown("wanted", *wanted)]
+
+
+class OtherWorld(World):
+    """The other one, under strace if that is there."""
+
+    name = ", in the other world"
+
+    def __init__(self, *given):
+        super().__init__(*given)
+        self.environment = dict(it.replace("HOME", self.home).split("=", 1) for it in VARIABLES.split())
+        self.environment |= dict.fromkeys(("TMPDIR", "TEMP", "TMP"), self.temporary) | {"HOME": self.home}
+        self.silent = self.terminal()  # both ends stay open
+        # not in the folder, where nothing may change
+        self.log = f"{self.folder}.log"
+        self.tracer = opened.tracer(self.log)
+
+    def own_process(self):
+        """Makes this process one of nobody's, if it is one of root's, and sets limits for those that it starts."""
+        # the words of a command take as much of the stack as the system allows
+        most = resource.getrlimit(resource.RLIMIT_STACK)[1]
+        resource.setrlimit(resource.RLIMIT_STACK, (most, most))
+        # this process goes on after so much time
+        signal.signal(signal.SIGXCPU, lambda *_: None)
+        resource.setrlimit(resource.RLIMIT_CPU, (LIMIT, resource.getrlimit(resource.RLIMIT_CPU)[1]))
+        if not os.geteuid():
+            os.chown(self.folder, NOBODY, NOBODY)
+            with open(f"{self.folder}.log", "wb") as log:
+                os.fchown(log.fileno(), NOBODY, NOBODY)
+            os.setgroups([])
+            os.setgid(NOBODY)
+            os.setuid(NOBODY)
+
+    @staticmethod
+    def takes(case):
+        """Whether a case has no file at the root of the system."""
+        return not case.is_rooted()
+
+    @staticmethod
+    def terminal():
+        """Both ends of a terminal that changes no byte."""
+        ends = os.openpty()
+        tty.setraw(ends[1])
+        return ends
+
+    def typed(self, text):
+        """Both ends of a terminal at which a text was typed, and its end."""
+        ends = self.terminal()
+        state = termios.tcgetattr(ends[1])
+        state[3] |= termios.ICANON
+        state[6] = [b"\0"] * len(state[6])
+        state[6][termios.VEOF] = END_KEY
+        termios.tcsetattr(ends[1], termios.TCSANOW, state)
+        os.write(ends[0], text + END_KEY * (1 if text.endswith(b"\n") or not text else 2))
+        return ends
+
+    @contextlib.contextmanager
+    def input(self, run, case):
+        """The descriptor that a run has as its standard input."""
+        text = case.stdin() if run.reads_input() else b""
+        if not run.reads_input():
+            yield self.silent[1]
+        elif run.line % 2 and len(text) < TYPED and END_KEY not in text:
+            ends = self.typed(text)
+            yield ends[1]
+            for it in ends:
+                os.close(it)
+        else:
+            with holding(text, self.folder) as file:
+                yield file.fileno()
+
+    def streams(self, number):
+        """What the command with a number has as its output and its report: both ends, and those that this process reads
+        are first."""
+        are_terminals = {2: (True, False), 3: (False, True)}.get(number % 4, (True, True))
+        return [self.terminal() if it else os.pipe() for it in are_terminals]
+
+    def result(self, run, case, folder):
+        """What a run comes to: output, report and status."""
+
+        def limit():
+            resource.setrlimit(resource.RLIMIT_AS, (case.memory, case.memory))
+
+        pairs, words = self.streams(run.line), [*self.tracer, self.program, *run.words[1:]]
+        environment = {} if run.line % 8 == 0 else self.environment
+        with self.input(run, case) as stdin, case.fed(folder) as descriptors:
+            (out, own_out), (report, own_report) = pairs
+            streams = {"stdin": stdin, "stdout": own_out, "stderr": own_report, "pass_fds": descriptors}
+            set_limit = limit if case.memory else None
+            command = subprocess.Popen(words, cwd=folder, env=environment, preexec_fn=set_limit, **streams)
+            os.close(own_out)
+            os.close(own_report)
+            texts = read_all([out, report], command)
+            if texts is None:
+                sys.exit(f"program: line {run.line} only waits, for {LIMIT} seconds: $ {run.text.decode()}")
+            return *texts, command.wait()
+
+    def faults_of(self, run, case, folder):
+        """What is wrong with a run, in lines."""
+        allowed, wanted = opened.allowed(run, case, folder), self.wanted(run)
+        got = self.result(run, case, folder)
+        said = differing(run, got, wanted) if got != wanted else []
+        if self.tracer:
+            self.count += 1
+            faults = [f"  {it}" for it in opened.faults_of(self.log, allowed)]
+            said += [f"  line {run.line}: $ {run.text.decode()}", *faults] if faults else []
+        return said
+
+
+def ticks_below(pid):
+    """How much a process and those that it has started have used the processor."""
+    with contextlib.suppress(OSError):
+        return sum(map(ticks_of, [pid, *read(f"/proc/{pid}/task/{pid}/children").split()]))
+    return -1
+
+
+def read_all(ends, command):
+    """What comes from each of these ends until nobody writes to them. If the command only waits for too long, None, and
+    it is ended."""
+    texts, before = {end: [] for end in ends}, -2
+    with selectors.DefaultSelector() as selector:
+        for end in ends:
+            selector.register(end, selectors.EVENT_READ)
+        while selector.get_map():
+            ready = selector.select(LIMIT / 2)
+            if not ready:
+                used = ticks_below(command.pid)
+                if used == before:
+                    # strace, too, ends what it has started
+                    command.terminate()
+                    return None
+                before = used
+            for key, _ in ready:
+                try:
+                    piece = os.read(key.fd, 1 << 16)
+                except OSError:  # nobody has the other end of the terminal
+                    piece = b""
+                texts[key.fd].append(piece)
+                if not piece:
+                    selector.unregister(key.fd)
+                    os.close(key.fd)
+    return [b"".join(it) for it in texts.values()]
 
 
 def standard_inputs(text):
@@ -216,7 +413,7 @@ def reads_each_input(program):
 
 
 def prints_large_graph(program, n=1000):
-    """Whether `graph` prints n*n edges in 16 MiB, which are compared as they come, and exits with 3 if its reader leaves."""
+    """Whether `graph` prints n*n edges in 16 MiB, compared as they come, and exits with 3 if its reader leaves."""
     targets = [f"a.b/{it}@v1.0.0" for it in sorted(map(str, range(n)))]
     sources = [f"e.x/p@v1.0.{it}" for it in range(n)]
     with tempfile.TemporaryDirectory() as folder:
@@ -228,80 +425,68 @@ def prints_large_graph(program, n=1000):
             with subprocess.Popen(words, cwd=folder, stdout=subprocess.PIPE) as command:
                 edges = [("m", sources), *((it, targets) for it in sources[:most])]
                 texts = ("".join(f"{source} {it}\n" for it in to).encode() for source, to in edges)
-                good = all(command.stdout.read(len(it)) == it for it in texts) and (status or not command.stdout.read(1))
+                good = all(command.stdout.read(len(it)) == it for it in texts)
+                good = good and (status or not command.stdout.read(1))
             if not good or command.returncode != status:
                 print(f"{n * n} edges in 16 MiB, status {command.returncode}: $ gomod graph --proxy .")
                 return False
     return True
 
 
-def is_run_here(case):
-    """Whether a case is run as this user, with files as its words name them."""
-    is_large = REFUSE_MEMORY and (case.is_large() or case.has(*PIPES))
-    is_root = not os.geteuid()
-    return not (case.is_rooted() or is_large or (is_root and any(it.has_mode() for it in case.pieces)))
-
-
-def begin(scratch, *given):
-    """Makes this process one that runs cases, in a folder of its own."""
-    Commands.here = Commands(*given[:2], tempfile.mkdtemp(dir=scratch), *given[2:])
+def begin(world, *given):
+    """Makes this process one that runs cases in a world."""
+    World.here = world(*given)
 
 
 def judge(job):
-    """What is wrong with a case, or None if it isn't run here."""
+    """What is wrong with a case, in lines, and how much was counted, or None if it isn't run in this world."""
     path, *lines = job
-    case, commands = case_of(*lines), Commands.here
-    if not is_run_here(case):
+    case, world = case_of(*lines), World.here
+    if not world.takes(case):
         return None
-    with commands.turn if case.is_hungry() else contextlib.nullcontext():
-        return commands.all_faults(path, case)
+    before = world.count
+    with world.turn if case.is_hungry() else contextlib.nullcontext():
+        return world.all_faults(path, case), world.count - before
 
 
-def judge_all(jobs, given):
-    """What is wrong with each case that is run here. If allocations are refused, each of these runs beside others, and
-    otherwise each case."""
-    if REFUSE_MEMORY:
-        begin(*given)
-        yield from map(judge, jobs)
-    else:
-        with concurrent.futures.ProcessPoolExecutor(AT_ONCE, multiprocessing.get_context("fork"), begin, given) as pool:
-            yield from pool.map(judge, jobs)
-
-
-def run_here(program, is_proved, words):
-    """Runs the cases in this world. Returns how many passed and failed, and of how many runs an allocation was
-    refused."""
-    counts = {True: 0, False: 0}
+def run_in(world, program, is_proved, jobs):
+    """Runs cases in a world, and prints what is wrong. Returns how many passed and failed, and what was counted."""
+    passed = failed = counted = 0
+    context = multiprocessing.get_context("fork")
     with tempfile.TemporaryDirectory(prefix="gomod-program-") as scratch:
-        given = scratch, program, is_proved, multiprocessing.get_context("fork").Lock()
-        for said in judge_all(chosen_cases(words, greatest_sizes), given):
-            if said is not None:
-                counts[not said] += 1
+        os.chmod(scratch, 0o711)
+        copied = shutil.copy(program, os.path.join(scratch, "gomod"))
+        os.chmod(copied, 0o755)
+        given = world, copied, is_proved, scratch, context.Lock()
+        # if allocations are refused, each of these runs beside others
+        with concurrent.futures.ProcessPoolExecutor(1 if REFUSE_MEMORY else AT_ONCE, context, begin, given) as pool:
+            for said, count in filter(None, pool.map(judge, jobs)):
+                passed, failed, counted = passed + (not said), failed + bool(said), counted + count
                 print(*said, sep="\n", end="\n" if said else "")
-        if not words and not REFUSE_MEMORY:
-            counts[reads_each_input(program)] += 1
-            counts[prints_large_graph(program)] += 1
-        return counts[True], counts[False], Commands.here.refusals if REFUSE_MEMORY else 0
+    return passed, failed, counted
 
 
 def main(program, *words):
     """Runs the cases, in this world and in another one, and prints how many passed and failed."""
     options = {it for it in words if it in ("--unproved", "--this", "--other")}
     words = [it for it in words if it not in options]
-    if words and not chosen_cases(words, moderate_sizes):
+    jobs = chosen_cases(words, moderate_sizes)
+    if words and not jobs:
         script.misused(f"it finds no case by '{' '.join(words)}'")
     is_proved, said, wrong = "--unproved" not in options, [], 0
     if "--other" not in options:
-        passed, wrong, refusals = run_here(program, is_proved, words)
+        passed, wrong, refusals = run_in(ThisWorld, program, is_proved, chosen_cases(words, greatest_sizes))
+        others = [] if words or REFUSE_MEMORY else [reads_each_input(program), prints_large_graph(program)]
+        passed, wrong = passed + sum(others), wrong + len(others) - sum(others)
         said.append(f"{passed} passed, {wrong} failed")
         if REFUSE_MEMORY:
             print(f"{said[0]}, {refusals} runs with an allocation refused")
             return 1 if wrong else 0
     if "--this" not in options:
-        passed, failed, seen = other_world.run(program, is_proved, chosen_cases(words, moderate_sizes))
-        if seen is None:
+        passed, failed, seen = run_in(OtherWorld, program, is_proved, jobs)
+        if not seen:
             print("skipped, for want of strace: what each command opens")
-        looked = "; what they open was not looked at" if seen is None else f", {seen} commands open nothing else"
+        looked = f", {seen} commands open nothing else" if seen else "; what they open was not looked at"
         said.append(f"in the other world {passed} passed, {failed} failed{looked}")
         wrong += failed
     print("; ".join(said))

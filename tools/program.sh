@@ -6,7 +6,7 @@
 #   tools/program.sh --unproved ..        the same with a program that tools/unproved.sh made: where a case has the
 #                                         version of a proved one, what it prints has to say that nothing is proved
 #   tools/program.sh --this ..            the same in this world alone
-#   tools/program.sh --other ..           the same in the other one alone (tools/other_world.py)
+#   tools/program.sh --other ..           the same in the other one alone
 #
 # What this adds to the merge gate, which runs the same cases inside a process, is standard error and the whole way from
 # the words to the system. Calls, cases with a file at the root of the system, and those of files without permission for
