@@ -4,8 +4,8 @@
     tools/faults.py                   with two faults for 20 seconds: what .ci/run runs
     tools/faults.py SECONDS [SEED]    for so many seconds, other pairs for another seed (1)
     tools/faults.py --whole [SEED]    before a release: with two faults for 300 seconds, then under limits, with odd
-                                      streams and signals (tools/limits.py), and for 60 seconds over files that others
-                                      change meanwhile (tools/races.py)
+                                      streams and signals, and for 60 seconds over files that others change meanwhile
+                                      (tools/limits.py)
     tools/faults.py --program FILE .. the same with another program
 
 There are two command lines or more of each command, which read each kind of file that it has. What is right follows
@@ -332,8 +332,8 @@ def main(*words):
     numbers = ["300", *words[1:]] if is_whole else words
     seconds, seed = [*numbers, *("20", "1")[len(numbers):]]
     is_wrong = try_faults(program, int(seconds), int(seed))
-    for name, *more in [["limits"], ["races", "60", seed]] if is_whole else []:
-        is_wrong |= subprocess.run([sys.executable, "-B", f"tools/{name}.py", program, *more]).returncode != 0
+    if is_whole:
+        is_wrong |= subprocess.run([sys.executable, "-B", "tools/limits.py", program, "60", seed]).returncode != 0
     return int(is_wrong)
 
 

@@ -1,27 +1,35 @@
-"""Runs command lines of gomod under limits, with odd streams and signals, and says which end is wrong.
+"""Runs command lines of gomod under limits, with odd streams and signals, then over files that others change meanwhile,
+and says which end is wrong. tools/faults.py runs it if --whole is given.
 
-    limits.py PROGRAM
+    limits.py PROGRAM SECONDS SEED
 
 Each standard stream is open, closed, full or open the wrong way, in all mixtures. The stack, memory, files and
 processes are limited, signals are ignored or blocked, and the allocator's variables set. Readers of a pipe go early or
-are slow, and the program is stopped and goes on. What other variables and terminals do tools/other_world.py tries.
+are slow, and the program is stopped and goes on. What other variables and terminals do tools/program.py tries. What is
+right follows from the run without all this: the same result; status 3 where a stream that it needs fails; or `gomod: no
+memory`.
 
-What is right follows from the run without all this: the same result; status 3 where a stream that it needs fails; or
-`gomod: no memory`. tools/faults.py runs it if --whole is given.
+Then for so many seconds two writers change the files of a proxy: in place, by another file in their place, cut off,
+longer, gone, a folder, a link. A run prints what is right of some state of the files, or reports a fault; with a go.sum
+the list that it prints is the only right one. At last 200 run at once.
 """
 
 import contextlib
 import itertools
 import os
+import random
 import resource
 import shutil
 import signal
+import sys
 import tempfile
+import threading
 import time
-from subprocess import PIPE
+from subprocess import DEVNULL, PIPE
 
 import script
-from script import holding
+from go_worlds import hash_of
+from script import holding, write
 
 LIST = b"v1.0.0\nv1.1.0\n"
 LINES = [
@@ -48,6 +56,15 @@ ENVIRONMENTS = [
     {"MALLOC_ARENA_MAX": "1", "MALLOC_PERTURB_": "165"},
     {"MALLOC_CHECK_": "3", "GLIBC_TUNABLES": "glibc.malloc.tcache_count=0:glibc.malloc.perturb=90"},
 ]
+MODULES, AT_ONCE = 12, 200
+WAYS = ["in place", "in place", "renamed", "renamed", "cut", "longer", "gone", "folder", "link"]
+RACES = [
+    "list --proxy P --sum go.sum",
+    "list --proxy P",
+    "graph --proxy P",
+    "chain q.x/m5 --proxy P",
+    "list --proxy P|P --sum go.sum",
+]
 
 
 def limit(**limits):
@@ -69,7 +86,13 @@ def block_signals():
     signal.pthread_sigmask(signal.SIG_BLOCK, signal.valid_signals())
 
 
-class Trial(script.Trial):
+def end_of(child, text=None):
+    """The status, the output and the report of a child, once it has ended."""
+    out, report = script.finish(child, text, LIMIT)
+    return child.returncode, out, report
+
+
+class Limited(script.Trial):
     """The program, its results without limits, and what was found."""
 
     def __init__(self, program):
@@ -79,9 +102,7 @@ class Trial(script.Trial):
 
     def run(self, line, stdin=LIST, **given):
         """The status, the output and the report of a command line."""
-        words = [self.program, *line.split()]
-        done = script.run_within(words, LIMIT, input=stdin, capture_output=True, **given)
-        return done.returncode, done.stdout, done.stderr
+        return end_of(self.start(line, stdin=PIPE, stdout=PIPE, **given), stdin)
 
     def same(self, what, line, **given):
         got = self.run(line, **given)
@@ -162,12 +183,11 @@ class Trial(script.Trial):
 
         status, out, _ = self.plain[line]
         with holding(b"") as file:
-            child = self.start(line, stdin=PIPE, stdout=file, preexec_fn=small)
-            script.finish(child, LIST, LIMIT)
+            came = end_of(self.start(line, stdin=PIPE, stdout=file, preexec_fn=small), LIST)[0]
             file.seek(0)
             text = file.read()
-        right = child.returncode == (3 if out else status) and out.startswith(text) and len(text) <= room
-        self.judge(f"a file of {room} bytes: gomod {line}", (child.returncode, text), right)
+        right = came == (3 if out else status) and out.startswith(text) and len(text) <= room
+        self.judge(f"a file of {room} bytes: gomod {line}", (came, text), right)
 
     def try_pipes(self):
         """Readers of a pipe that go, and one that is slow."""
@@ -182,7 +202,7 @@ class Trial(script.Trial):
                 got = child.stdout.read(take)
                 child.stdout.close()
                 report = child.stderr.read()
-                status = self.end(child)
+                status = end_of(child)[0]
                 child.stderr.close()
             right = status == 3 and not report and wanted.startswith(got)
             self.judge(f"a reader that takes {take} bytes: gomod {READS}", (status, report), right)
@@ -192,7 +212,7 @@ class Trial(script.Trial):
             while piece := os.read(child.stdout.fileno(), 3001):
                 got += piece
                 time.sleep(0.0005)
-            right = self.end(child) == 0 and got == wanted
+            right = end_of(child)[0] == 0 and got == wanted
             self.judge(f"a slow reader: gomod {READS}", len(got), right)
 
     def try_stops(self):
@@ -203,21 +223,15 @@ class Trial(script.Trial):
             child.stdin.write(self.many[:7])
             child.stdin.flush()
             self.stop(child)
-            got, report = script.finish(child, self.many[7:], LIMIT)
-            self.judge(f"stopped: gomod {READS}", (child.returncode, report), (child.returncode, got) == (0, wanted))
+            got = end_of(child, self.many[7:])
+            self.judge(f"stopped: gomod {READS}", got, got == (0, wanted, b""))
             child = self.start(READS, stdin=PIPE, stdout=PIPE)
             child.stdin.write(self.many)
             child.stdin.close()
             child.stdin = None  # what waits for the end would flush it
             self.stop(child)
             got = child.stdout.read()
-            self.judge(f"stopped as it writes: gomod {READS}", len(got), (self.end(child), got) == (0, wanted))
-
-    @staticmethod
-    def end(child):
-        """Its status, once it has ended."""
-        script.finish(child, None, LIMIT)
-        return child.returncode
+            self.judge(f"stopped as it writes: gomod {READS}", len(got), (end_of(child)[0], got) == (0, wanted))
 
     @staticmethod
     def stop(child):
@@ -228,12 +242,157 @@ class Trial(script.Trial):
             time.sleep(0.002)
 
 
-def main(program):
-    """Tries all, and returns the status."""
+def place(number):
+    return f"P/q.x/m{number}/@v/v1.0.0.mod"
+
+
+def ends_of(number, is_other):
+    """What the file of a module requires: two others, or one of its own."""
+    return [f"extra{number}"] if is_other else [f"m{(number + it) % MODULES}" for it in (1, 3)]
+
+
+def text_of(number, is_other):
+    """The file of a module, of more bytes than are read at once."""
+    required = "".join(f"require q.x/{it} v1.0.0\n" for it in ends_of(number, is_other))
+    return f"module q.x/m{number}\n\ngo 1.16\n\n//{'c' * 5000}\n{required}//{'d' * 70_000}\n"
+
+
+# what each module may require in some state of the files: the first ones of either list, since a file may be cut
+MAY_REQUIRE = {
+    f"m{number}": [set(ends[:count]) for ends in (ends_of(number, False), ends_of(number, True)) for count in range(3)]
+    for number in range(MODULES)
+}
+
+
+def vertex(name):
+    return f"q.x/{name}@v1.0.0"
+
+
+def edges_of(required):
+    """The lines of a graph in which modules require these: those of each one that the main module leads to."""
+    reached = ["m0"]
+    for name in reached:
+        reached += sorted(required.get(name, set()).difference(reached))
+    edges = [(vertex(it), vertex(end)) for it in sorted(reached) for end in sorted(required.get(it, ()))]
+    return [" ".join(it) for it in [("m.x/m", vertex("m0")), *edges]]
+
+
+def is_graph(lines):
+    """Whether some state of the files has these lines, in this order."""
+    required = {}
+    for line in lines[1:]:
+        step, _, end = line.replace("q.x/", "").replace("@v1.0.0", "").partition(" ")
+        required.setdefault(step, set()).add(end)
+    return lines == edges_of(required) and all(it in MAY_REQUIRE.get(step, []) for step, it in required.items())
+
+
+def is_chain(lines):
+    """Whether these lines lead from the main module to the last one, by requirements of some state of the files."""
+    leads = {(vertex(it), vertex(end)) for it, states in MAY_REQUIRE.items() for end in set().union(*states)}
+    steps = list(zip(lines[1:], lines[2:]))
+    is_ended = lines[:2] == ["m.x/m", vertex("m0")] and lines[-1] == vertex("m5")
+    return is_ended and leads.issuperset(steps) and len(set(lines)) == len(lines)
+
+
+def replace(name, text, seed):
+    """Puts another file in the place of one at once."""
+    write(f"{name}.{seed}", text)
+    os.replace(f"{name}.{seed}", name)
+
+
+def lay():
+    """Lays the files."""
+    write("go.mod", "module m.x/m\n\ngo 1.16\n\nrequire q.x/m0 v1.0.0\n")
+    sums = ""
+    for number in range(MODULES):
+        text = text_of(number, False)
+        write(place(number), text)
+        write(f"P/q.x/extra{number}/@v/v1.0.0.mod", f"module q.x/extra{number}\n")
+        sums += f"q.x/m{number} v1.0.0/go.mod {hash_of(text)}\n"
+    write("go.sum", sums)
+
+
+def change(chance, seed):
+    """Changes a file in one of the ways."""
+    number, way = chance.randrange(MODULES), chance.choice(WAYS)
+    name = place(number)
+    if way == "in place":
+        write(name, text_of(number, chance.random() < 0.5))
+    elif way == "renamed":
+        replace(name, text_of(number, chance.random() < 0.3), seed)
+    elif way == "cut":
+        os.truncate(name, chance.randrange(80_000))
+    elif way == "longer":
+        with open(name, "a", encoding="utf-8") as file:
+            file.write("// more\n" * 2000)
+    elif way == "link":
+        os.symlink(f"../../m{(number + 1) % MODULES}/@v/v1.0.0.mod", f"{name}.{seed}")
+        os.replace(f"{name}.{seed}", name)
+    else:
+        os.remove(name)
+        if way == "folder":
+            os.mkdir(name)
+            os.rmdir(name)
+    if way not in ("in place", "renamed"):
+        replace(name, text_of(number, False), seed)
+
+
+def keep_changing(seed, ended):
+    """Changes files until the event. Another writer may be in the way."""
+    chance = random.Random(seed)
+    while not ended.is_set():
+        with contextlib.suppress(OSError):
+            change(chance, seed)
+
+
+class Race(script.Trial):
+    """The program, and what was found."""
+
+    def __init__(self, program):
+        super().__init__(program)
+        self.right = end_of(self.start(RACES[0]))
+        if self.right[0] or self.right[1].count(b"\n") != MODULES + 1:
+            sys.exit(f"limits: the list before the race is wrong: {self.right}")
+        paths = [f"q.x/{kind}{it} v1.0.0" for kind in ("m", "extra") for it in range(MODULES)]
+        self.rows = {b"m.x/m", *map(str.encode, paths)}
+
+    def start(self, line):
+        return super().start(line, stdin=DEVNULL, stdout=PIPE)
+
+    def is_right(self, line, got):
+        """Whether a result is one that some state of the files has."""
+        status, out, report = got
+        if status:
+            return status in (1, 3) and not out and report
+        if report:
+            return False
+        if "--sum" in line:
+            return got == self.right
+        if line.startswith("list"):
+            return out.startswith(b"m.x/m\n") and set(out.splitlines()) <= self.rows
+        is_right = is_graph if line.startswith("graph") else is_chain
+        return is_right(out.decode().splitlines())
+
+    def run_for(self, seconds):
+        """Runs the command lines for so long, many side by side."""
+        end = time.monotonic() + seconds
+        while time.monotonic() < end:
+            for line, child in [(it, self.start(it)) for it in RACES * 8]:
+                got = end_of(child)
+                self.judge(f"gomod {line}", got, self.is_right(line, got))
+
+    def run_at_once(self):
+        for child in [self.start(RACES[0]) for _ in range(AT_ONCE)]:
+            got = end_of(child)
+            self.judge(f"{AT_ONCE} at once", got, got == self.right)
+
+
+def try_limits(program):
+    """Runs command lines under limits, and gives whether one was wrong."""
     with tempfile.TemporaryDirectory(prefix="gomod-limits-") as folder:
         shutil.copytree("crates/run_cases/data/example", os.path.join(folder, "main"))
         os.chdir(os.path.join(folder, "main"))
-        trial = Trial(program)
+        trial = Limited(program)
         trial.try_streams()
         trial.try_limits()
         trial.try_pipes()
@@ -241,5 +400,33 @@ def main(program):
         return trial.status("runs under limits")
 
 
+def try_races(program, seconds, seed):
+    """Runs command lines over files that change, and gives whether one was wrong."""
+    ended = threading.Event()
+    writers = [threading.Thread(target=keep_changing, args=(seed + it, ended)) for it in (0, 1)]
+    # a writer may still make a file as the folder goes
+    with tempfile.TemporaryDirectory(prefix="gomod-races-", ignore_cleanup_errors=True) as folder:
+        os.chdir(folder)
+        lay()
+        race = Race(program)
+        try:
+            for it in writers:
+                it.start()
+            race.run_for(seconds)
+        finally:
+            ended.set()
+        for it in writers:
+            it.join()
+        shutil.rmtree("P")
+        lay()
+        race.run_at_once()
+        return race.status("runs in races")
+
+
+def main(program, seconds, seed):
+    """Tries all, and returns the status."""
+    return try_limits(program) | try_races(program, int(seconds), int(seed))
+
+
 if __name__ == "__main__":
-    script.run(main, r" \S+")
+    script.run(main, r" \S+( \d{1,9}){2}")
