@@ -37,16 +37,6 @@ DOCUMENTS = ["README.md", *(f"docs/use/{it}.md" for it in ("COMMANDS", "GO", "ME
 HELP = {"-h", "--help"}
 
 
-class Known:
-    """What --help shows, or a file has: commands, the options of each ("" is gomod itself), and operations."""
-
-    def __init__(self):
-        self.commands, self.options, self.operations = set(), {}, set()
-
-    def add(self, command, options):
-        self.options.setdefault(command, set()).update(options)
-
-
 def help_of(*command):
     """What --help prints of a command."""
     return subprocess.run(["bin/gomod", *command, "--help"], capture_output=True, text=True, check=True).stdout
@@ -58,6 +48,14 @@ def section(text, head):
     return found[1] if found else ""
 
 
+# Of --help and each file there is a set of pairs: a command, or "" for gomod itself, and an option, an operation or,
+# after "", a command.
+
+
+def after(command, words):
+    return {(command, it) for it in words}
+
+
 def from_help():
     """What --help shows."""
 
@@ -65,14 +63,11 @@ def from_help():
         found = re.findall(r"(?m)^ {2,6}(?:(-\w), )?(--[\w-]+)", section(text, "Options"))
         return {it for pair in found for it in pair if it}
 
-    known = Known()
-    known.add("", options_of(help_of()))
-    known.commands.update(re.findall(r"(?m)^  (\w+)", section(help_of(), "Commands")))
+    commands = set(re.findall(r"(?m)^  (\w+)", section(help_of(), "Commands")))
+    known = after("", commands | options_of(help_of()))
     # the command help has no options of its own
-    for command in known.commands - {"help"}:
-        known.add(command, options_of(help_of(command)))
-    known.operations.update(re.findall(r"(?m)^  (\w+=)", help_of("edit").split("Usage:")[0]))
-    return known
+    known = known.union(*(after(it, options_of(help_of(it))) for it in commands - {"help"}))
+    return commands, known | after("edit", re.findall(r"(?m)^  (\w+=)", help_of("edit").split("Usage:")[0]))
 
 
 def flags(line):
@@ -89,16 +84,12 @@ def flags(line):
 def from_man():
     """What the man page has in SYNOPSIS and OPERATIONS, and the names that COMMANDS and OPTIONS list."""
     parts = dict(re.findall(r"(?ms)^\.Sh ([^\n]*)\n(.*?)(?=^\.Sh|\Z)", read(MAN)))
-    known = Known()
+    known = after("edit", re.findall(r"(?m)^\.It Cm (\w+=)", parts["OPERATIONS"]))
     for form in re.split(r"(?m)^\.Nm$", parts["SYNOPSIS"])[1:]:
-        command = re.search(r"(?m)^\.Cm (\w+)", form)
-        name = command[1] if command else ""
-        known.commands.update([name] if name else [])
-        known.add(name, set().union(*map(flags, form.split("\n"))))
+        command = re.search(r"(?m)^\.Cm (\w+)|\Z", form)[1] or ""
+        known |= after("", [command] if command else []) | after(command, set().union(*map(flags, form.split("\n"))))
         # -h and --help stand once, for all commands
-        if name and name != "help":
-            known.add(name, HELP)
-    known.operations.update(re.findall(r"(?m)^\.It Cm (\w+=)", parts["OPERATIONS"]))
+        known |= after(command, HELP if command not in ("", "help") else [])
     items = re.findall(r"(?m)^\.It (Fl .*)", parts["OPTIONS"])
     return known, set(re.findall(r"(?m)^\.It Cm (\w+)", parts["COMMANDS"])), set().union(*map(flags, items))
 
@@ -111,13 +102,9 @@ def from_bash(commands):
         ran = subprocess.run(["bash", "-c", script, "bash", *words], stdout=subprocess.PIPE, text=True, check=True)
         return set(ran.stdout.split())
 
-    known = Known()
-    known.commands = completed("")
-    known.add("", completed("-"))
-    for command in commands | known.commands:
-        known.add(command, completed(command, "-"))
-    known.operations = completed("edit", "go.mod", "")
-    return known
+    offered = completed("")
+    known = after("", offered | completed("-")) | after("edit", completed("edit", "go.mod", ""))
+    return known.union(*(after(it, completed(it, "-")) for it in commands | offered))
 
 
 def from_zsh():
@@ -136,53 +123,39 @@ def from_zsh():
     def array(name):
         return shlex.split(re.search(rf"(?ms)^  {name}=\((.*?)\)$", text)[1])
 
-    known = Known()
-    known.add("", options_of(re.search(r"(?m)^  _arguments -C (.*?)&& return", text)[1]) - {"-C"})
-    known.commands.update(it.split(":")[0] for it in array("commands"))
+    known = after("", options_of(re.search(r"(?m)^  _arguments -C (.*?)&& return", text)[1]) - {"-C"})
+    known |= after("", {it.split(":")[0] for it in array("commands")}) | after("edit", array("operations"))
     branches = text[text.index("case $words[1] in"):]
     for command, body in re.findall(r"(?ms)^    (\w+)\)\n(.*?)^      ;;", branches):
-        known.add(command, options_of(body.strip().removeprefix("_arguments ")))
-    known.operations.update(array("operations"))
+        known |= after(command, options_of(body.strip().removeprefix("_arguments ")))
     return known
 
 
 def from_fish(commands):
     """What the completion for fish has."""
-    known = Known()
+    known = set()
     for line in re.findall(r"(?m)^complete .*", read(FISH).replace("\\\n", "")):
         words = shlex.split(line, comments=True)
         given = [(name, value) for name, value in zip(words, words[1:]) if name in ("-n", "-l", "-s", "-a")]
         condition = dict(given).get("-n", "")
         seen = re.match(r"__fish_seen_subcommand_from ([\w ]+)", condition)
         places = seen[1].split() if seen else [""] if condition else ["", *commands] if given else []
-        options = {"--" + value for name, value in given if name == "-l"}
-        options |= {"-" + value for name, value in given if name == "-s"}
-        for command in places:
-            known.add(command, options)
-        for value in [value for name, value in given if name == "-a"]:
+        options = {{"-l": "--", "-s": "-"}[name] + value for name, value in given if name in ("-l", "-s")}
+        known = known.union(*(after(it, options) for it in places))
+        for words in [value.split() for name, value in given if name == "-a"]:
             if condition == "__fish_use_subcommand":
-                known.commands.update(value.split())
-            elif "edit" in places and "=" in value:
-                known.operations.update(value.split())
+                known |= after("", words)
+            elif "edit" in places and "=" in words[0]:
+                known |= after("edit", words)
     return known
 
 
 def compare(name, what, wanted, has):
     """Prints what a part of a file lacks or has beyond what is wanted, and returns how much that is."""
-    for it in sorted(wanted - has):
-        print(f"{name}: {what}: lacks {it}")
-    for it in sorted(has - wanted):
-        print(f"{name}: {what}: has {it}, which --help does not show")
+    for is_there, it in sorted((it in has, it) for it in wanted ^ has):
+        it = it if isinstance(it, str) else " ".join(it).strip()
+        print(f"{name}: {what}: {f'has {it}, which --help does not show' if is_there else f'lacks {it}'}")
     return len(wanted ^ has)
-
-
-def compare_all(name, wanted, has):
-    """The same for all that a file has."""
-    wrong = compare(name, "commands", wanted.commands, has.commands)
-    for command in sorted({*wanted.options, *has.options}):
-        options = wanted.options.get(command, set()), has.options.get(command, set())
-        wrong += compare(name, f"gomod {command}".strip(), *options)
-    return wrong + compare(name, "operations", wanted.operations, has.operations)
 
 
 def compare_descriptions():
@@ -274,17 +247,16 @@ def run_examples():
 def main():
     """Compares each file, prints what was compared, and returns the status."""
     script.need_gomod()
-    wanted = from_help()
+    commands, wanted = from_help()
     in_synopsis, listed_commands, listed_options = from_man()
-    wrong = compare_all(MAN, wanted, in_synopsis)
-    wrong += compare(MAN, "COMMANDS", wanted.commands, listed_commands)
-    wrong += compare(MAN, "OPTIONS", set().union(*wanted.options.values()), listed_options)
-    wrong += compare_all(BASH, wanted, from_bash(wanted.commands))
-    wrong += compare_all(ZSH, wanted, from_zsh())
-    wrong += compare_all(FISH, wanted, from_fish(wanted.commands)) + compare_descriptions()
-    helps = "".join(help_of(*it.split()) for it in ["", *sorted(wanted.commands - {"help"})])
-    wrong += compare(MAN, "limits", limits(helps), limits(read(MAN))) + compare_statuses() + run_examples()
-    wrong += compare_hints()
+    wrong = compare(MAN, "SYNOPSIS and OPERATIONS", wanted, in_synopsis)
+    wrong += compare(MAN, "COMMANDS", commands, listed_commands)
+    wrong += compare(MAN, "OPTIONS", {it for _, it in wanted if it.startswith("-")}, listed_options)
+    for name, has in ((BASH, from_bash(commands)), (ZSH, from_zsh()), (FISH, from_fish(commands))):
+        wrong += compare(name, "completions", wanted, has)
+    helps = "".join(help_of(*it.split()) for it in ["", *sorted(commands - {"help"})])
+    wrong += compare(MAN, "limits", limits(helps), limits(read(MAN)))
+    wrong += compare_descriptions() + compare_statuses() + run_examples() + compare_hints()
     known = set(re.findall(r"\d{5,}", helps))
     for page in DOCUMENTS:
         wrong += compare(page, "limits", limits_of(page) & known, limits_of(page))
@@ -292,8 +264,7 @@ def main():
     if said != READ:
         wrong += 1
         print(f"{MAN} or --help has changed: read both beside one another, and set READ to {said}")
-    counts = len(wanted.commands), sum(map(len, wanted.options.values())), len(wanted.operations)
-    print("%d commands, %d options and %d operations" % counts, end=", ")
+    print(f"{len(commands)} commands, and {len(wanted) - len(commands)} options and operations of them", end=", ")
     print(f"in the man page and three completions: {wrong} wrong")
     return int(completions.main() or wrong > 0)
 
