@@ -13,8 +13,10 @@ What a document names is a table in docs/dev/DEVELOPING.md ("What a document nam
 below, without bars of tables, fenced code, comments, quotes (`>`), and what scripts write between marks (`<!-- show`).
 README.md has at most 600 words outside examples and tables, and eight sentences of 30 on what is verified; a release
 has 500 in CHANGELOG.md. README.md's figures of speed are those of docs/dev/BENCHMARKS.md, and both name the commit that
-was measured, which changed a source. Types derive no Hash, and Debug if they are errors or docs/lib/LIBRARY.md names
-them.
+was measured, which changed a source. What a script, help or another page has too, as versions and sizes, is compared
+(ALIKE). Other facts have a comment below them, `<!-- read beside OTHERS: CHECKSUM -->`: if the text changes, read it
+beside these again, and write the checksum that is printed. Types derive no Hash, and Debug if they are errors or
+docs/lib/LIBRARY.md names them.
 
 If a sentence on what is proved, or what its law states, isn't the one of its checksum (tools/sentences.py), both are
 printed. Who changes one compares them before --accept. Then come the lines that cases print (tools/messages.py), names
@@ -41,7 +43,7 @@ import names
 import refusals
 import script
 import sentences
-from script import Tally, git, read
+from script import Tally, checksum, git, read
 from sources import code_of, functions, plain, public_items
 
 # names of the toolchain that documents have and no source does, and what a path of names may begin with
@@ -67,6 +69,15 @@ NUMBERS = "zero one two three four five six seven eight nine ten eleven twelve".
 ALIKE = (
     ("docs/use/RECIPES.md", r"curl (\d+\.\d+) or newer", "example/fetch-missing.sh", r"curl \((\d+\.\d+) or newer"),
     ("docs/proof/PROVED.md", r"calls of the system alone: ([\w, ]+?) \|", "tools/opened.py", r"OWN = set\(\"([\w ]+)"),
+    ("README.md", r"in (\d+ to \d+) minutes on four cores", "build", r"from nothing this takes (\d+ to \d+) minutes"),
+    ("README.md", r"(\d+) GB of disk", "build", r"DISK_MB=(\d+)000"),
+    ("README.md", r"(\d+) GB of memory", "build", r"MEMORY_MB=(\d+)000"),
+    ("README.md", r"SIG\w+ \((\d+)", "docs/use/RECIPES.md", r"SIG\w+, (\d+)"),
+    ("docs/use/RECIPES.md", r"SIGXFSZ, (\d+)", "docs/use/RECIPES.md", r"\(ulimit -f 0 .*\n    (\d+)"),
+    ("docs/use/COMMANDS.md", r"3 too if `head -1` leaves an output over (\d+,\d+) bytes",
+     "crates/gomod_run/src/reports/buffer.rt", r"pieces\.now\)\) ≤ (\d+) }"),
+    ("docs/use/COMMANDS.md", r"[Aa]fter `(.)` (?:the next folder is searched if a file is absent;|also if)",
+     "crates/gomod_words/src/help.rt", r"after '(.)' (?:the next one is searched\nif a file is|also.* fails\.)"),
 )
 MISTAKES, FIGURES = "crates/run_cases/MISTAKES.md", "docs/dev/BENCHMARKS.md"
 LIBRARY, PROVED = "docs/lib/LIBRARY.md", pathlib.Path("docs/proof/PROVED.md")
@@ -381,7 +392,17 @@ def keep_alike(tally):
     """Whether documents have the versions and names that another file has."""
     for page, form, other, its_form in ALIKE:
         here, there = (" ".join(re.findall(it, read(file))) for it, file in ((form, page), (its_form, other)))
-        tally.tell("figures", here and here.replace(",", "") == there, f"{page}: '{here}', where {other} has '{there}'")
+        is_right = here and here.replace(",", "") == there.replace(",", "")
+        tally.tell("figures", is_right, f"{page}: '{here}', where {other} has '{there}'")
+
+
+def keep_pins(tally):
+    """Whether each text that was read beside others, `<!-- read beside OTHERS: CHECKSUM -->`, is as it was then."""
+    for page in ["README.md", *glob.glob("docs/**/*.md", recursive=True)]:
+        for text, others, then in re.findall(r"(?m)((?:^.+\n)+)^<!-- read beside (.+): (\w+) -->$", read(page)):
+            now = checksum(text)
+            tally.tell("texts read beside others", now == then, f"{page}: read this beside {others}, and write {now} "
+                       f"below it: {text[:100]}")
 
 
 def keep_figures(tally):
@@ -444,8 +465,8 @@ def main(*words):
     documents = ["README.md", *glob.glob("docs/**/*.md", recursive=True), *glob.glob("crates/*/PROOFS.md"), MISTAKES]
     for name in words or sorted(documents):
         Document(name, sources).keep(tally)
-    for keep in () if words else (sentences.keep, keep_budgets, keep_figures, keep_alike, keep_derives, messages.keep,
-                                  names.keep, bodies.keep, refusals.keep):
+    for keep in () if words else (sentences.keep, keep_budgets, keep_figures, keep_alike, keep_pins, keep_derives,
+                                  messages.keep, names.keep, bodies.keep, refusals.keep):
         keep(tally)
     return tally.status()
 

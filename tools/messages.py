@@ -15,6 +15,7 @@ from script import checksum, read
 
 PAGE, MAN = "docs/use/MESSAGES.md", "share/man/gomod.1"
 HELP = "crates/run_cases/data/words.txt"  # cases that print it
+KINDS = "crates/gm_file/src/fault.rt"  # which fault of a directive is reported first
 # what stands for a part of a line
 PARTS = {"LINE": r"(?:\d+|\{N\+1\}|LINE)", "N": r"(?:\d+|\{N\+1\}|N)", "KIND": r"\w+(?: LINE KIND)?",
          "PATH": "[^@ :]+", "VERSION": "[^@ :]+", "FOLDER": "[./F].*", "bad path PATH": "bad path .*"}
@@ -98,6 +99,10 @@ def keep(tally):
         tell(it in printed, f"{PAGE}: no case prints '{it}'")
     ruled_out = set(re.findall(r"`(\w+)`", page.partition(", but never ")[2].partition(".")[0]))
     tell(ruled_out == {*dict(kinds)} - malformed, f"{PAGE}: `Malformed` rules out other KINDs than no case prints so")
+    order = re.findall(r"(?m)^- `(\w+)`:", page.partition("\n### The directives\n")[2].partition("\n### ")[0])
+    variants = re.search(r"(?ms)^pub enum DirectiveKind {(.*?)^}", read(KINDS))[1]
+    tell(order == [it for it in re.findall(r"(?m)^    (\w+),$", variants) if it not in whole],
+         f"{PAGE}: the directives' KINDs aren't in the order of {KINDS}, in which the first is reported")
     for form, _, status in table.forms:
         tell(is_known(form, status), f"{PAGE}: '{form}' is of line 0, or isn't")
     for kind, _ in kinds:

@@ -1,7 +1,7 @@
 """Keeps sentences of README.md and docs/proof/PROVED.md bound to the laws that state them, for tools/documents.py.
 
-Beside a sentence that names a law, in PROVED.md's "What you can rely on", stands a comment: the laws' names, a checksum
-of the sentence and one of what the laws state. For README.md's "What is verified" tools/readme_sentences.txt has the
+Beside a sentence that names a law, in PROVED.md's "What you can rely on", and beside those of its "The main promise",
+stands a comment: the laws' names, a checksum of the sentence and one of what the laws state. For README.md's "What is verified" tools/readme_sentences.txt has the
 same, a line for each sentence. A law states the clauses of its function, and all definitions in specs/ of any crate
 that these reach (tools/sources.py), each with its file. Comments of sources and blanks don't count. If a definition
 isn't as it was when the checksums were written, which git tells, the check names it.
@@ -16,7 +16,7 @@ from script import checksum, git, read, write
 from sources import definitions_in, files, items_of, reached_from, used_in_clauses
 
 README, PROVED = "README.md", "docs/proof/PROVED.md"
-SECTIONS = {README: "What is verified", PROVED: "What you can rely on"}
+SECTIONS = {README: ["What is verified"], PROVED: ["The main promise", "What you can rely on"]}
 ASIDE = "tools/readme_sentences.txt"  # the checksums of README.md
 BOUND = re.compile(r"(?:\s*<!-- bound to )?([\w:, ]+): (\w*) (\w*)(?: -->)?")
 FIRST = ["gomod_laws", "gomod_run"]  # if crates have laws of one name, a name alone is that of the first of these
@@ -108,11 +108,11 @@ def lines_of(file):
 def sentences():
     """The sentences that are or should be bound."""
     asides = iter(enumerate(lines_of(ASIDE)))
-    for file, section in SECTIONS.items():
+    for file, sections in SECTIONS.items():
         lines, is_inside = lines_of(file), False
         for number, line in enumerate(lines, 1):
             if line.startswith("## "):
-                is_inside = line == f"## {section}"
+                is_inside = line[3:] in sections
             elif is_inside and re.match(r"\s*- ", line):
                 text = line.split("- ", 1)[1]
                 here = file, number, "".join(lines[number:][:1])
