@@ -15,7 +15,7 @@ error that Linux has. Each read and write moves fewer bytes than it may, down to
 can't be read has to be the one that is reported, with status 3; one that isn't found is missing; a failed write leaves
 what was written before, with status 3; a close that fails changes nothing, and neither does a short read or write. With
 two faults, allocations among them, the result is one that one of them has, or a beginning of it. tools/refuse-memory.sh
-refuses each allocation.
+refuses each allocation. Without a fault no stream takes more writes than its bytes need: one for each row is too many.
 
 It prints each fault after which a result is wrong, as a value of FAULTS (tools/faults.c), and how many runs there were.
 The status is 1 if one was wrong, or if the library sees no call of a command line. It needs a C compiler (`cc`, or what
@@ -90,6 +90,8 @@ FOLDERS = {"E": "example", "D": "crates/run_cases/data/example", "V": "crates/ru
 REPLACED = {"./local": "example.com/local@v0.0.0", "example.com/fork@v1.1.0": "example.com/c@v1.9.0"}
 REPLACED |= {f"./{number}": f"{it}@v1.0.0" for number, it in enumerate(LONG)}
 NO_MEMORY = b"", b"gomod: no memory\n", 3
+# how many bytes of lines wait to be written: two writes in a row have more (crates/gomod_run/src/reports/buffer.rt)
+WAITING = 16_384
 # how many seconds a run has
 LIMIT = 60
 
@@ -135,6 +137,13 @@ class Line:
             if call == "open" and int(result) >= 0:
                 files[result] = argument
             self.calls.append(Call(call, argument if call == "open" else files.get(argument, argument), int(result)))
+
+    def judge_writes(self):
+        """Tells if a stream took more writes than it needs, or one of no bytes."""
+        for stream, text in zip("12", self.plain):
+            sizes = [it.result for it in self.of_kind("write") if it.file == stream]
+            if 0 in sizes or len(sizes) > 1 + 2 * len(text) // WAITING:
+                self.trial.judge(f"gomod {self.text}: {len(sizes)} writes of {len(text)} bytes", sizes, False)
 
     def value_of(self, option):
         return self.words[self.words.index(option) + 1] if option in self.words else ""
@@ -318,6 +327,8 @@ def try_faults(program, seconds, seed):
             write(os.path.join(folder, "L", str(number), "go.mod"), f"module {it}\n{required[number + 1]}")
         trial = Trial(program, compiled(folder), folder)
         lines = [Line(trial, *it) for it in LINES]
+        for it in lines:
+            it.judge_writes()
         trial.try_each(lines)
         single = trial.runs
         trial.try_pairs(lines, seconds, seed)
