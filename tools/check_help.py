@@ -7,7 +7,7 @@ command, each operation of edit, and nothing else.
 Of share/man/gomod.1 it reads the forms of SYNOPSIS and the lists of COMMANDS, OPTIONS and OPERATIONS. The limits are
 those of all help, as are those of README.md and other documents, and what help says of a status the man page says of it
 too. Its EXAMPLES run in a scratch folder: they print what README.md shows, and leave an edited go.mod. What else the
-man page and all help say was read side by side, and has a checksum here. It calls the completion for bash, and reads
+man page, docs/use/COMMANDS.md and all help say was read side by side, and has a checksum here. It calls the completion for bash, and reads
 those for zsh and fish, so neither of them has to be installed. Then it completes lines in bash, and in zsh and fish
 where they are installed (tools/completions.py): folders, also after a comma, go's cache, and the paths of a go.mod,
 also after an operation's `=`.
@@ -28,9 +28,9 @@ import completions
 import script
 from script import checksum, read
 
-MAN, HINTS = "share/man/gomod.1", "crates/gomod_words/src/hints.rt"
-# what the man page and all help say, when they were last read beside one another: who changes one reads them again
-READ = "inhvthup"
+MAN, HINTS, MANUAL = "share/man/gomod.1", "crates/gomod_words/src/hints.rt", "docs/use/COMMANDS.md"
+# what these and all help say, when they were last read beside one another: who changes one reads them again
+READ = "ovqsmptl"
 BASH, ZSH, FISH = (f"share/completions/{it}" for it in ("gomod.bash", "_gomod", "gomod.fish"))
 # the documents whose limits are those of help
 DOCUMENTS = ["README.md", *(f"docs/use/{it}.md" for it in ("COMMANDS", "GO", "MESSAGES")), "docs/proof/PROVED.md"]
@@ -227,6 +227,11 @@ def compare_statuses():
     return compare(MAN, "EXIT STATUS", parts, {it for it in parts if it[3:] in has.get(it[0], "")})
 
 
+def prose(page):
+    """A document without its examples, and without what scripts write."""
+    return re.sub(r"(?ms)^<!-- show.*?^<!-- end -->$|^    [^\n]*$", "", read(page))
+
+
 def run_examples():
     """Runs the examples of the man page in a folder with a module, and returns how many are wrong."""
     wrong, readme, path = 0, read("README.md"), os.path.abspath("bin")
@@ -260,10 +265,10 @@ def main():
     known = set(re.findall(r"\d{5,}", helps))
     for page in DOCUMENTS:
         wrong += compare(page, "limits", limits_of(page) & known, limits_of(page))
-    said = checksum(read(MAN) + helps)
+    said = checksum(read(MAN) + helps + prose(MANUAL))
     if said != READ:
         wrong += 1
-        print(f"{MAN} or --help has changed: read both beside one another, and set READ to {said}")
+        print(f"{MAN}, {MANUAL} or --help has changed: read them beside one another, and set READ to {said}")
     print(f"{len(commands)} commands, and {len(wanted) - len(commands)} options and operations of them", end=", ")
     print(f"in the man page and three completions: {wrong} wrong")
     return int(completions.main() or wrong > 0)

@@ -4,7 +4,8 @@ Its first table has each line that gomod writes to standard error, once, with it
 a go.mod. What a case prints is in the table and in the command's help, and each line of the table and each KIND is
 printed by a case. Each line of help and of the man page is in the table, and the man page's stand for all of them. A
 KIND of line 0 has no other line, and the KINDs that its bullet on `Malformed` rules out are those that no case prints
-so. A checksum tells if a condition changes in one of the three.
+so. The KINDs of directives are in the order in which the first is reported. A checksum tells if a row or a bullet changes
+in one of the three.
 """
 
 import collections
@@ -121,6 +122,6 @@ def keep(tally):
     for name, lines in [(PAGE, table), (MAN, told), *((f"help of {it}", helps[it]) for it in helps)]:
         tell(not lines.repeated(), f"{name}: {', '.join(lines.repeated())} stands there twice")
     tell(len(kinds) == len(dict(kinds)), f"{PAGE}: a KIND stands there twice")
-    stamp = checksum("".join(re.findall(r"(?m)^\| .*\n", page)) + help_text + section)
-    tell(f"beside one another: {stamp}\n" in page, f"{PAGE}: its tables, help's errors or the man page's diagnostics "
+    stamp = checksum("".join(re.findall(r"(?m)^(?:\||-) .*\n", page)) + help_text + section)
+    tell(f"beside one another: {stamp}\n" in page, f"{PAGE}: its rows, help's errors or the man page's diagnostics "
          f"changed: read them beside one another, and write {stamp}")
