@@ -7,10 +7,10 @@ command, each operation of edit, and nothing else.
 Of share/man/gomod.1 it reads the forms of SYNOPSIS and the lists of COMMANDS, OPTIONS and OPERATIONS. The limits are
 those of all help, as are those of README.md and other documents, and what help says of a status the man page says of it
 too. Its EXAMPLES run in a scratch folder: they print what README.md shows, and leave an edited go.mod. What else the
-man page, docs/use/COMMANDS.md and all help say was read side by side, and has a checksum here. It calls the completion for bash, and reads
-those for zsh and fish, so neither of them has to be installed. Then it completes lines in bash, and in zsh and fish
-where they are installed (tools/completions.py): folders, also after a comma, go's cache, and the paths of a go.mod,
-also after an operation's `=`.
+man page, docs/use/COMMANDS.md and all help say was read side by side, and has a checksum here. It calls the completion
+for bash, and reads those for zsh and fish, so neither of them has to be installed. Then it completes lines in bash, and
+in zsh and fish where they are installed (tools/completions.py): folders, also after a comma, go's cache, and the paths
+of a go.mod, also after an operation's `=`.
 
 It needs bin/gomod (./build makes it), bash and python3. It prints each difference, what was compared, and what was
 skipped for want of which shell. The status is 1 if there is a difference.
