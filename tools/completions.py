@@ -23,7 +23,7 @@ TOP = os.path.dirname(os.path.dirname(os.path.abspath(__file__)))
 SECONDS = 300
 GO_MOD = f"""module example.com/hello
 
-// {"a long comment " * 7_000}
+// {"a long comment " * 60_000}
 
 go 1.21
 
@@ -41,6 +41,7 @@ require(
 \texample.com/three v1.0.0
 \t`example.com/grave` v1.0.0
 \tgithub.com/Azure/five v1.0.0
+\tLocal/~user/six v1.0.0
 )
 
 replace example.com/replaced => ./first
@@ -82,9 +83,18 @@ gomod chain --proxy=../first rs|gomod chain --proxy=../first rsc.io/quote|bash f
 gomod list --proxy ../first,$HOME/go/pkg/mo|gomod list --proxy ../first,HOME/go/pkg/mod|bash
 gomod chain example.com/g|gomod chain example.com/grave
 gomod chain github.com/A|gomod chain github.com/Azure/five
+gomod chain Lo|gomod chain Local/~user/six|bash fish
+gomod chain Lo|gomod chain Local/\\~user/six|zsh
+gomod chain rsc.io/quote example.com/o|gomod chain rsc.io/quote example.com/o|bash zsh
+gomod fmt main.mod ma|gomod fmt main.mod ma|bash zsh
 gomod fmt ma|gomod fmt main.mod
 gomod edit ma|gomod edit main.mod
 gomod help ver|gomod help versions
+gomod help li|gomod help list
+gomod help gr|gomod help graph
+gomod help ch|gomod help chain
+gomod help fm|gomod help fmt
+gomod help ed|gomod help edit
 """
 # Beside the good path a.b/c, and as the only folder: no file `ran` may appear.
 HOSTILE = ("$(id>ran)", "`id>ran`", "a;id>ran;", "a|id>ran", "a&id>ran", "<(id>ran)", "~root", "${HOME}", "*", "!!",
@@ -204,8 +214,11 @@ def differences(name, shell, room):
         for typed, wanted in pairs_of(name):
             typed, wanted = (re.sub(r"(?<!\$)HOME", f"{room}/home", it) for it in (typed, wanted))
             came = "".join(shell.completed(typed))
-            # what follows a completed word, a slash, a quote or a blank, is the shell's affair
-            if came.rstrip(" /'\"") != wanted:
+            # what follows a completed word, a slash, a quote or a blank, is the shell's affair, but none may stand
+            # before what follows an operation's path or `=`, of which fish knows the latter
+            last = wanted.split()[-1]
+            is_open = last.endswith("=") if name == "fish" else "=" in last
+            if came.rstrip(" /'\"") != wanted or is_open and came.endswith(" "):
                 yield typed, came, wanted
         for variable, value, cache in MOVED:
             shell.completed(f"export {variable}={value.format(room)}; gomod", "\r")
