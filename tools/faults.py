@@ -60,7 +60,7 @@ LARGE = "".join(f"require{60 * ' '}local/{it:020} v1.0.0\n" for it in range(5000
 # Two command lines or more of each command, each with its standard input, and some with more errors for the first call
 # on each kind of file. Together those of a command read each kind of file that it has: by name and from standard input,
 # of a proxy and a folder, with and without sums. E is example/, D and V are of the cases. What is printed of L and
-# reported of M takes three writes or more: their paths are long.
+# reported of M takes three writes or more: their paths are long. What is printed of W has 3,000 lines.
 LONG = ["local" + 600 * "/long-name" + f"/{it}" for it in range(6)]
 LINES = [
     ("fmt E/hand-written.mod", b"", EVERY),
@@ -76,6 +76,8 @@ LINES = [
     ("list --mod M/go.mod --proxy M", b""),
     ("graph --mod L/go.mod --proxy L", b""),
     ("list --mod L/go.mod --proxy L", b""),
+    ("list --mod W/go.mod --proxy W", b""),
+    ("graph --mod W/go.mod --proxy W", b""),
     (f"chain {LONG[-1]} --mod L/go.mod --proxy L", b""),
     ("chain rsc.io/sampler --mod E/go.mod --proxy E/none,E/cache/download --sum E/go.sum", b"", EVERY),
     ("chain example.com/Upper --mod D/go.mod --proxy D/proxy", b""),
@@ -325,6 +327,9 @@ def try_faults(program, seconds, seed):
         write(os.path.join(folder, "L", "go.mod"), f"module m\n{required[0]}{replaced}")
         for number, it in enumerate(LONG):
             write(os.path.join(folder, "L", str(number), "go.mod"), f"module {it}\n{required[number + 1]}")
+        wide = "".join(f"require example.com/{it} v1.0.0\n" for it in range(3000))
+        write(os.path.join(folder, "W", "go.mod"), "module m\ngo 1.17\nrequire local v1.0.0\nreplace local => ./x\n")
+        write(os.path.join(folder, "W", "x", "go.mod"), f"module local\ngo 1.17\n{wide}")
         trial = Trial(program, compiled(folder), folder)
         lines = [Line(trial, *it) for it in LINES]
         for it in lines:
