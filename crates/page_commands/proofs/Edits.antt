@@ -56,24 +56,24 @@ requirements_are_set = all_so IsTold Holds told_so require_worlds (refl, (refl, 
 
 pub directives_are_dropped : DirectivesAreDropped
 unfolding on_literals
-directives_are_dropped = all_so IsTold Holds told_so drop_worlds (refl, (refl, (refl, (refl, (refl, (refl, (refl, (refl, (refl, (refl, (refl, (refl, (refl, (refl, (refl, (refl, tt))))))))))))))))
+directives_are_dropped = all_so IsTold Holds told_so drop_worlds (refl, (refl, (refl, (refl, (refl, (refl, (refl, (refl, (refl, (refl, (refl, (refl, (refl, (refl, (refl, (refl, (refl, tt)))))))))))))))))
 
 pub replaces_are_set : ReplacesAreSet
 unfolding on_literals
-replaces_are_set = all_so IsTold Holds told_so replace_worlds (refl, (refl, (refl, (refl, (refl, (refl, (refl, (refl, tt))))))))
+replaces_are_set = all_so IsTold Holds told_so replace_worlds (refl, (refl, (refl, (refl, (refl, (refl, (refl, (refl, (refl, (refl, (refl, (refl, (refl, tt)))))))))))))
 
 pub others_are_set : OthersAreSet
 unfolding on_literals
-others_are_set = all_so IsTold Holds told_so other_worlds (refl, (refl, (refl, (refl, (refl, (refl, (refl, (refl, (refl, (refl, (refl, tt)))))))))))
+others_are_set = all_so IsTold Holds told_so other_worlds (refl, (refl, (refl, (refl, (refl, (refl, (refl, (refl, (refl, (refl, (refl, (refl, (refl, tt)))))))))))))
 
 pub operations_are_refused : OperationsAreRefused
 unfolding on_literals
-operations_are_refused = all_so IsTold Holds told_so refused_worlds (refl, (refl, (refl, (refl, (refl, (refl, (refl, (refl, (refl, (refl, (refl, (refl, (refl, (refl, (refl, (refl, (refl, (refl, tt))))))))))))))))))
+operations_are_refused = all_so IsTold Holds told_so refused_worlds (refl, (refl, (refl, (refl, (refl, (refl, (refl, (refl, (refl, (refl, (refl, (refl, (refl, (refl, (refl, (refl, (refl, (refl, (refl, (refl, (refl, (refl, (refl, (refl, (refl, (refl, tt))))))))))))))))))))))))))
 
 pub directives_are_reported : DirectivesAreReported
 unfolding on_literals
-directives_are_reported = all_so IsTold Holds told_so fault_worlds (refl, (refl, (refl, (refl, (refl, (refl, (refl, (refl, (refl, (refl, (refl, (refl, (refl, (refl, (refl, (refl, tt))))))))))))))))
+directives_are_reported = all_so IsTold Holds told_so fault_worlds (refl, (refl, (refl, (refl, (refl, (refl, (refl, (refl, (refl, (refl, (refl, (refl, (refl, (refl, (refl, (refl, (refl, (refl, (refl, tt)))))))))))))))))))
 
 pub replaces_are_reported : ReplacesAreReported
 unfolding on_literals
-replaces_are_reported = all_so IsTold Holds told_so replace_fault_worlds (refl, (refl, (refl, (refl, (refl, (refl, (refl, (refl, (refl, (refl, (refl, (refl, (refl, (refl, (refl, (refl, tt))))))))))))))))
+replaces_are_reported = all_so IsTold Holds told_so replace_fault_worlds (refl, (refl, (refl, (refl, (refl, (refl, (refl, (refl, (refl, (refl, (refl, (refl, (refl, (refl, (refl, (refl, (refl, (refl, (refl, (refl, (refl, (refl, (refl, (refl, (refl, (refl, (refl, (refl, (refl, (refl, (refl, (refl, (refl, tt)))))))))))))))))))))))))))))))))

@@ -1,5 +1,5 @@
 -- What a go.sum says, computed, and that it does.
-use Rattle.std.proofs.Common.{◌≡◌, ◌∙◌, ◌++◌, ◌&&◌, ℕ, Bool, true, false, List, [], ◌∷◌, Contains, ap, codes, inl, inr, lit<, map, nat_eq, refl, subst, sym}
+use Rattle.std.proofs.Common.{◌≡◌, ◌∙◌, ◌++◌, ◌&&◌, ℕ, Bool, true, false, List, [], ◌∷◌, Contains, ap, arith, codes, inl, inr, lit<, map, nat_eq, refl, subst, sym}
 use Rattle.std.specs.Prelude.{if◌then◌else◌}
 use Rattle.std.specs.Cmp.Lexicographic.{pointwise}
 use Rattle.std.specs.List.{starts_with}
@@ -145,8 +145,9 @@ pub sums_are_read : SumsAreRead
 unfolding on_literals
 sums_are_read = record {
   hashes = all_so IsTold Holds told_so hash_worlds (refl, (refl, (refl, (refl, (refl, (refl, (refl, (refl, (refl, (refl, (refl, (refl, (refl, (refl, (refl, (refl, (refl, (refl, (refl, (refl, (refl, (refl, tt))))))))))))))))))))));
-  invalid = ((lit< tt, refl), ((lit< tt, refl), ((lit< tt, refl), ((lit< tt, refl), tt))));
+  invalid = ((lit< tt, refl), ((lit< tt, refl), ((lit< tt, refl), ((lit< tt, refl), ((lit< tt, refl), ((lit< tt, refl), tt))))));
   valid = (leb-true _ _ refl, (leb-true _ _ refl, (leb-true _ _ refl, tt)));
+  none_invalid = λ is. omega (arith, is.0);
   classes = refl;
   none = refl;
   other = refl;

@@ -3,6 +3,7 @@ use Rattle.std.proofs.Common.{◌≡◌, ℕ, List, [], ◌∷◌, ap, arith, co
 use Rattle.std.specs.Prelude.{slice_index}
 use Rattle.page_commands.specs.Path.{IsPath, IsUnderGopkg}
 use Rattle.page_commands.specs.Types.Major.{Dot, NoSuffix, Slash}
+use Rattle.page_commands.specs.Worlds.Parts.{PartsAreTold}
 use Rattle.page_commands.specs.Worlds.Texts.{HashesAreTold, NamesAreTold, PathsAreTold, VersionsAreTold}
 use Rattle.page_commands.proofs.Listable.{not_gopkg, not_slash}
 use Rattle.page_commands.proofs.OnLiterals.{on_literals}
@@ -59,3 +60,25 @@ names_are_told = record { escaped = refl; files = refl }
 pub hashes_are_told : HashesAreTold
 unfolding on_literals
 hashes_are_told = refl
+
+pub parts_are_told : PartsAreTold
+unfolding on_literals
+parts_are_told = record {
+  blank = refl;
+  bracket = refl;
+  quote = refl;
+  bad = refl;
+  ends = refl;
+  bare = refl;
+  marks = refl;
+  place = refl;
+  ranks = refl;
+  first = refl;
+  said = refl;
+  nothing = refl;
+  sums = refl;
+  good = refl;
+  other = refl;
+  unlisted = refl;
+  folder = refl;
+}

@@ -1,5 +1,5 @@
 -- How `versions` ends, computed, and that it does.
-use Rattle.std.proofs.Common.{◌≡◌, ◌∙◌, ◌&&◌, ◌||◌, ℕ, Bool, true, false, List, [], ◌∷◌, codes, Option, Some, None, Result, Ok, Err, Contains, ap, inl, inr, map, nat_eq, not, refl, subst, sym}
+use Rattle.std.proofs.Common.{◌≡◌, ◌∙◌, ◌&&◌, ◌||◌, ℕ, Bool, true, false, List, [], ◌∷◌, codes, Option, Some, None, Result, Ok, Err, Contains, ap, inl, inr, lit<, map, nat_eq, not, refl, subst, sym}
 use Rattle.std.specs.Prelude.{if◌then◌else◌, filter}
 use Rattle.std.specs.Cmp.Lexicographic.{pointwise}
 use Rattle.std.specs.List.Sorted.{IsStrictlySortedBy}
@@ -24,9 +24,9 @@ use Rattle.page_commands.specs.Types.Class.{Class, Malformed, Missing, TooLong}
 use Rattle.page_commands.specs.Types.Misreading as misreading
 use Rattle.page_commands.specs.Types.SyntaxFault.{NoMemory, NotUtf8, Syntax, SyntaxFault, TooMany}
 use Rattle.page_commands.specs.Version.{version_cmp}
-use Rattle.page_commands.specs.Versions.{HasListed, IsLatestListed, VersionsEnds, all_listed, bad_file, device, list_refusal, no_list, not_retracted, printed, versions_line}
+use Rattle.page_commands.specs.Versions.{HasListed, IsLatestListed, VersionsEnds, VersionsNeed, all_listed, bad_file, device, list_refusal, no_list, not_retracted, printed, versions_line}
 use Rattle.page_commands.specs.Words.{Word}
-use Rattle.page_commands.specs.Worlds.Versions.{DeviceIsReported, Holds, LatestFilesAreRead, ListsAreRead, RetractedAreLeftOut, World, file_worlds, list_worlds, m, shown_worlds}
+use Rattle.page_commands.specs.Worlds.Versions.{DeviceIsReported, HasNone, Holds, LatestFilesAreRead, ListsAreRead, RetractedAreLeftOut, World, file_worlds, list_worlds, listing, m, shown_worlds}
 use Rattle.page_commands.proofs.Listable.{is_listable, is_spelled, listable_back, listable_so}
 use Rattle.page_commands.proofs.Members.{ascends, below_all, every, every_one, some, some_one, sorted, text_same}
 use Rattle.page_commands.proofs.OnLiterals.{on_literals}
@@ -256,7 +256,7 @@ told_so w is = by_answer w.answers w.ends w.all (answer_in w.answers (list_file 
 
 pub lists_are_read : ListsAreRead
 unfolding on_literals
-lists_are_read = all_so IsTold Holds told_so list_worlds (refl, (refl, (refl, (refl, (refl, (refl, (refl, (refl, (refl, (refl, (refl, (refl, tt))))))))))))
+lists_are_read = all_so IsTold Holds told_so list_worlds (refl, (refl, (refl, (refl, (refl, (refl, (refl, (refl, (refl, (refl, (refl, (refl, (refl, tt)))))))))))))
 
 pub retracted_are_left_out : RetractedAreLeftOut
 unfolding on_literals
@@ -265,6 +265,52 @@ retracted_are_left_out = all_so IsTold Holds told_so shown_worlds (refl, (refl, 
 pub latest_files_are_read : LatestFilesAreRead
 unfolding on_literals
 latest_files_are_read = all_so IsTold Holds told_so file_worlds (refl, (refl, (refl, (refl, (refl, (refl, (refl, (refl, (refl, (refl, (refl, tt)))))))))))
+
+-- ---- no outcome, and no latest version
+
+same_one : (a b : Name) → a ∷ [] ≡ b ∷ [] → a ≡ b
+same_one a b e = cc e
+
+no_cons : (a : Name) → a ∷ [] ≡ [] → ⊥
+no_cons a e = cc e
+
+module _ (answers : List (Name × Reply)) (name : Name) (may : VersionsNeed m false (answer_in answers) name → answer_in answers name ≡ None → ⊥) where
+  none_fails : HasNone answers name
+  none_fails outcome (device other needs unasked failed is) =
+      let same : other ≡ name = sym (same_one name other failed) in
+      may (subst (VersionsNeed m false (answer_in answers)) same needs) (subst (λ (n : Name). answer_in answers n ≡ None) same unasked)
+  none_fails outcome (no_list refused unfailed) = no_cons name unfailed
+  none_fails outcome (bad_file versions latest reply class says unfailed is) = no_cons name unfailed
+  none_fails outcome (printed shown are unfailed is) = no_cons name unfailed
+
+some_answer : (reply : Reply) → Some reply ≡ None → ⊥
+some_answer reply e = cc e
+
+abbrev one_listed : List (Name × Reply)
+one_listed = listing (codes "v1.0.0\n") ∷ []
+
+none_answered : HasNone one_listed (list_file m)
+none_answered = none_fails one_listed (list_file m) (λ needs unasked. some_answer (bytes (codes "v1.0.0\n")) unasked)
+
+none_refused : HasNone ((list_file m, absent) ∷ []) (list_file m)
+none_refused = none_fails ((list_file m, absent) ∷ []) (list_file m) (λ needs unasked. some_answer absent unasked)
+
+no_need : VersionsNeed m false (answer_in []) (mod_file m (codes "v1.0.0")) → answer_in [] (mod_file m (codes "v1.0.0")) ≡ None → ⊥
+no_need (inl is) unasked = (let wrong : mod_file m (codes "v1.0.0") ≡ list_file m = is.1 in cc wrong)
+no_need (inr (versions, latest, is, chosen)) unasked = some_answer (bytes chosen.listed.list) (sym chosen.listed.answered)
+
+none_needed : HasNone [] (mod_file m (codes "v1.0.0"))
+none_needed = none_fails [] (mod_file m (codes "v1.0.0")) no_need
+
+not_lesser : IsLatest (codes "v1.0.0" ∷ codes "v1.1.0" ∷ []) (codes "v1.0.0") → ⊥
+unfolding on_literals
+not_lesser (inl is) = false≢true (sym (is.greatest (codes "v1.1.0") (1, lit< tt, refl) refl))
+not_lesser (inr (none, is)) = false≢true (sym (none (codes "v1.0.0") (0, lit< tt, refl)))
+
+not_pre : IsLatest (codes "v1.1.0" ∷ codes "v1.2.0-rc.1" ∷ []) (codes "v1.2.0-rc.1") → ⊥
+unfolding on_literals
+not_pre (inl is) = false≢true is.counted
+not_pre (inr (none, is)) = false≢true (sym (none (codes "v1.1.0") (0, lit< tt, refl)))
 
 abbrev three_listed : List ℕ
 three_listed = codes "v1.0.0\nv1.1.0\nv1.2.0-rc.1\n"
@@ -284,4 +330,10 @@ device_is_reported = record {
     },
   )) refl refl refl;
   local = no_list refl refl;
+  unlisted = λ versions has. false≢true has.fetchable;
+  answered = none_answered;
+  refused = none_refused;
+  unneeded = none_needed;
+  lesser = not_lesser;
+  pre = not_pre;
 }

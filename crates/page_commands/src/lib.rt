@@ -14,6 +14,7 @@ ghost use Rattle.page_commands.specs.Worlds.Edits.{
   RequirementsAreSet,
 };
 ghost use Rattle.page_commands.specs.Worlds.Formats.{LinesAreLaidOut, SyntaxIsReported, WordsAreLaidOut};
+ghost use Rattle.page_commands.specs.Worlds.Parts.{PartsAreTold};
 ghost use Rattle.page_commands.specs.Worlds.Sums.{SumsAreRead};
 ghost use Rattle.page_commands.specs.Worlds.Texts.{HashesAreTold, NamesAreTold, PathsAreTold, VersionsAreTold};
 ghost use Rattle.page_commands.specs.Worlds.Versions.{DeviceIsReported, LatestFilesAreRead, ListsAreRead, RetractedAreLeftOut};
@@ -126,4 +127,9 @@ pub fn versions_are_told()
 /// Escaped texts, and the files of modules.
 pub fn names_are_told()
     ensures { NamesAreTold }
+{}
+
+/// What single definitions say of bytes, kinds of faults, a dependency's file and lines of a go.sum.
+pub fn parts_are_told()
+    ensures { PartsAreTold }
 {}

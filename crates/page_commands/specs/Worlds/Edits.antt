@@ -26,6 +26,10 @@ refused operation kind = (operation ∷ [], codes "module m\n", reports (codes "
 abbrev pub misread : List ℕ → List ℕ → World
 misread file report = (codes "go=1.17" ∷ [], file, reports (codes "go.mod:" ++ report ++ codes "\n"))
 
+-- lines of a main file that are valid, and are printed as they stand
+abbrev pub kept : List ℕ → World
+kept file = after_module (codes "droprequire=x.y") file file
+
 abbrev pub require_worlds : List World
 require_worlds =
     -- the first goes to the end, after a blank line; others after the last one, in its block
@@ -78,6 +82,8 @@ drop_worlds =
     ∷ after_module (codes "dropretract=v1.0.0") (codes "retract v1.0.0\nretract [v1.0.0, v1.1.0]\n")
     (codes "retract [v1.0.0, v1.1.0]\n")
     ∷ after_module (codes "dropretract=[v1.0.0, v1.0.0]") (codes "retract v1.0.0\n") []
+    ∷ after_module (codes "dropretract=[v1.0.0, v1.1.0]") (codes "retract [v0.9.0, v1.1.0]\n")
+    (codes "retract [v0.9.0, v1.1.0]\n")
     -- exactly this left side
     ∷ after_module (codes "dropreplace=a.b") (codes "replace a.b v1.0.0 => ./x\nreplace a.b => ./y\n")
     (codes "replace a.b v1.0.0 => ./x\n")
@@ -92,10 +98,16 @@ replace_worlds =
     (codes "replace a.b => ./z // c\n")
     ∷ after_module (codes "replace=a.b@v1.0.0=./z") (codes "replace (\n\ta.b => ./y\n\ta.b v1.0.0 => ./x\n)\n")
     (codes "replace (\n\ta.b => ./y\n\ta.b v1.0.0 => ./z\n)\n")
+    -- no replace of another path is one of this
+    ∷ after_module (codes "replace=a.b=./z") (codes "replace c.d => ./x\n") (codes "replace c.d => ./x\nreplace a.b => ./z\n")
     -- the right side is a folder as it stands, in quotes if it must be, or a module whose version need not fit
     ∷ after_module (codes "replace=a.b=./x=y@z") [] (codes "\nreplace a.b => ./x=y@z\n")
     ∷ after_module (codes "replace=a.b=../x y") [] (codes "\nreplace a.b => \"../x y\"\n")
     ∷ after_module (codes "replace=a.b=./x//y") [] (codes "\nreplace a.b => \"./x//y\"\n")
+    ∷ after_module (codes "replace=a.b=./x\\\"y") [] (codes "\nreplace a.b => \"./x\\\\\\\"y\"\n")
+    ∷ after_module (codes "replace=a.b=./x\ty") [] (codes "\nreplace a.b => \"./x\ty\"\n")
+    ∷ after_module (codes "replace=a.b=./{") [] (codes "\nreplace a.b => \"./{\"\n")
+    ∷ after_module (codes "replace=a.b=.") [] (codes "\nreplace a.b => .\n")
     ∷ after_module (codes "replace=a.b=..") [] (codes "\nreplace a.b => ..\n")
     ∷ after_module (codes "replace=a.b=/x") [] (codes "\nreplace a.b => /x\n")
     ∷ after_module (codes "replace=a.b=c.d@v3.0.0") [] (codes "\nreplace a.b => c.d v3.0.0\n")
@@ -115,6 +127,9 @@ other_worlds =
     ∷ after_module (codes "go=1.21") (codes "require a.b v1.0.0\n") (codes "\ngo 1.21\nrequire a.b v1.0.0\n")
     ∷ world (codes "go=1.21rc1" ∷ []) (codes "// c\nmodule (\n\tm\n)\nrequire a.b v1.0.0\n")
     (prints (codes "// c\nmodule (\n\tm\n)\n\ngo 1.21rc1\nrequire a.b v1.0.0\n"))
+    ∷ world (codes "go=1.21" ∷ []) (codes "module (\n\tm\n\t// c\n)\nrequire a.b v1.0.0\n")
+    (prints (codes "module (\n\tm\n\t// c\n)\n\ngo 1.21\nrequire a.b v1.0.0\n"))
+    ∷ after_module (codes "go=1.21x1") [] (codes "\ngo 1.21x1\n")
     ∷ after_module (codes "go=1.21.3") (codes "go 1.17 // c\n") (codes "go 1.21.3 // c\n")
     ∷ after_module (codes "go=1.21") (codes "go 1.17 // c\n") (codes "go 1.21 // c\n")
     -- each number of a go version may have nine digits, the second one may be 0, and letters and digits may end it
@@ -131,6 +146,9 @@ refused_worlds =
     ∷ refused (codes "replace=a.b@v2.0.0=./x") (codes "Misfit")
     ∷ after_module (codes "require=a.b@v2.0.0+incompatible") [] (codes "\nrequire a.b v2.0.0+incompatible\n")
     ∷ after_module (codes "dropexclude=a.b@v2.0.0") [] []
+    ∷ after_module (codes "require=a.b/v2@v2.0.0") [] (codes "\nrequire a.b/v2 v2.0.0\n")
+    ∷ after_module (codes "exclude=a.b/v2@v2.0.0") [] (codes "\nexclude a.b/v2 v2.0.0\n")
+    ∷ refused (codes "require=a.b/v2@v1.0.0") (codes "Misfit")
     -- no operations
     ∷ refused (codes "require=a.b") (codes "Spelling")
     ∷ refused (codes "require=a.b@v1") (codes "Spelling")
@@ -143,6 +161,11 @@ refused_worlds =
     ∷ refused (codes "module=.a") (codes "Spelling")
     ∷ refused (codes "retract= v1.0.0") (codes "Spelling")
     ∷ refused (codes "retract=[v1.0.0]") (codes "Spelling")
+    ∷ refused (codes "retract=[v1.0.0,v1.1.0") (codes "Spelling")
+    ∷ refused (codes "retract=v1.0.0]") (codes "Spelling")
+    ∷ refused (codes "retract=]") (codes "Spelling")
+    ∷ refused (codes "replace=a.b=...") (codes "Spelling")
+    ∷ refused (codes "replace=a.b=./x\ny") (codes "Spelling")
     ∷ refused (codes "go") (codes "Spelling")
     -- the first refused one is reported by its number, and nothing is printed
     ∷ world (codes "go=1.21" ∷ codes "require=a.b@v2.0.0" ∷ codes "x" ∷ []) (codes "module m\n")
@@ -165,6 +188,9 @@ fault_worlds =
     ∷ misread (codes "module m\nrequire a.b\n") (codes "2: WrongArguments")
     ∷ misread (codes "module m\nrequire a.b v1.0.0 v1.1.0\n") (codes "2: WrongArguments")
     ∷ misread (codes "module ,\n") (codes "1: WrongArguments")
+    ∷ misread (codes "module x )\n") (codes "1: WrongArguments")
+    ∷ misread (codes "require ( x\n") (codes "1: WrongArguments")
+    ∷ misread (255 ∷ []) (codes "0: NotUtf8")
     -- on a line the path before the version, and the version before its fit
     ∷ misread (codes "module m\nrequire .a v1\n") (codes "2: BadPath")
     ∷ misread (codes "module m\nrequire a.b/v2 v1\n") (codes "2: BadVersion")
@@ -180,15 +206,33 @@ replace_fault_worlds =
     ∷ after_module (codes "droprequire=a.b")
     (codes "replace a.b => ./x\nreplace a.b => ./x\nreplace a.b v1.0.0 => ./y\n")
     (codes "replace a.b => ./x\nreplace a.b => ./x\nreplace a.b v1.0.0 => ./y\n")
+    ∷ misread (codes "module m\nreplace a.b => c.d v1.0.0\nreplace a.b => c.d v1.1.0\n") (codes "3: ConflictingReplace")
+    ∷ misread (codes "module m\nreplace a.b => c.d v1.0.0\nreplace a.b => c.e v1.0.0\n") (codes "3: ConflictingReplace")
+    ∷ misread (codes "module m\nreplace a.b => ./x\nreplace a.b => c.d v1.0.0\n") (codes "3: ConflictingReplace")
+    ∷ misread (codes "module m\nreplace a.b => c.d v1.0.0\nreplace a.b => ./x\n") (codes "3: ConflictingReplace")
+    -- the values of the right sides count, not their spelling
+    ∷ kept (codes "replace a.b => \"./x\\\\\\\"y\"\nreplace a.b => `./x\\\"y`\n")
+    ∷ kept (codes "replace a.b => c.d v1.0.0\nreplace a.b => c.d v1.0.0\n")
     ∷ misread (codes "module m\nreplace a.b v2.0.0 => ./x\n") (codes "2: Misfit")
+    -- both paths before both versions, and these before the fit of the left one
+    ∷ misread (codes "module m\nreplace a.b v1 => ./x\n") (codes "2: BadVersion")
+    ∷ misread (codes "module m\nreplace a.b => .c v1.0.0\n") (codes "2: BadPath")
+    ∷ misread (codes "module m\nreplace a.b => \"\" v1.0.0\n") (codes "2: BadPath")
+    ∷ misread (codes "module m\nreplace a.b => c.d v1\n") (codes "2: BadVersion")
+    ∷ misread (codes "module m\nreplace .a v1 => c.d v1\n") (codes "2: BadPath")
+    ∷ misread (codes "module m\nreplace a.b v1 => .c v1.0.0\n") (codes "2: BadPath")
+    ∷ misread (codes "module m\nreplace a.b v2.0.0 => c.d v1\n") (codes "2: BadVersion")
     ∷ misread (codes "module m\nreplace a.b => c.d\n") (codes "2: WrongArguments")
     ∷ misread (codes "module m\nreplace a.b => ./x v1.0.0\n") (codes "2: WrongArguments")
     ∷ misread (codes "module m\nretract [v1.0.0]\n") (codes "2: WrongArguments")
     ∷ misread (codes "module m\nretract [v1.0.0, v1]\n") (codes "2: BadVersion")
+    ∷ misread (codes "module m\nretract (v1.0.0, v1.1.0]\n") (codes "2: WrongArguments")
+    ∷ misread (codes "module m\nretract [v1.0.0; v1.1.0]\n") (codes "2: WrongArguments")
     -- what is kept
     ∷ after_module (codes "droprequire=a.b")
     (codes "retract [v1.1.0, v1.0.0]\ntoolchain x y\ntool x\nreplace \"a.b\" => `c.d` v2.0.0\n")
     (codes "retract [v1.1.0, v1.0.0]\ntoolchain x y\ntool x\nreplace \"a.b\" => `c.d` v2.0.0\n")
+    ∷ kept (codes "require a.b/v2 v2.0.0\ngodebug x\nignore y\n")
     -- go versions
     ∷ misread (codes "module m\ngo v1.17\n") (codes "2: BadGo")
     ∷ misread (codes "module m\ngo 1.017\n") (codes "2: BadGo")
@@ -197,6 +241,7 @@ replace_fault_worlds =
     ∷ misread (codes "module m\ngo 1.17.1.1\n") (codes "2: BadGo")
     ∷ misread (codes "module m\ngo 1.17x\n") (codes "2: BadGo")
     ∷ misread (codes "module m\ngo 1.17rc1x\n") (codes "2: BadGo")
+    ∷ misread (codes "module m\ngo 1.17rcx\n") (codes "2: BadGo")
     -- a fault of the text comes first
     ∷ misread (codes "foo\n{\n") (codes "2: BadByte")
     ∷ []

@@ -70,6 +70,8 @@ fault_worlds =
     -- the first faulty line counts, and on a line what is wrong with its bytes before its parentheses
     ∷ faulty (codes ")\n{\n") (codes "go.mod:1: StrayClose\n")
     ∷ faulty (codes ") {\n") (codes "go.mod:1: BadByte\n")
+    ∷ faulty (codes "// c\n{\n") (codes "go.mod:2: BadByte\n")
+    ∷ faulty (codes "a (\n)\n{\n") (codes "go.mod:3: BadByte\n")
     ∷ faulty (codes "require (\n) x\n") (codes "go.mod:2: StrayClose\n")
     ∷ faulty (codes "a (\nb (\n)\n") (codes "go.mod:2: NestedOpen\n")
     ∷ faulty (codes "a b (\n") (codes "go.mod:1: NestedOpen\n")

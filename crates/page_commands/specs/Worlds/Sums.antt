@@ -82,6 +82,8 @@ invalid_worlds =
     (codes "a v1/go.mod\n", 1)
     ∷ (codes "a v1/go.mod h1:x\n\n \na v1/go.mod h1:x y\na\n", 4)
     ∷ (codes "a v1 h1:x\na v1 h1:" ++ 255 ∷ codes "\n", 2)
+    ∷ (255 ∷ codes " v1 h1:x\n", 1)
+    ∷ (codes "a " ++ 255 ∷ codes " h1:x\n", 1)
     ∷ (codes "\na", 2)
     ∷ []
 
@@ -90,6 +92,8 @@ pub record SumsAreRead : Type 0 where
   pub invalid : AllByRecursion IsInvalid invalid_worlds
   -- a go.sum of no line, of blank lines, and of any three fields
   pub valid : AllByRecursion HasValidLines ([] ∷ codes "\n \t\r\n" ∷ codes "x y z\n" ∷ [])
+  -- one without an invalid line has no first one
+  pub none_invalid : IsInvalid (codes "x y z\n", 2) → ⊥
   -- what is reported
   pub classes : class_of_sum Good ≡ None
   pub none : class_of_sum Unlisted ≡ Some NoSum

@@ -3,7 +3,8 @@ use Rattle.std.specs.Prelude.{◌++◌, ℕ, Bool, true, false, List, [], ◌∷
 use Rattle.std.specs.List.{AllByRecursion}
 use Rattle.page_commands.specs.Asked.{Name, Reply, absent, answer_in, bytes, list_file, mod_file, too_long}
 use Rattle.page_commands.specs.Outcome.{Outcome}
-use Rattle.page_commands.specs.Versions.{VersionsEnds}
+use Rattle.page_commands.specs.Latest.{IsLatest}
+use Rattle.page_commands.specs.Versions.{HasListed, VersionsEnds}
 use Rattle.page_commands.specs.Worlds.{prints, reports}
 
 abbrev pub m : List ℕ
@@ -72,8 +73,12 @@ list_worlds =
     ∷ all_of (codes "v1.0.1-0.20200101000000-0\nv2.0.1-0.20200101000000-a+incompatible\nv1.0.0\n") (codes " v1.0.0")
     -- any major number, and any letters and digits as a revision
     ∷ all_of (codes "v1.0.0-20200101000000-a\nv0.0.0-20200101000000-XYZ9\nv0.1.0\n") (codes " v0.1.0")
-    -- no pseudo-versions: fifteen digits
+    -- no pseudo-versions: fifteen digits; a letter among them, no revision, a patch number without a front, a dot in the
+    -- revision
     ∷ all_of (codes "v0.0.0-202001010000000-a\n") (codes " v0.0.0-202001010000000-a")
+    ∷ all_of
+    (codes "v0.0.0-2020010100000x-a\nv0.0.0-20200101000000-\nv1.0.1-20200101000000-a\nv1.0.0-x.0.20200101000000-a.b\n")
+    (codes " v0.0.0-20200101000000- v0.0.0-2020010100000x-a v1.0.0-x.0.20200101000000-a.b v1.0.1-20200101000000-a")
     -- thirteen digits, a dash in the revision, a minor number without a front, `0.` without a patch
     -- number, a front that doesn't end in `.0.`
     ∷ all_of (codes "v0.0.0-2020010100000-a\nv0.0.0-20200101000000-a-b\n")
@@ -150,8 +155,24 @@ fails answers name report = VersionsEnds m false (answer_in answers) (name ∷ [
   status = 3;
 })
 
+-- No run has these answers, and a device that fails on the file.
+abbrev pub HasNone : List (Name × Reply) → Name → Type 0
+HasNone answers name = (outcome : Outcome) → VersionsEnds m false (answer_in answers) (name ∷ []) outcome → ⊥
+
+abbrev pub local_list : List (Name × Reply)
+local_list = (list_file (codes "m"), bytes (codes "v1.0.0\n")) ∷ []
+
 pub record DeviceIsReported : Type 0 where
   pub list : fails [] (list_file m) (codes " list")
   pub file : fails (listing (codes "v1.0.0\nv1.1.0\nv1.2.0-rc.1\n") ∷ []) (mod_file m (codes "v1.1.0"))
       (codes "@v1.1.0")
   pub local : VersionsEnds (codes "m") false (answer_in []) [] (reports (codes "m: NotFetchable\n"))
+  -- whatever was answered of such a path, it has no list
+  pub unlisted : (versions : List (List ℕ)) → HasListed (codes "m") (answer_in local_list) versions → ⊥
+  -- it can't fail on a file that was answered, or that is not needed
+  pub answered : HasNone (listing (codes "v1.0.0\n") ∷ []) (list_file m)
+  pub refused : HasNone ((list_file m, absent) ∷ []) (list_file m)
+  pub unneeded : HasNone [] (mod_file m (codes "v1.0.0"))
+  -- a lesser release is not the latest version, nor is a pre-release beside a release
+  pub lesser : IsLatest (codes "v1.0.0" ∷ codes "v1.1.0" ∷ []) (codes "v1.0.0") → ⊥
+  pub pre : IsLatest (codes "v1.1.0" ∷ codes "v1.2.0-rc.1" ∷ []) (codes "v1.2.0-rc.1") → ⊥
