@@ -64,7 +64,7 @@ replaces_are_set = all_so IsTold Holds told_so replace_worlds (refl, (refl, (ref
 
 pub others_are_set : OthersAreSet
 unfolding on_literals
-others_are_set = all_so IsTold Holds told_so other_worlds (refl, (refl, (refl, (refl, (refl, (refl, (refl, (refl, (refl, (refl, (refl, (refl, (refl, tt)))))))))))))
+others_are_set = all_so IsTold Holds told_so other_worlds (refl, (refl, (refl, (refl, (refl, (refl, (refl, (refl, (refl, (refl, (refl, (refl, (refl, (refl, (refl, tt)))))))))))))))
 
 pub operations_are_refused : OperationsAreRefused
 unfolding on_literals

@@ -91,21 +91,29 @@ digit_at_end = decimal_by_steps EndsInDigit one more
 pub not_gopkg : IsUnderGopkg m → ⊥
 not_gopkg (rest, is) = let wrong : 101 ≡ 103 = ap (λ (t : List ℕ). slice_index t 0) is in omega (arith, wrong)
 
+-- a text whose last byte is no digit
+module _ (text : List ℕ) (byte : ℕ) (ends : last_of text ≡ Some byte) where
+  pub ends_otherwise : is_digit_or_dot byte ≡ false → EndsInSlashVersion text → ⊥
+  ends_otherwise other (front, [], is, some, all) = omega (arith, some)
+  ends_otherwise other (front, x ∷ rest, is, some, all) =
+      let (z, at, passes) = last_passes is_digit_or_dot x rest all in
+      let last : Some byte ≡ Some z = sym ends ∙ (ap last_of is ∙ (last_append (front ++ codes "/v") x rest ∙ at)) in
+      false≢true (sym other ∙ subst (λ (b : ℕ). is_digit_or_dot b ≡ true) (sym (same_Some _ _ last)) passes)
+
+  pub ends_in_none : (mark : List ℕ) → 58 ≤ byte → (n : ℕ) → n < 2 ^ 64 → EndsInNumber text mark n → ⊥
+  ends_in_none mark high n small (front, is) =
+      let (x, rest, shape, k, low, at) = digit_at_end n small in
+      let whole : text ≡ (front ++ mark) ++ (x ∷ rest) = is ∙ ap (λ (t : List ℕ). (front ++ mark) ++ t) shape in
+      let last : Some byte ≡ Some (48 + k) =
+      sym ends ∙ (ap last_of whole ∙ (last_append (front ++ mark) x rest ∙ (ap last_of (sym shape) ∙ at))) in
+      let same : byte ≡ 48 + k = same_Some _ _ last in
+      omega (arith, same, low, high)
+
 pub not_slash : EndsInSlashVersion m → ⊥
-not_slash (front, [], is, some, all) = omega (arith, some)
-not_slash (front, x ∷ rest, is, some, all) =
-    let (z, at, passes) = last_passes is_digit_or_dot x rest all in
-    let last : Some 109 ≡ Some z = ap last_of is ∙ (last_append (front ++ codes "/v") x rest ∙ at) in
-    let same : 109 ≡ z = same_Some _ _ last in
-    false≢true (subst (λ (b : ℕ). is_digit_or_dot b ≡ true) (sym same) passes)
+not_slash = ends_otherwise m 109 refl refl
 
 no_number : (n : ℕ) → n < 2 ^ 64 → EndsInNumber m (codes "/v") n → ⊥
-no_number n small (front, is) =
-    let (x, rest, shape, k, low, at) = digit_at_end n small in
-    let whole : m ≡ (front ++ codes "/v") ++ (x ∷ rest) = is ∙ ap (λ (t : List ℕ). (front ++ codes "/v") ++ t) shape in
-    let last : Some 109 ≡ Some (48 + k) = ap last_of whole ∙ (last_append (front ++ codes "/v") x rest ∙ (ap last_of (sym shape) ∙ at)) in
-    let same : 109 ≡ 48 + k = same_Some _ _ last in
-    omega (arith, same, low)
+no_number = ends_in_none m 109 refl (codes "/v") (omega arith)
 
 fits_so : (version : List ℕ) → fits_major version NoSuffix ≡ true → FitsMajor NoSuffix version
 fits_so version h = by_test (nat_lt (major_of version) 2) refl h

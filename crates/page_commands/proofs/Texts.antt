@@ -1,11 +1,14 @@
 -- Single definitions, computed.
-use Rattle.std.proofs.Common.{◌≡◌, ℕ, List, [], ◌∷◌, ap, arith, codes, inl, inr, lit<, refl}
+use Rattle.std.proofs.Common.{◌≡◌, ◌∙◌, ◌++◌, ℕ, List, [], ◌∷◌, ap, arith, codes, inl, inr, lit<, refl, sym}
 use Rattle.std.specs.Prelude.{slice_index}
-use Rattle.page_commands.specs.Path.{IsPath, IsUnderGopkg}
+use Rattle.std.proofs.lemmas.Bool.{false≢true}
+use Rattle.page_commands.specs.Fit.{FitsMajor}
+use Rattle.page_commands.specs.Path.{EndsInDotNumber, IsPath, IsUnderGopkg}
+use Rattle.page_commands.specs.Pseudo.{IsStamp}
 use Rattle.page_commands.specs.Types.Major.{Dot, NoSuffix, Slash}
-use Rattle.page_commands.specs.Worlds.Parts.{PartsAreTold}
+use Rattle.page_commands.specs.Worlds.Parts.{MajorsAreTold, PartsAreTold}
 use Rattle.page_commands.specs.Worlds.Texts.{HashesAreTold, NamesAreTold, PathsAreTold, VersionsAreTold}
-use Rattle.page_commands.proofs.Listable.{not_gopkg, not_slash}
+use Rattle.page_commands.proofs.Listable.{ends_in_none, ends_otherwise, not_gopkg, not_slash, version_back}
 use Rattle.page_commands.proofs.OnLiterals.{on_literals}
 
 plain : IsPath (codes "example.com/m")
@@ -72,6 +75,7 @@ parts_are_told = record {
   bare = refl;
   marks = refl;
   place = refl;
+  word = refl;
   ranks = refl;
   first = refl;
   said = refl;
@@ -81,4 +85,63 @@ parts_are_told = record {
   other = refl;
   unlisted = refl;
   folder = refl;
+}
+
+-- ---- majors
+
+first_byte : (text : List ℕ) (byte : ℕ) → slice_index text 0 ≡ byte → (byte ≡ 103 → ⊥) → IsUnderGopkg text → ⊥
+first_byte text byte begins other (rest, is) = other (sym begins ∙ ap (λ (t : List ℕ). slice_index t 0) is)
+
+no_zero : EndsInDotNumber (codes "gopkg.in/a.v0-unstable") 0 → ⊥
+no_zero (inl is) = ends_in_none (codes "gopkg.in/a.v0-unstable") 101 refl (codes ".v") (omega arith) 0 (omega arith) is
+no_zero (inr (some, stable, is, ends)) = omega (arith, some)
+
+not_later : FitsMajor (Dot 2) (codes "v0.0.0-1") → ⊥
+unfolding on_literals
+not_later (inl is, build) = (let wrong : 0 ≡ 2 = is in omega (arith, wrong))
+not_later (inr (is, rest, begins), build) = (let wrong : 2 ≡ 1 = is in omega (arith, wrong))
+
+not_minor : FitsMajor (Dot 1) (codes "v0.1.0") → ⊥
+unfolding on_literals
+not_minor (inl is, build) = (let wrong : 0 ≡ 1 = is in omega (arith, wrong))
+not_minor (inr (is, rest, begins), build) = (let wrong : 49 ≡ 48 = ap (λ (t : List ℕ). slice_index t 3) begins in omega (arith, wrong))
+
+some_build : codes "incompatible" ≡ [] → ⊥
+some_build e = cc e
+
+stamp : (pre front : List ℕ) → pre ≡ front ++ codes "20200101000000" ++ codes "-" ++ codes "a" → IsStamp pre front (codes "20200101000000") (codes "a")
+stamp pre front joined = record { joined = joined; fourteen = refl; digits = refl; some = lit< tt; letters_or_digits = refl }
+
+pub majors_are_told : MajorsAreTold
+unfolding on_literals
+majors_are_told = record {
+  slash = (first_byte (codes "a.b/v3") 97 refl (λ e. omega (arith, e)), omega arith, lit< tt, (codes "a.b", refl));
+  dot = ((codes "a.v0", refl), lit< tt, inl (codes "gopkg.in/a", refl));
+  unstable = ((codes "a.v3-unstable", refl), lit< tt, inr (lit< tt, codes "gopkg.in/a.v3", refl, (codes "gopkg.in/a", refl)));
+  none = (first_byte (codes "a.b/vx") 97 refl (λ e. omega (arith, e)), ends_otherwise (codes "a.b/vx") 120 refl refl);
+  ends = (codes "a", codes "1", refl, lit< tt, refl);
+  ends_so = (codes "a", codes "1.2", refl, lit< tt, refl);
+  fit_slash = (refl, refl);
+  fit_dot = (inl refl, refl);
+  early = (inr (refl, codes "20200101000000-a", refl), refl);
+  outside = λ has. first_byte (codes "m") 109 refl (λ e. omega (arith, e)) has.0;
+  below = λ has. has.0 (codes "a", refl);
+  below_slash = λ has. has.0 (codes "a/v2", refl);
+  first = λ has. omega (arith, has.1);
+  named = λ has. has.1 (codes "a", codes "1", refl, lit< tt, refl);
+  large = λ has. omega (arith, has.2);
+  large_dot = λ has. omega (arith, has.1);
+  zero = no_zero;
+  bare = ends_otherwise (codes "a/v") 118 refl refl;
+  other = λ is. (let wrong : 1 ≡ 2 = is.0 in omega (arith, wrong));
+  build = λ is. some_build is.1;
+  build_dot = λ is. some_build is.1;
+  later = not_later;
+  minor = not_minor;
+  meta = λ is. false≢true (version_back (codes "v1.0.0+meta") is);
+  leading = λ is. false≢true (version_back (codes "v01.0.0") is);
+  unread = refl;
+  alone = ([], inl (refl, refl, refl, refl), stamp (codes "20200101000000-a") [] refl);
+  before = (codes "a.0.", inr (inl (refl, codes "a", lit< tt, refl)), stamp (codes "a.0.20200101000000-a") (codes "a.0.") refl);
+  after = (codes "0.", inr (inr (refl, lit< tt, refl)), stamp (codes "0.20200101000000-a") (codes "0.") refl);
 }

@@ -14,7 +14,7 @@ ghost use Rattle.page_commands.specs.Worlds.Edits.{
   RequirementsAreSet,
 };
 ghost use Rattle.page_commands.specs.Worlds.Formats.{LinesAreLaidOut, SyntaxIsReported, WordsAreLaidOut};
-ghost use Rattle.page_commands.specs.Worlds.Parts.{PartsAreTold};
+ghost use Rattle.page_commands.specs.Worlds.Parts.{MajorsAreTold, PartsAreTold};
 ghost use Rattle.page_commands.specs.Worlds.Sums.{SumsAreRead};
 ghost use Rattle.page_commands.specs.Worlds.Texts.{HashesAreTold, NamesAreTold, PathsAreTold, VersionsAreTold};
 ghost use Rattle.page_commands.specs.Worlds.Versions.{DeviceIsReported, LatestFilesAreRead, ListsAreRead, RetractedAreLeftOut};
@@ -132,4 +132,9 @@ pub fn names_are_told()
 /// What single definitions say of bytes, kinds of faults, a dependency's file and lines of a go.sum.
 pub fn parts_are_told()
     ensures { PartsAreTold }
+{}
+
+/// The major version of a path, which versions fit it, and the forms of pseudo-versions.
+pub fn majors_are_told()
+    ensures { MajorsAreTold }
 {}

@@ -123,6 +123,9 @@ other_worlds =
     ∷ after_module (codes "retract=[v1.0.0,v1.0.0]") [] (codes "\nretract v1.0.0\n")
     ∷ after_module (codes "retract=[ v1.0.0 ,\tv1.1.0 ]") (codes "retract v1.0.0\n")
     (codes "retract v1.0.0\nretract [v1.0.0, v1.1.0]\n")
+    -- directives of other verbs are no place for it
+    ∷ after_module (codes "retract=v1.0.0") (codes "tool x\n") (codes "tool x\n\nretract v1.0.0\n")
+    ∷ after_module (codes "retract=v1.0.0") (codes "replace a.b => ./x\n") (codes "replace a.b => ./x\n\nretract v1.0.0\n")
     -- a new go version goes after the module directive, or its block
     ∷ after_module (codes "go=1.21") (codes "require a.b v1.0.0\n") (codes "\ngo 1.21\nrequire a.b v1.0.0\n")
     ∷ world (codes "go=1.21rc1" ∷ []) (codes "// c\nmodule (\n\tm\n)\nrequire a.b v1.0.0\n")

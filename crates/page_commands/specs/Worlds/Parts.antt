@@ -1,4 +1,5 @@
--- What single definitions say: of bytes, kinds, places, a dependency's file, and lines of a go.sum.
+-- What single definitions say: of major versions and pseudo-versions, bytes, kinds, places, a dependency's file, and lines
+-- of a go.sum.
 use Rattle.std.specs.Prelude.{◌≡◌, ◌+◌, ◌++◌, ℕ, zero, suc, List, [], ◌∷◌, filter, map, not, Option, Some, None, Result, Ok, Err, codes}
 use Rattle.page_commands.specs.Asked.{folder_file, mod_file}
 use Rattle.page_commands.specs.Bare.{can_be_bare}
@@ -8,17 +9,62 @@ use Rattle.page_commands.specs.Faults.{first_of, rank}
 use Rattle.page_commands.specs.Fields.{Dependency, dependency_of}
 use Rattle.page_commands.specs.Files.{lines_in}
 use Rattle.page_commands.specs.Reading.{sum_fault}
+use Rattle.page_commands.specs.Fit.{FitsMajor}
+use Rattle.page_commands.specs.Misreading.{misreading_word}
+use Rattle.page_commands.specs.Path.{EndsInDotNumber, EndsInSlashVersion, HasMajor}
+use Rattle.page_commands.specs.Pseudo.{IsPseudo}
 use Rattle.page_commands.specs.Reports.{syntax_place}
 use Rattle.page_commands.specs.Sums.{Sums, check_in}
 use Rattle.page_commands.specs.Types.Class.{NoSum, SumDiffers}
 use Rattle.page_commands.specs.Types.DirectiveKind.{BadGo, BadPath, BadVersion, ConflictingReplace, Misfit, NoModule, Repeated, UnknownVerb, WrongArguments}
+use Rattle.page_commands.specs.Types.Major.{Dot, NoSuffix, Slash}
 use Rattle.page_commands.specs.Types.Misreading as misreading
 use Rattle.page_commands.specs.Types.Punct.{LeftParen, RightParen}
 use Rattle.page_commands.specs.Types.Sum.{Differs, Good, Unlisted}
 use Rattle.page_commands.specs.Types.SyntaxFault as syntax
 use Rattle.page_commands.specs.Types.SyntaxFault.{SyntaxFault}
+use Rattle.page_commands.specs.Version.{IsVersion, parts_in}
 use Rattle.page_commands.specs.Words.{Word, mark_text}
 use Rattle.page_commands.specs.Worlds.Sums.{hash_a, hash_b}
+
+abbrev pub stamped : List ℕ
+stamped = codes "20200101000000"
+
+-- The major version of a path, and whether a version fits it. A major number is below 2^64.
+pub record MajorsAreTold : Type 0 where
+  pub slash : HasMajor (codes "a.b/v3") (Slash 3)
+  pub dot : HasMajor (codes "gopkg.in/a.v0") (Dot 0)
+  pub unstable : HasMajor (codes "gopkg.in/a.v3-unstable") (Dot 3)
+  pub none : HasMajor (codes "a.b/vx") NoSuffix
+  pub ends : EndsInSlashVersion (codes "a/v1")
+  pub ends_so : EndsInSlashVersion (codes "a/v1.2")
+  pub fit_slash : FitsMajor (Slash 2) (codes "v2.1.0")
+  pub fit_dot : FitsMajor (Dot 2) (codes "v2.0.0")
+  pub early : FitsMajor (Dot 1) (codes "v0.0.0-20200101000000-a")
+  -- each path below gopkg.in has the one suffix, and no other path has; elsewhere it is 2 at least
+  pub outside : HasMajor (codes "m") (Dot 1) → ⊥
+  pub below : HasMajor (codes "gopkg.in/a") NoSuffix → ⊥
+  pub below_slash : HasMajor (codes "gopkg.in/a/v2") (Slash 2) → ⊥
+  pub first : HasMajor (codes "a/v1") (Slash 1) → ⊥
+  pub named : HasMajor (codes "a/v1") NoSuffix → ⊥
+  pub large : HasMajor (codes "a/v18446744073709551616") (Slash 18446744073709551616) → ⊥
+  pub large_dot : HasMajor (codes "gopkg.in/a.v18446744073709551616") (Dot 18446744073709551616) → ⊥
+  pub zero : EndsInDotNumber (codes "gopkg.in/a.v0-unstable") 0 → ⊥
+  pub bare : EndsInSlashVersion (codes "a/v") → ⊥
+  -- another major number, a build, and a version of before a module was one
+  pub other : FitsMajor (Slash 2) (codes "v1.0.0") → ⊥
+  pub build : FitsMajor (Slash 2) (codes "v2.0.0+incompatible") → ⊥
+  pub build_dot : FitsMajor (Dot 2) (codes "v2.0.0+incompatible") → ⊥
+  pub later : FitsMajor (Dot 2) (codes "v0.0.0-1") → ⊥
+  pub minor : FitsMajor (Dot 1) (codes "v0.1.0") → ⊥
+  -- no versions
+  pub meta : IsVersion (codes "v1.0.0+meta") → ⊥
+  pub leading : IsVersion (codes "v01.0.0") → ⊥
+  pub unread : parts_in (codes "x") ≡ (0, 0, 0, [], [])
+  -- the three forms of pseudo-versions
+  pub alone : IsPseudo (codes "v1.0.0-20200101000000-a") 1 stamped (codes "a")
+  pub before : IsPseudo (codes "v1.0.0-a.0.20200101000000-a") 2 stamped (codes "a")
+  pub after : IsPseudo (codes "v1.0.1-0.20200101000000-a") 3 stamped (codes "a")
 
 -- so many numbers from one on
 abbrev pub counted : ℕ → ℕ → List ℕ
@@ -57,6 +103,7 @@ pub record PartsAreTold : Type 0 where
   pub marks : map mark_text (LeftParen ∷ RightParen ∷ []) ≡ codes "(" ∷ codes ")" ∷ []
   -- a file that is too long has its fault in line 0
   pub place : syntax_place syntax.TooMany ≡ Some (0, misreading.TooMany)
+  pub word : misreading_word misreading.TooMany ≡ codes "TooMany"
   -- the order of kinds, and of faults
   pub ranks : map rank (UnknownVerb ∷ WrongArguments ∷ BadPath ∷ BadVersion ∷ Misfit ∷ Repeated ∷ NoModule
       ∷ ConflictingReplace ∷ BadGo ∷ []) ≡ counted 0 9

@@ -19,7 +19,7 @@ module_paths =
     -- a suffix is a number from 2 on; one element alone has none
     ∷ codes "a.b/v2" ∷ codes "a.b/v10" ∷ codes "a.b/v9223372036854775808"
     ∷ codes "a.b/v18446744073709551615" ∷ codes "v2" ∷ codes "v1"
-    ∷ codes "a.b/v2/c" ∷ codes "a.b/vx" ∷ codes "a.b/v2x" ∷ codes "a.b/xv1"
+    ∷ codes "a.b/v2/c" ∷ codes "a.b/vx" ∷ codes "a.b/v" ∷ codes "a.b/v2x" ∷ codes "a.b/xv1"
     -- below gopkg.in a path ends in `.v0`, `.vN` or `.vN-unstable`
     ∷ codes "gopkg.in/a.v0" ∷ codes "gopkg.in/a/b.v12" ∷ codes "gopkg.in/a.v1-unstable" ∷ codes "gopkg.in"
     ∷ codes "gopkg.inx/a"
