@@ -1,14 +1,13 @@
 -- Single definitions, computed.
 use Rattle.std.proofs.Common.{◌≡◌, ◌∙◌, ◌++◌, ℕ, List, [], ◌∷◌, ap, arith, codes, inl, inr, lit<, refl, sym}
 use Rattle.std.specs.Prelude.{slice_index}
-use Rattle.std.proofs.lemmas.Bool.{false≢true}
 use Rattle.page_commands.specs.Fit.{FitsMajor}
 use Rattle.page_commands.specs.Path.{EndsInDotNumber, IsPath, IsUnderGopkg}
 use Rattle.page_commands.specs.Pseudo.{IsStamp}
 use Rattle.page_commands.specs.Types.Major.{Dot, NoSuffix, Slash}
 use Rattle.page_commands.specs.Worlds.Parts.{MajorsAreTold, PartsAreTold}
 use Rattle.page_commands.specs.Worlds.Texts.{HashesAreTold, NamesAreTold, PathsAreTold, VersionsAreTold}
-use Rattle.page_commands.proofs.Listable.{ends_in_none, ends_otherwise, not_gopkg, not_slash, version_back}
+use Rattle.page_commands.proofs.Listable.{ends_in_none, ends_otherwise, not_gopkg, not_slash}
 use Rattle.page_commands.proofs.OnLiterals.{on_literals}
 
 plain : IsPath (codes "example.com/m")
@@ -138,8 +137,6 @@ majors_are_told = record {
   build_dot = λ is. some_build is.1;
   later = not_later;
   minor = not_minor;
-  meta = λ is. false≢true (version_back (codes "v1.0.0+meta") is);
-  leading = λ is. false≢true (version_back (codes "v01.0.0") is);
   unread = refl;
   alone = ([], inl (refl, refl, refl, refl), stamp (codes "20200101000000-a") [] refl);
   before = (codes "a.0.", inr (inl (refl, codes "a", lit< tt, refl)), stamp (codes "a.0.20200101000000-a") (codes "a.0.") refl);

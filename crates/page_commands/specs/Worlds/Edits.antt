@@ -99,7 +99,8 @@ replace_worlds =
     ∷ after_module (codes "replace=a.b@v1.0.0=./z") (codes "replace (\n\ta.b => ./y\n\ta.b v1.0.0 => ./x\n)\n")
     (codes "replace (\n\ta.b => ./y\n\ta.b v1.0.0 => ./z\n)\n")
     -- no replace of another path is one of this
-    ∷ after_module (codes "replace=a.b=./z") (codes "replace c.d => ./x\n") (codes "replace c.d => ./x\nreplace a.b => ./z\n")
+    ∷ after_module (codes "replace=a.b=./z") (codes "replace c.d => ./x\n")
+    (codes "replace c.d => ./x\nreplace a.b => ./z\n")
     -- the right side is a folder as it stands, in quotes if it must be, or a module whose version need not fit
     ∷ after_module (codes "replace=a.b=./x=y@z") [] (codes "\nreplace a.b => ./x=y@z\n")
     ∷ after_module (codes "replace=a.b=../x y") [] (codes "\nreplace a.b => \"../x y\"\n")
@@ -125,7 +126,8 @@ other_worlds =
     (codes "retract v1.0.0\nretract [v1.0.0, v1.1.0]\n")
     -- directives of other verbs are no place for it
     ∷ after_module (codes "retract=v1.0.0") (codes "tool x\n") (codes "tool x\n\nretract v1.0.0\n")
-    ∷ after_module (codes "retract=v1.0.0") (codes "replace a.b => ./x\n") (codes "replace a.b => ./x\n\nretract v1.0.0\n")
+    ∷ after_module (codes "retract=v1.0.0") (codes "replace a.b => ./x\n")
+    (codes "replace a.b => ./x\n\nretract v1.0.0\n")
     -- a new go version goes after the module directive, or its block
     ∷ after_module (codes "go=1.21") (codes "require a.b v1.0.0\n") (codes "\ngo 1.21\nrequire a.b v1.0.0\n")
     ∷ world (codes "go=1.21rc1" ∷ []) (codes "// c\nmodule (\n\tm\n)\nrequire a.b v1.0.0\n")

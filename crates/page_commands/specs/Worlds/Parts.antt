@@ -1,5 +1,5 @@
--- What single definitions say: of major versions and pseudo-versions, bytes, kinds, places, a dependency's file, and lines
--- of a go.sum.
+-- What single definitions say: of major versions and pseudo-versions, bytes, kinds, places, a dependency's file, and
+-- lines of a go.sum.
 use Rattle.std.specs.Prelude.{◌≡◌, ◌+◌, ◌++◌, ℕ, zero, suc, List, [], ◌∷◌, filter, map, not, Option, Some, None, Result, Ok, Err, codes}
 use Rattle.page_commands.specs.Asked.{folder_file, mod_file}
 use Rattle.page_commands.specs.Bare.{can_be_bare}
@@ -15,7 +15,7 @@ use Rattle.page_commands.specs.Path.{EndsInDotNumber, EndsInSlashVersion, HasMaj
 use Rattle.page_commands.specs.Pseudo.{IsPseudo}
 use Rattle.page_commands.specs.Reports.{syntax_place}
 use Rattle.page_commands.specs.Sums.{Sums, check_in}
-use Rattle.page_commands.specs.Types.Class.{NoSum, SumDiffers}
+use Rattle.page_commands.specs.Types.Class.{Class, NoSum, SumDiffers}
 use Rattle.page_commands.specs.Types.DirectiveKind.{BadGo, BadPath, BadVersion, ConflictingReplace, Misfit, NoModule, Repeated, UnknownVerb, WrongArguments}
 use Rattle.page_commands.specs.Types.Major.{Dot, NoSuffix, Slash}
 use Rattle.page_commands.specs.Types.Misreading as misreading
@@ -23,7 +23,7 @@ use Rattle.page_commands.specs.Types.Punct.{LeftParen, RightParen}
 use Rattle.page_commands.specs.Types.Sum.{Differs, Good, Unlisted}
 use Rattle.page_commands.specs.Types.SyntaxFault as syntax
 use Rattle.page_commands.specs.Types.SyntaxFault.{SyntaxFault}
-use Rattle.page_commands.specs.Version.{IsVersion, parts_in}
+use Rattle.page_commands.specs.Version.{parts_in}
 use Rattle.page_commands.specs.Words.{Word, mark_text}
 use Rattle.page_commands.specs.Worlds.Sums.{hash_a, hash_b}
 
@@ -57,9 +57,7 @@ pub record MajorsAreTold : Type 0 where
   pub build_dot : FitsMajor (Dot 2) (codes "v2.0.0+incompatible") → ⊥
   pub later : FitsMajor (Dot 2) (codes "v0.0.0-1") → ⊥
   pub minor : FitsMajor (Dot 1) (codes "v0.1.0") → ⊥
-  -- no versions
-  pub meta : IsVersion (codes "v1.0.0+meta") → ⊥
-  pub leading : IsVersion (codes "v01.0.0") → ⊥
+  -- the parts of what is no version
   pub unread : parts_in (codes "x") ≡ (0, 0, 0, [], [])
   -- the three forms of pseudo-versions
   pub alone : IsPseudo (codes "v1.0.0-20200101000000-a") 1 stamped (codes "a")
@@ -87,6 +85,10 @@ abbrev pub tables : List Sums
 tables =
     [] ∷ ((codes "a.c", codes "v1.0.0", hash_a) ∷ []) ∷ ((codes "a.b", codes "v1.0.1", hash_a) ∷ [])
     ∷ (of_a hash_a ∷ []) ∷ (of_a hash_b ∷ []) ∷ (of_a hash_a ∷ of_a hash_b ∷ []) ∷ (of_a hash_b ∷ of_a hash_a ∷ []) ∷ []
+
+-- the fault of a version's file, by a go.sum with one line
+abbrev pub fault_in : List ℕ → List ℕ → Option Class
+fault_in version content = sum_fault (Some (of_a hash_a ∷ [])) (mod_file (codes "a.b") version) content
 
 pub record PartsAreTold : Type 0 where
   -- ASCII: blanks, brackets and commas, quotes, what stands nowhere, and what no bare word has
@@ -118,8 +120,7 @@ pub record PartsAreTold : Type 0 where
   -- what a go.sum says of a hash, and of a file
   pub sums : map (λ table. check_in table (codes "a.b") (codes "v1.0.0") hash_a) tables
       ≡ Unlisted ∷ Unlisted ∷ Unlisted ∷ Good ∷ Differs ∷ Differs ∷ Differs ∷ []
-  pub good : sum_fault (Some (of_a hash_a ∷ [])) (mod_file (codes "a.b") (codes "v1.0.0")) (codes "module example.com/a\n")
-      ≡ None
-  pub other : sum_fault (Some (of_a hash_a ∷ [])) (mod_file (codes "a.b") (codes "v1.0.0")) [] ≡ Some SumDiffers
-  pub unlisted : sum_fault (Some (of_a hash_a ∷ [])) (mod_file (codes "a.b") (codes "v1.0.1")) [] ≡ Some NoSum
+  pub good : fault_in (codes "v1.0.0") (codes "module example.com/a\n") ≡ None
+  pub other : fault_in (codes "v1.0.0") [] ≡ Some SumDiffers
+  pub unlisted : fault_in (codes "v1.0.1") [] ≡ Some NoSum
   pub folder : sum_fault (Some []) (folder_file (codes "a.b")) [] ≡ None

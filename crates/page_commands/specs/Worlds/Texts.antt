@@ -24,8 +24,8 @@ module_paths =
     ∷ codes "gopkg.in/a.v0" ∷ codes "gopkg.in/a/b.v12" ∷ codes "gopkg.in/a.v1-unstable" ∷ codes "gopkg.in"
     ∷ codes "gopkg.inx/a"
     -- names like those of devices
-    ∷ codes "com" ∷ codes "abc1" ∷ codes "12" ∷ codes "com0" ∷ codes "com10" ∷ codes "a.con" ∷ codes "console" ∷ codes "a~" ∷ codes "a.b~1" ∷ codes "a~b1"
-    ∷ []
+    ∷ codes "com" ∷ codes "abc1" ∷ codes "12" ∷ codes "com0" ∷ codes "com10" ∷ codes "a.con" ∷ codes "console"
+    ∷ codes "a~" ∷ codes "a.b~1" ∷ codes "a~b1" ∷ []
 
 abbrev pub other_texts : List (List ℕ)
 other_texts =
@@ -37,7 +37,8 @@ other_texts =
     ∷ codes "a/v18446744073709551616" ∷ codes "gopkg.in/a" ∷ codes "gopkg.in/a.v" ∷ codes "gopkg.in/a.v01"
     ∷ codes "gopkg.in/a.v0-unstable" ∷ codes "gopkg.in/a/v2" ∷ codes "gopkg.in/a.v1-stable"
     -- the names of devices, before the first dot, in any case; short names
-    ∷ codes "con" ∷ codes "a/Aux.txt" ∷ codes "prn" ∷ codes "NUL.x.y" ∷ codes "com1" ∷ codes "com9.x" ∷ codes "lpt1" ∷ codes "LPT9" ∷ codes "a~1"
+    ∷ codes "con" ∷ codes "a/Aux.txt" ∷ codes "prn" ∷ codes "NUL.x.y" ∷ codes "com1" ∷ codes "com9.x"
+    ∷ codes "lpt1" ∷ codes "LPT9" ∷ codes "a~1"
     ∷ codes "~1" ∷ codes "b/a~12.c" ∷ []
 
 abbrev pub fetchable_paths : List (List ℕ)

@@ -73,8 +73,8 @@ list_worlds =
     ∷ all_of (codes "v1.0.1-0.20200101000000-0\nv2.0.1-0.20200101000000-a+incompatible\nv1.0.0\n") (codes " v1.0.0")
     -- any major number, and any letters and digits as a revision
     ∷ all_of (codes "v1.0.0-20200101000000-a\nv0.0.0-20200101000000-XYZ9\nv0.1.0\n") (codes " v0.1.0")
-    -- no pseudo-versions: fifteen digits; a letter among them, no revision, a patch number without a front, a dot in the
-    -- revision
+    -- no pseudo-versions: fifteen digits; a letter among them, no revision, a patch number without a front, a dot in
+    -- the revision
     ∷ all_of (codes "v0.0.0-202001010000000-a\n") (codes " v0.0.0-202001010000000-a")
     ∷ all_of
     (codes "v0.0.0-2020010100000x-a\nv0.0.0-20200101000000-\nv1.0.1-20200101000000-a\nv1.0.0-x.0.20200101000000-a.b\n")
