@@ -68,7 +68,7 @@ others_are_set = all_so IsTold Holds told_so other_worlds (refl, (refl, (refl, (
 
 pub operations_are_refused : OperationsAreRefused
 unfolding on_literals
-operations_are_refused = all_so IsTold Holds told_so refused_worlds (refl, (refl, (refl, (refl, (refl, (refl, (refl, (refl, (refl, (refl, (refl, (refl, (refl, (refl, (refl, (refl, (refl, (refl, (refl, (refl, (refl, (refl, (refl, (refl, (refl, (refl, tt))))))))))))))))))))))))))
+operations_are_refused = all_so IsTold Holds told_so refused_worlds (refl, (refl, (refl, (refl, (refl, (refl, (refl, (refl, (refl, (refl, (refl, (refl, (refl, (refl, (refl, (refl, (refl, (refl, (refl, (refl, (refl, (refl, (refl, (refl, (refl, (refl, (refl, (refl, tt))))))))))))))))))))))))))))
 
 pub directives_are_reported : DirectivesAreReported
 unfolding on_literals

@@ -47,4 +47,4 @@ words_are_laid_out = all_so IsTold Holds told_so words_worlds (refl, (refl, (ref
 
 pub syntax_is_reported : SyntaxIsReported
 unfolding on_literals
-syntax_is_reported = all_so IsTold Holds told_so fault_worlds (refl, (refl, (refl, (refl, (refl, (refl, (refl, (refl, (refl, (refl, (refl, (refl, (refl, (refl, (refl, (refl, (refl, (refl, (refl, tt)))))))))))))))))))
+syntax_is_reported = all_so IsTold Holds told_so fault_worlds (refl, (refl, (refl, (refl, (refl, (refl, (refl, (refl, (refl, (refl, (refl, (refl, (refl, (refl, (refl, (refl, (refl, (refl, (refl, (refl, (refl, tt)))))))))))))))))))))

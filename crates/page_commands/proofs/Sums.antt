@@ -144,7 +144,7 @@ told_so w is = subst (SaysOfHash w.sums (codes "example.com/a") (codes "v1.0.0")
 pub sums_are_read : SumsAreRead
 unfolding on_literals
 sums_are_read = record {
-  hashes = all_so IsTold Holds told_so hash_worlds (refl, (refl, (refl, (refl, (refl, (refl, (refl, (refl, (refl, (refl, (refl, (refl, (refl, (refl, (refl, (refl, (refl, (refl, (refl, (refl, (refl, (refl, tt))))))))))))))))))))));
+  hashes = all_so IsTold Holds told_so hash_worlds (refl, (refl, (refl, (refl, (refl, (refl, (refl, (refl, (refl, (refl, (refl, (refl, (refl, (refl, (refl, (refl, (refl, (refl, (refl, (refl, (refl, (refl, (refl, tt)))))))))))))))))))))));
   invalid = ((lit< tt, refl), ((lit< tt, refl), ((lit< tt, refl), ((lit< tt, refl), ((lit< tt, refl), ((lit< tt, refl), tt))))));
   valid = (leb-true _ _ refl, (leb-true _ _ refl, (leb-true _ _ refl, tt)));
   none_invalid = λ is. omega (arith, is.0);

@@ -1,6 +1,9 @@
 -- Single definitions, computed.
-use Rattle.std.proofs.Common.{◌≡◌, ◌∙◌, ◌++◌, ℕ, List, [], ◌∷◌, ap, arith, codes, inl, inr, lit<, refl, sym}
+use Rattle.std.proofs.Common.{◌≡◌, ◌∙◌, ◌++◌, ◌||◌, ◌==◌, ℕ, Bool, true, false, List, [], ◌∷◌, ap, arith, codes, inl, inr, lit<, refl, sym}
 use Rattle.std.specs.Prelude.{slice_index}
+use Rattle.std.specs.Fmt.{decimal}
+use Rattle.std.specs.List.{list_any}
+use Rattle.std.proofs.lemmas.Bool.{false≢true}
 use Rattle.page_commands.specs.Fit.{FitsMajor}
 use Rattle.page_commands.specs.Path.{EndsInDotNumber, IsPath, IsUnderGopkg}
 use Rattle.page_commands.specs.Pseudo.{IsStamp}
@@ -72,6 +75,9 @@ parts_are_told = record {
   bad = refl;
   ends = refl;
   bare = refl;
+  comments = refl;
+  bare_kind = refl;
+  numbers = refl;
   marks = refl;
   place = refl;
   word = refl;
@@ -90,6 +96,19 @@ parts_are_told = record {
 
 first_byte : (text : List ℕ) (byte : ℕ) → slice_index text 0 ≡ byte → (byte ≡ 103 → ⊥) → IsUnderGopkg text → ⊥
 first_byte text byte begins other (rest, is) = other (sym begins ∙ ap (λ (t : List ℕ). slice_index t 0) is)
+
+has_v : (front tail : List ℕ) → list_any (λ b. b == 118) (front ++ codes "/v" ++ tail) ≡ true
+has_v [] tail = refl
+has_v (x ∷ front) tail = rw (has_v front tail) (or_true (x == 118))
+  where
+    or_true : (b : Bool) → (b || true) ≡ true
+    or_true true = refl
+    or_true false = refl
+
+-- a text without a `v` does not have it behind a slash
+no_v : (text front tail : List ℕ) → list_any (λ b. b == 118) text ≡ false → text ≡ front ++ codes "/v" ++ tail → ⊥
+no_v text front tail none is =
+    false≢true (sym none ∙ (ap (λ (t : List ℕ). list_any (λ b. b == 118) t) is ∙ has_v front tail))
 
 no_zero : EndsInDotNumber (codes "gopkg.in/a.v0-unstable") 0 → ⊥
 no_zero (inl is) = ends_in_none (codes "gopkg.in/a.v0-unstable") 101 refl (codes ".v") (omega arith) 0 (omega arith) is
@@ -123,7 +142,7 @@ majors_are_told = record {
   fit_slash = (refl, refl);
   fit_dot = (inl refl, refl);
   early = (inr (refl, codes "20200101000000-a", refl), refl);
-  outside = λ has. first_byte (codes "m") 109 refl (λ e. omega (arith, e)) has.0;
+  outside = λ has. first_byte (codes "a/b.v1") 97 refl (λ e. omega (arith, e)) has.0;
   below = λ has. has.0 (codes "a", refl);
   below_slash = λ has. has.0 (codes "a/v2", refl);
   first = λ has. omega (arith, has.1);
@@ -132,7 +151,10 @@ majors_are_told = record {
   large_dot = λ has. omega (arith, has.1);
   zero = no_zero;
   bare = ends_otherwise (codes "a/v") 118 refl refl;
+  unmarked = λ (front, tail, is, some, all). no_v (codes "a/2") front tail refl is;
+  marked = λ (front, is). no_v (codes "a/x2") front (decimal 2) refl is;
   other = λ is. (let wrong : 1 ≡ 2 = is.0 in omega (arith, wrong));
+  early_slash = λ is. (let wrong : 0 ≡ 1 = is.0 in omega (arith, wrong));
   build = λ is. some_build is.1;
   build_dot = λ is. some_build is.1;
   later = not_later;

@@ -169,6 +169,8 @@ refused_worlds =
     ∷ refused (codes "retract=[v1.0.0,v1.1.0") (codes "Spelling")
     ∷ refused (codes "retract=v1.0.0]") (codes "Spelling")
     ∷ refused (codes "retract=]") (codes "Spelling")
+    ∷ refused (codes "retract=xv1.0.0,v1.1.0]") (codes "Spelling")
+    ∷ refused (codes "retract=[v1.0.0,v1.1.0x") (codes "Spelling")
     ∷ refused (codes "replace=a.b=...") (codes "Spelling")
     ∷ refused (codes "replace=a.b=./x\ny") (codes "Spelling")
     ∷ refused (codes "go") (codes "Spelling")

@@ -76,6 +76,8 @@ fault_worlds =
     ∷ faulty (codes "a (\nb (\n)\n") (codes "go.mod:2: NestedOpen\n")
     ∷ faulty (codes "a b (\n") (codes "go.mod:1: NestedOpen\n")
     ∷ faulty (codes "\"a\" (\n") (codes "go.mod:1: NestedOpen\n")
+    ∷ faulty (codes "(\n") (codes "go.mod:1: NestedOpen\n")
+    ∷ faulty (codes "a (\n(\n)\n") (codes "go.mod:2: NestedOpen\n")
     ∷ faulty (codes "module \"m\n") (codes "go.mod:1: OpenString\n")
     ∷ faulty (codes "module \"\\n\"\n") (codes "go.mod:1: BadEscape\n")
     ∷ faulty (codes "\nmodule m /* x */\n") (codes "go.mod:2: BlockComment\n")

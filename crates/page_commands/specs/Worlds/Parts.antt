@@ -2,21 +2,23 @@
 -- lines of a go.sum.
 use Rattle.std.specs.Prelude.{◌≡◌, ◌+◌, ◌++◌, ℕ, zero, suc, List, [], ◌∷◌, filter, map, not, Option, Some, None, Result, Ok, Err, codes}
 use Rattle.page_commands.specs.Asked.{folder_file, mod_file}
-use Rattle.page_commands.specs.Bare.{can_be_bare}
+use Rattle.page_commands.specs.Bare.{can_be_bare, opens_comment}
 use Rattle.page_commands.specs.Bytes.{is_bad, is_blank, is_bracket_or_comma, is_quote, is_word_byte}
-use Rattle.page_commands.specs.Document.{Line}
+use Rattle.page_commands.specs.Document.{Line, is_bare}
 use Rattle.page_commands.specs.Faults.{first_of, rank}
 use Rattle.page_commands.specs.Fields.{Dependency, dependency_of}
 use Rattle.page_commands.specs.Files.{lines_in}
 use Rattle.page_commands.specs.Reading.{sum_fault}
 use Rattle.page_commands.specs.Fit.{FitsMajor}
 use Rattle.page_commands.specs.Misreading.{misreading_word}
-use Rattle.page_commands.specs.Path.{EndsInDotNumber, EndsInSlashVersion, HasMajor}
+use Rattle.page_commands.specs.Number.{starts_as_no_number}
+use Rattle.page_commands.specs.Path.{EndsInDotNumber, EndsInNumber, EndsInSlashVersion, HasMajor}
 use Rattle.page_commands.specs.Pseudo.{IsPseudo}
 use Rattle.page_commands.specs.Reports.{syntax_place}
 use Rattle.page_commands.specs.Sums.{Sums, check_in}
 use Rattle.page_commands.specs.Types.Class.{Class, NoSum, SumDiffers}
 use Rattle.page_commands.specs.Types.DirectiveKind.{BadGo, BadPath, BadVersion, ConflictingReplace, Misfit, NoModule, Repeated, UnknownVerb, WrongArguments}
+use Rattle.page_commands.specs.Types.Kind.{Bare, Mark, Text}
 use Rattle.page_commands.specs.Types.Major.{Dot, NoSuffix, Slash}
 use Rattle.page_commands.specs.Types.Misreading as misreading
 use Rattle.page_commands.specs.Types.Punct.{LeftParen, RightParen}
@@ -42,7 +44,7 @@ pub record MajorsAreTold : Type 0 where
   pub fit_dot : FitsMajor (Dot 2) (codes "v2.0.0")
   pub early : FitsMajor (Dot 1) (codes "v0.0.0-20200101000000-a")
   -- each path below gopkg.in has the one suffix, and no other path has; elsewhere it is 2 at least
-  pub outside : HasMajor (codes "m") (Dot 1) → ⊥
+  pub outside : HasMajor (codes "a/b.v1") (Dot 1) → ⊥
   pub below : HasMajor (codes "gopkg.in/a") NoSuffix → ⊥
   pub below_slash : HasMajor (codes "gopkg.in/a/v2") (Slash 2) → ⊥
   pub first : HasMajor (codes "a/v1") (Slash 1) → ⊥
@@ -51,8 +53,11 @@ pub record MajorsAreTold : Type 0 where
   pub large_dot : HasMajor (codes "gopkg.in/a.v18446744073709551616") (Dot 18446744073709551616) → ⊥
   pub zero : EndsInDotNumber (codes "gopkg.in/a.v0-unstable") 0 → ⊥
   pub bare : EndsInSlashVersion (codes "a/v") → ⊥
+  pub unmarked : EndsInSlashVersion (codes "a/2") → ⊥
+  pub marked : EndsInNumber (codes "a/x2") (codes "/v") 2 → ⊥
   -- another major number, a build, and a version of before a module was one
   pub other : FitsMajor (Slash 2) (codes "v1.0.0") → ⊥
+  pub early_slash : FitsMajor (Slash 1) (codes "v0.0.0-1") → ⊥
   pub build : FitsMajor (Slash 2) (codes "v2.0.0+incompatible") → ⊥
   pub build_dot : FitsMajor (Dot 2) (codes "v2.0.0+incompatible") → ⊥
   pub later : FitsMajor (Dot 2) (codes "v0.0.0-1") → ⊥
@@ -100,8 +105,14 @@ pub record PartsAreTold : Type 0 where
       ≡ counted 0 33 ++ 34 ∷ 40 ∷ 41 ∷ 44 ∷ 91 ∷ 93 ∷ 96 ∷ 123 ∷ 125 ∷ 127 ∷ []
   -- what may be a bare word
   pub bare : filter can_be_bare ([] ∷ codes "a//b" ∷ codes "a/*b" ∷ codes "/" ∷ codes "a/" ∷ codes "=>a" ∷ codes "=a"
-      ∷ codes ">a" ∷ codes "a=>b" ∷ [])
-      ≡ codes "/" ∷ codes "a/" ∷ codes "=a" ∷ codes ">a" ∷ codes "a=>b" ∷ []
+      ∷ codes ">a" ∷ codes "a=>b" ∷ codes "a>b" ∷ [])
+      ≡ codes "/" ∷ codes "a/" ∷ codes "=a" ∷ codes ">a" ∷ codes "a=>b" ∷ codes "a>b" ∷ []
+  pub comments : filter opens_comment ([] ∷ codes "/" ∷ codes "//" ∷ codes "/*" ∷ codes "/a" ∷ codes "a//" ∷ [])
+      ≡ codes "//" ∷ codes "/*" ∷ []
+  pub bare_kind : filter is_bare (Bare ∷ Text ∷ Mark ∷ []) ≡ Bare ∷ []
+  -- a number has no sign, and no zero in front
+  pub numbers : filter starts_as_no_number ([] ∷ codes "+1" ∷ codes "01" ∷ codes "0" ∷ codes "1" ∷ codes "1+" ∷ [])
+      ≡ [] ∷ codes "+1" ∷ codes "01" ∷ []
   pub marks : map mark_text (LeftParen ∷ RightParen ∷ []) ≡ codes "(" ∷ codes ")" ∷ []
   -- a file that is too long has its fault in line 0
   pub place : syntax_place syntax.TooMany ≡ Some (0, misreading.TooMany)

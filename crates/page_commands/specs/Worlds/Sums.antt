@@ -60,6 +60,7 @@ hash_worlds =
     -- hashes of other kinds don't count
     ∷ of_a (own (codes "h2:x")) Unlisted
     ∷ of_a (own (codes "H1:x")) Unlisted
+    ∷ of_a (own (codes "h1x")) Unlisted
     ∷ of_a (own (codes "h2:x") ++ own hash_a) Good
     ∷ of_a (own (codes "h1:")) Differs
     -- blanks between and around fields, blank lines, a last line without a line feed
