@@ -94,7 +94,7 @@ pub record SumsAreRead : Type 0 where
   -- a go.sum of no line, of blank lines, and of any three fields
   pub valid : AllByRecursion HasValidLines ([] ∷ codes "\n \t\r\n" ∷ codes "x y z\n" ∷ [])
   -- one without an invalid line has no first one
-  pub none_invalid : IsInvalid (codes "x y z\n", 2) → ⊥
+  pub none_invalid : IsInvalid (codes "x y z", 2) → ⊥
   -- what is reported
   pub classes : class_of_sum Good ≡ None
   pub none : class_of_sum Unlisted ≡ Some NoSum
