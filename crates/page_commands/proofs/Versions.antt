@@ -292,6 +292,29 @@ one_listed = listing (codes "v1.0.0\n") ∷ []
 none_answered : HasNone one_listed (list_file m)
 none_answered = none_fails one_listed (list_file m) (λ needs unasked. some_answer (bytes (codes "v1.0.0\n")) unasked)
 
+no_word : Contains (words (codes "v1.0.0\n")) (codes "v0.9.0") → ⊥
+unfolding on_literals
+no_word there = false≢true (every_one (λ (word : List ℕ). not (pointwise nat_eq word (codes "v0.9.0"))) (words (codes "v1.0.0\n")) refl (codes "v0.9.0") there)
+
+same_version : (a b : List ℕ) → mod_file m a ≡ mod_file m b → a ≡ b
+same_version a b e = cc e
+
+same_list : (a b : List ℕ) → Some (bytes a) ≡ Some (bytes b) → a ≡ b
+same_list a b e = cc e
+
+latest_there : (versions : List (List ℕ)) (latest : List ℕ) → IsLatest versions latest → Contains versions latest
+latest_there versions latest (inl is) = is.listed
+latest_there versions latest (inr (none, is)) = is.listed
+
+-- the latest version is a word of the list
+no_other : VersionsNeed m false (answer_in one_listed) (mod_file m (codes "v0.9.0")) → ⊥
+no_other (inl is) = (let wrong : mod_file m (codes "v0.9.0") ≡ list_file m = is.1 in cc wrong)
+no_other (inr (versions, latest, is, chosen)) =
+    let has = chosen.listed in
+    let there = ((has.listed.members latest).0 (latest_there versions latest chosen.greatest)).named in
+    no_word (subst (λ (list : List ℕ). Contains (words list) (codes "v0.9.0")) (sym (same_list (codes "v1.0.0\n") has.list has.answered))
+    (subst (Contains (words has.list)) (sym (same_version (codes "v0.9.0") latest is)) there))
+
 none_refused : HasNone ((list_file m, absent) ∷ []) (list_file m)
 none_refused = none_fails ((list_file m, absent) ∷ []) (list_file m) (λ needs unasked. some_answer absent unasked)
 
@@ -330,10 +353,12 @@ device_is_reported = record {
     },
   )) refl refl refl;
   local = no_list refl refl;
+  local_all = no_list refl refl;
   unlisted = λ versions has. false≢true has.fetchable;
   answered = none_answered;
   refused = none_refused;
   unneeded = none_needed;
+  other = none_fails one_listed (mod_file m (codes "v0.9.0")) (λ needs unasked. no_other needs);
   lesser = not_lesser;
   pre = not_pre;
 }

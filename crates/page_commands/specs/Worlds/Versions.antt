@@ -168,11 +168,13 @@ pub record DeviceIsReported : Type 0 where
       (codes "@v1.1.0")
   pub local : VersionsEnds (codes "m") false (answer_in []) [] (reports (codes "m: NotFetchable\n"))
   -- whatever was answered of such a path, it has no list
+  pub local_all : VersionsEnds (codes "m") true (answer_in local_list) [] (reports (codes "m: NotFetchable\n"))
   pub unlisted : (versions : List (List ℕ)) → HasListed (codes "m") (answer_in local_list) versions → ⊥
   -- it can't fail on a file that was answered, or that is not needed
   pub answered : HasNone (listing (codes "v1.0.0\n") ∷ []) (list_file m)
   pub refused : HasNone ((list_file m, absent) ∷ []) (list_file m)
   pub unneeded : HasNone [] (mod_file m (codes "v1.0.0"))
+  pub other : HasNone (listing (codes "v1.0.0\n") ∷ []) (mod_file m (codes "v0.9.0"))
   -- a lesser release is not the latest version, nor is a pre-release beside a release
   pub lesser : IsLatest (codes "v1.0.0" ∷ codes "v1.1.0" ∷ []) (codes "v1.0.0") → ⊥
   pub pre : IsLatest (codes "v1.1.0" ∷ codes "v1.2.0-rc.1" ∷ []) (codes "v1.2.0-rc.1") → ⊥
