@@ -162,7 +162,8 @@ pub fn hosts_are_reported()
     ensures { HostsAreReported }
 {}
 
-/// The device fails on a folder's file, and can't fail on a file that was answered.
+/// The device fails on the file of a folder, of a fork or of a module deep down, first or last, and can't fail on a file
+/// that was answered.
 pub fn folder_device_is_reported()
     ensures { FolderDeviceIsReported }
 {}
@@ -194,7 +195,7 @@ pub fn others_do_not_hold()
     ensures { OthersDoNotHold }
 {}
 
-/// Go 1.9 is below 1.17, go 1.19 to 3.0 are not.
+/// Go 1.9 is below 1.17, go 1.19 to 3.0 are not; below an unpruned file everything is opened.
 pub fn go_versions_are_told()
     ensures { GoVersionsAreTold }
 {}
