@@ -7,9 +7,10 @@ opens specs/ finds what the promises of a crate mean.
                         status is 1 if there is one
 
 Public contracts are those of the public functions in a crate's root or a public module, the laws among them, or that
-one of these exports; of a type's public methods and model; and of what a type implements and a trait declares, unless
-one of both is private to the crate. A contract reaches the definitions that it names, and what these name. crates/page
-is left out, whose definitions are copies.
+one of these exports; of a type's public methods; and of what a type implements and a trait declares, unless one of both
+is private to the crate. The model of a public type counts, and of one that it or a contract is about, or is made of if
+it has no value of its own. A contract reaches the definitions that it names, and what these name. crates/page is left
+out, whose definitions are copies.
 """
 
 import collections
@@ -31,31 +32,72 @@ UNREAD = {
 }
 
 
-def contracts(crate):
-    """The public contracts of a crate: for each the item that has it, and what the names in it mean."""
-    items = {file: list(items_of(code_of(file))) for file in files("src/**/*.rt", crate)}
-    every = [it for those in items.values() for it in those]
-    hidden = {it.name for it in every if it.kind in TYPES} - {it.name for it in every if it.visibility == "pub"}
-    modules = {it.name for it in every if it.kind == "mod" and it.visibility == "pub"} | {"lib"}
-    exported = {name for file in items for name in exports(file)}
-    for file, those in items.items():
-        scope = scope_of("\n".join(it.text for it in those if it.kind == "use"))
-        for one in those:
-            if one.kind in ("impl", "trait"):
-                if not hidden & {one.name.rpartition("::")[2], re.match(r"\w*", one.trait)[0]}:
-                    for it in one.inner():
-                        if one.trait or one.kind == "trait" or it.visibility == "pub":
-                            yield f"{file} {it.name}", used_in(it.contract, scope | scope_of(one.text), {}).values()
-            elif one.visibility == "pub" and (file.stem in modules or one.name in exported) or one.name == "main":
-                yield f"{file} {one.name}", used_in(one.contract, scope, {}).values()
+class Crate:
+    """What a crate promises: its public contracts, each with the item that has it and what the names in it mean, the
+    types that their signatures name; and by the name of a type what its model says, and the types of its fields, if it
+    has no value of its own."""
+
+    def __init__(self, name):
+        self.name, self.public, self.named = name, [], set()
+        self.models, self.fields = collections.defaultdict(list), {}
+        self.items = {file: list(items_of(code_of(file))) for file in files("src/**/*.rt", name)}
+        every = [it for those in self.items.values() for it in those]
+        public = {it.name for it in every if it.visibility == "pub"}
+        self.hidden = {it.name for it in every if it.kind in TYPES} - public
+        modules = {it.name for it in every if it.kind == "mod" and it.visibility == "pub"} | {"lib"}
+        exported = {name for file in self.items for name in exports(file)}
+        for file, those in self.items.items():
+            scope = scope_of("\n".join(it.text for it in those if it.kind == "use"))
+            for one in those:
+                if one.kind in ("impl", "trait"):
+                    self.read_block(file, one, scope | scope_of(one.text))
+                elif one.visibility == "pub" and (file.stem in modules or one.name in exported) or one.name == "main":
+                    self.offer(file, one, used_in(one.contract, scope, {}).values())
+                if one.kind in ("struct", "enum"):
+                    self.fields.setdefault(one.name, set(re.findall(r"[A-Z]\w*", one.text)))
+
+    def read_block(self, file, block, scope):
+        """Reads an `impl` or a trait."""
+        type_, trait = block.name.rpartition("::")[2], re.match(r"\w*", block.trait)[0]
+        for it in block.inner():
+            found = used_in(it.contract, scope, {}).values()
+            if trait == "Model":
+                self.models[type_] += found
+                self.fields |= {type_: set()} if "ghost Value" in it.text else {}
+            if not self.hidden & {type_, trait} and (trait or block.kind == "trait" or it.visibility == "pub"):
+                self.offer(file, it, found)
+
+    def offer(self, file, item, found):
+        self.public.append((f"{file} {item.name}", found))
+        self.named |= set(re.findall(r"[A-Z]\w*", item.signature())) if item.kind == "fn" else set()
 
 
-def misplaced(specs, public):
-    """The definitions that stand in the wrong folder, given the public contracts."""
-    reached = set(reached_from(it for _, found in public for it in found)[0])
+def reached(found, crates):
+    """The definitions that these reach, and the models of types that are public, in a public signature, or named."""
+    left = [(it, name) for it in crates for name in it.fields if name not in it.hidden - it.named]
+    seen, known, by_name = set(left), list(found), {it.name: it for it in crates}
+    while True:
+        while left:
+            crate, name = left.pop()
+            known += crate.models[name]
+            more = {(crate, it) for it in crate.fields.get(name, ()) if it in crate.hidden} - seen
+            seen |= more
+            left += more
+        ones, leaves = reached_from(known)
+        owners = {(by_name.get(it.owner[0]), it.owner[2]) for it in leaves if it.owner}
+        left += {(crate, name) for crate, name in owners if crate} - seen
+        seen.update(left)
+        if not left:
+            return set(ones)
+
+
+def misplaced(specs, crates):
+    """The definitions that stand in the wrong folder."""
+    every = reached((it for crate in crates for _, found in crate.public for it in found), crates)
     for it in (one for file in specs for one in definitions(file).values()):
-        if (it in reached) == ("Private" in it.file.parts):
-            by = next((item for item, found in public if it in reached_from(found)[0]), None)
+        if (it in every) == ("Private" in it.file.parts):
+            items = (item for crate in crates for item, found in crate.public if it in reached_from(found)[0])
+            by = next(items, "a model") if it in every else None
             yield f"{it.file}:{it.line}: {it.name}: " + (
                 f"a public contract reaches it, that of {by}" if by else "no public contract reaches it")
 
@@ -82,8 +124,8 @@ def main():
     """Compares the folders of all definitions."""
     crates = sorted(it.parent.name for it in CRATES.glob("*/src") if it.parent.name not in COPYING)
     code, specs = ([it for crate in crates for it in files(part, crate)] for part in ("src/**/*.rt", "specs/**/*.antt"))
-    public = [it for crate in crates for it in contracts(crate)]
-    wrong = [*misplaced(specs, public), *shared(specs), *(it for file in [*code, *specs] for it in unread(file))]
+    wrong = [*misplaced(specs, [*map(Crate, crates)]), *shared(specs)]
+    wrong += [it for file in [*code, *specs] for it in unread(file)]
     print(*wrong, f"{sum(len(definitions(it)) for it in specs)} definitions, {len(wrong)} wrong", sep="\n")
     return 1 if wrong else 0
 
