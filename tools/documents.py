@@ -408,10 +408,9 @@ def keep_pins(tally):
 def keep_figures(tally):
     """Whether README.md shows of speed what docs/dev/BENCHMARKS.md has, and both name a commit that was measured."""
     readme, page = shown_in("README.md"), shown_in(FIGURES)
-    figures = [(it, it in cells_of(page)) for it in sorted(cells_of(readme))]
-    figures += [(it, it in page) for it in readme if it and not it.startswith("|")]
-    for what, is_right in figures:
-        tally.tell("figures", is_right, f"README.md: {FIGURES} has no '{what}'; bench/tables.sh --write writes both")
+    for it in [*sorted(cells_of(readme)), *(it for it in readme if it and not it.startswith("|"))]:
+        is_right = it in cells_of(page) or it in page
+        tally.tell("figures", is_right, f"README.md: {FIGURES} has no '{it}'; bench/tables.sh --write writes both")
     for needed in "| `gomod list` |", "Measured at `":
         is_there = any(needed in it for it in readme)
         tally.tell("figures", is_there, f"README.md: between its marks there is no '{needed}'")
@@ -426,14 +425,13 @@ def keep_figures(tally):
 def keep_derives(tally):
     """Whether types derive no Hash, and Debug if they are errors or docs/lib/LIBRARY.md names them: each is proved."""
     named = set(re.findall(CALL, re.search(r"`Debug` is derived by errors and by (.*), `Hash`", read(LIBRARY))[1]))
-    for path in glob.glob("crates/*/src/**/*.rt", recursive=True):
-        for words, name in ((words.split(", "), name) for words, name in re.findall(DERIVE, read(path))):
-            tally.tell("derives", "Hash" not in words, f"{path}: {name} derives Hash")
-            if "Debug" in words and "Error" not in words:
-                tally.tell("derives", name in named, f"{LIBRARY}: {name} derives Debug, and isn't named there")
-                named.discard(name)
-    for name in named:
-        tally.tell("derives", False, f"{LIBRARY}: {name} derives no Debug, or is an error")
+    derives = {name: words.split(", ") for path in glob.glob("crates/*/src/**/*.rt", recursive=True)
+               for words, name in re.findall(DERIVE, read(path))}
+    debug = {name for name, words in derives.items() if "Debug" in words and "Error" not in words}
+    for name in sorted({*derives, *named}):
+        tally.tell("derives", "Hash" not in derives.get(name, ()), f"{LIBRARY}: {name} derives Hash")
+        is_right = (name in debug) == (name in named)
+        tally.tell("derives", is_right, f"{LIBRARY}: {name} derives Debug or is named there, and not both")
 
 
 def trusted(log, is_written):
