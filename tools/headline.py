@@ -86,33 +86,33 @@ def exported(crate):
 # ---- what stands between marks
 
 
-def code(text):
-    return f"```\n{text}\n```\n"
-
-
 def shown(order):
-    """What stands below a mark: its text, the definitions that it has, and what the names in it mean."""
-    what, names = order.removeprefix("contract ").split(":")
-    name, *function = what.split()
+    """What stands below a mark but `names`: its text, the definitions that it has, and what the names in it mean."""
+    if order == "worlds":
+        return worlds(), [], set()
+    what, names = order.removeprefix("contract ").split(":") if ":" in order else (order, "")
+    name, *words = what.split()
+    if name == "files":
+        return rows_of_files(words[0], names.split()), [], set()
     file, link = CRATES / name, f"[{name}](../../crates/{name})"
-    known = clauses_of(file, *function) if function else definitions(file)
+    known = clauses_of(file, *words) if words else definitions(file)
     missing = [it for it in names.split() if it not in known]
     if missing:
         sys.exit(f"headline: {what} has no {' '.join(missing)}")
     found = [known[it] for it in names.split()]
-    if function:
-        return f"{link}, `{function[0]}`:\n" + code("\n".join(found)), [], used_in_clauses(file, found)
-    used = {it for one in found for it in used_by(one).items()}
-    return f"{link}:\n" + code("\n\n".join(one.whole() for one in found)), found, used
+    if words:
+        code = "\n".join(found)
+        return f"{link}, `{words[0]}`:\n```\n{code}\n```\n", [], used_in_clauses(file, found)
+    code = "\n\n".join(one.whole() for one in found)
+    return f"{link}:\n```\n{code}\n```\n", found, {it for one in found for it in used_by(one).items()}
 
 
 def worlds():
     """Which functions try which definition: the documentation of each says it in backquotes."""
     file = "gomod_laws/src/example_world.rt"
-    text, rows = (CRATES / file).read_text(), []
-    for comment, name in re.findall(r"((?:^///.*\n)+)(?:^#\[.*\n)*^pub fn (\w+)", text, re.M):
-        rows.append((name, " ".join(it[3:].strip() for it in comment.strip().split("\n"))))
-    return f"[{file}](../../crates/{file}):\n\n" + "".join(f"- `{name}`: {what}\n" for name, what in rows)
+    found = re.findall(r"(?m)((?:^///.*\n)+)(?:^#\[.*\n)*^pub fn (\w+)", (CRATES / file).read_text())
+    rows = [f"- `{name}`: {' '.join(re.sub('(?m)^///', '', comment).split())}\n" for comment, name in found]
+    return f"[{file}](../../crates/{file}):\n\n" + "".join(rows)
 
 
 @functools.cache
@@ -145,11 +145,10 @@ class Page:
     def __init__(self, name):
         self.path = FOLDER / f"{name}.md"
         self.text = self.path.read_text()
-        self.defined, self.uses, self.crates = [], set(), set()
+        self.crates = re.findall(r"<!-- show files (\w+)", self.text)
+        self.defined, self.uses = [], set()
         for order, _ in SHOWN.findall(self.text):
-            if order.startswith("files "):
-                self.crates.add(re.split("[ :]", order)[1])
-            elif order not in ("names", "worlds"):
+            if order != "names":
                 _, found, used = shown(order)
                 self.defined += found
                 self.uses |= used
@@ -187,9 +186,7 @@ class Page:
         """The text of the page with what the sources say, beside the other page."""
 
         def renew(found):
-            kind, *words = re.split("[ :]+", found[1])
-            body = (self.names(other) if kind == "names" else worlds() if kind == "worlds"
-                    else rows_of_files(words[0], words[1:]) if kind == "files" else shown(found[1])[0])
+            body = self.names(other) if found[1] == "names" else shown(found[1])[0]
             return f"<!-- show {found[1]} -->\n{body}<!-- end -->"
 
         return SHOWN.sub(renew, self.text)
