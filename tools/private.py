@@ -74,21 +74,16 @@ class Crate:
 
 def reached(found, crates):
     """The definitions that these reach, and the models of types that are public, in a public signature, or named."""
-    left = [(it, name) for it in crates for name in it.fields if name not in it.hidden - it.named]
-    seen, known, by_name = set(left), list(found), {it.name: it for it in crates}
-    while True:
-        while left:
-            crate, name = left.pop()
-            known += crate.models[name]
-            more = {(crate, it) for it in crate.fields.get(name, ()) if it in crate.hidden} - seen
-            seen |= more
-            left += more
+    known, seen, by_name = list(found), set(), {it.name: it for it in crates}
+    left = {(it, name) for it in crates for name in it.fields if name not in it.hidden - it.named}
+    while left:
+        seen |= left
+        known += [it for crate, name in left for it in crate.models[name]]
         ones, leaves = reached_from(known)
-        owners = {(by_name.get(it.owner[0]), it.owner[2]) for it in leaves if it.owner}
-        left += {(crate, name) for crate, name in owners if crate} - seen
-        seen.update(left)
-        if not left:
-            return set(ones)
+        left = {(by_name[it.owner[0]], it.owner[2]) for it in leaves if it.owner and it.owner[0] in by_name}
+        left |= {(crate, it) for crate, name in seen for it in crate.hidden.intersection(crate.fields.get(name, ()))}
+        left -= seen
+    return set(ones)
 
 
 def misplaced(specs, crates):
