@@ -50,6 +50,7 @@ import shutil
 import subprocess
 import sys
 import tempfile
+import typing
 from unittest import mock
 
 import go_differences
@@ -65,6 +66,23 @@ SECONDS = 120
 NO_ROW = ": a difference that docs/use/GO.md does not name"
 
 
+class Result(typing.NamedTuple):
+    """What a command came to."""
+
+    status: int
+    out: str
+    err: str
+
+    def text(self):
+        return self.out if self.status == 0 else f"{self.err}status {self.status}\n"
+
+
+def run(words, folder, environment=None):
+    ran = subprocess.run(words, cwd=folder, capture_output=True, timeout=SECONDS, stdin=subprocess.DEVNULL,
+                         env=environment)
+    return Result(ran.returncode, ran.stdout.decode("utf-8", "surrogateescape"), ran.stderr.decode("utf-8", "replace"))
+
+
 class Programs:
     """go and gomod, each of which is run in a folder."""
 
@@ -76,11 +94,6 @@ class Programs:
 
     def gomod(self, words, folder):
         return run([GOMOD, *words], folder)
-
-
-def run(words, folder, environment=None):
-    return subprocess.run(words, cwd=folder, capture_output=True, timeout=SECONDS, stdin=subprocess.DEVNULL,
-                          env=environment)
 
 
 class Recorded(Programs):
@@ -95,9 +108,7 @@ class Recorded(Programs):
 
     def gomod(self, words, folder):
         ran = super().gomod(words, folder)
-        if words[0] == self.cut:
-            ran.stdout = re.sub(rb".*rsc\.io/sampler.*\n", b"", ran.stdout)
-        return ran
+        return ran._replace(out=re.sub(r".*rsc\.io/sampler.*\n", "", ran.out)) if words[0] == self.cut else ran
 
     def go(self, words, folder, environment, proxy):
         flags, cache = environment["GOFLAGS"], f"{environment['GOMODCACHE']}/cache/download"
@@ -110,8 +121,8 @@ class Recorded(Programs):
             after = files_below(folder, has_sums)
             kept = files_below(cache) if words[:2] in (("mod", "graph"), ("mod", "download")) else {}
             answer = {
-                "status": ran.returncode, "out": ran.stdout.decode().replace(room, "<ROOM>"),
-                "err": ran.stderr.decode().replace(room, "<ROOM>") if ran.returncode else "",
+                "status": ran.status, "out": ran.out.replace(room, "<ROOM>"),
+                "err": ran.err.replace(room, "<ROOM>") if ran.status else "",
                 "files": {name: text for name, text in after.items() if before.get(name) != text},
                 "cache": {name: None if laid.get(name) == text else text for name, text in kept.items()
                           if re.search(r"/list$|\.mod$", name)},
@@ -122,8 +133,8 @@ class Recorded(Programs):
             write(f"{folder}/{name}", text)
         for name, text in answer.get("cache", {}).items():
             write(f"{cache}/{name}", laid[name] if text is None else text)
-        out, err = (answer.get(it, "").replace("<ROOM>", room).encode() for it in ("out", "err"))
-        return subprocess.CompletedProcess(words, answer.get("status", 0), out, err)
+        out, err = (answer.get(it, "").replace("<ROOM>", room) for it in ("out", "err"))
+        return Result(answer.get("status", 0), out, err)
 
 
 def files_below(folder, has_sums=True):
@@ -135,17 +146,6 @@ def files_below(folder, has_sums=True):
                 at = os.path.join(base, name)
                 found[os.path.relpath(at, folder)] = "" if name.endswith(".zip") else read(at)
     return dict(sorted(found.items()))
-
-
-class Result:
-    """What a command came to: its status, its output and its report."""
-
-    def __init__(self, ran):
-        self.status, self.out = ran.returncode, ran.stdout.decode("utf-8", "surrogateescape")
-        self.err = ran.stderr.decode("utf-8", "replace")
-
-    def text(self):
-        return self.out if self.status == 0 else f"{self.err}status {self.status}\n"
 
 
 class Commands:
@@ -172,9 +172,8 @@ class Commands:
         return self.ask(folder, *words, "--proxy", self.proxy, *["--sum", "go.sum"] * sums)
 
     def heard(self, program, ran):
-        result = Result(ran)
-        self.said[program] += result.out + result.err
-        return result
+        self.said[program] += ran.out + ran.err
+        return ran
 
 
 def compare_world(programs, seed, room, found):
