@@ -1,31 +1,35 @@
 #!/usr/bin/env -S python3 -B
-"""Changes a definition in a copy of crates/page, and shows by what outcome of a world the change is refused.
+"""Changes a definition that crates/page or page_commands copies, and shows by what outcome of a world it is refused.
 
     tools/change_page.py                  lists the changes, each with its number and its definition, and compares their
-                                          counts with those in docs/proof/HEADLINE.md, and what is said of the worlds, and
-                                          tools/evaluate_cases.txt, with what is computed
+                                          counts with those in docs/proof/HEADLINE.md, and what is said of the worlds,
+                                          and tools/evaluate_cases.txt, with what is computed
     tools/change_page.py NUMBER..         tries these
     tools/change_page.py --all            tries all, and compares what refused them with HEADLINE, too
     tools/change_page.py --some SECONDS   tries as many as fit into so many seconds of CPU time, others for each commit
+    tools/change_page.py --others         tries the changes by rule of what page_commands alone has, and counts those
+                                          that no row of it refuses; neither --all nor --some has them
     tools/change_page.py --prove NUMBER.. lets the prover check these, which takes some 15 s of CPU time each
     tools/change_page.py --sample         lets the prover check all equal forms, and thirty others for each commit
 
-Changes are made by rule (tools/page_rules.py). tools/page_changes.txt has those that no rule makes, in blocks of two lines:
-the name of the definition with a title, and a text with `⟪what goes ⇒ what comes⟫` (`¶` is a line's end). After `== equal
-forms` come changes that say the same in other words. After `== no witness` come reasons, each with changes by rule that no
-world shows: the name of the definition, and a piece of the change as it is listed.
+Changes are made by rule (tools/page_rules.py). tools/page_changes.txt has those that no rule makes, in blocks of two
+lines: the name of the definition with a title, and a text with `⟪what goes ⇒ what comes⟫` (`¶` is a line's end). After
+`== equal forms` come changes that say the same in other words. After `== no witness` come reasons, each with changes by
+rule that no world shows: the name of the definition, and a piece of the change as it is listed.
 
 tools/evaluate.py judges: it computes each world's outcomes by the changed definitions. A change is refused by a value
-(another outcome), a second outcome, an outcome of a run that has none, a file (that the run needs now and didn't ask for,
-or asked for without need), a fact (of a single definition, in specs/Worlds/Parts; no outcome shows it), or a loss (no
-outcome any more; nothing else shows it). It prints the world with both outcomes, or with the file.
+(another outcome), a second outcome, an outcome of a run that has none, a file (that the run needs now and didn't ask
+for, or asked for without need), a fact (of a single definition, as of a path or a version; no outcome shows it), or a
+loss (no outcome any more; nothing else shows it). It prints the world with both outcomes, or with the file. If both
+crates have the definition, the worlds of either may refuse its change.
 
-The status is 1 if a change is not as it should be, can't be made since its text isn't there once, or if a count differs. It
-needs python3, and to prove rt and 2 GB of memory.
+The status is 1 if a change is not as it should be, can't be made since its text isn't there once, or if a count
+differs. It needs python3, and to prove rt and 2 GB of memory.
 """
 
 import collections
 import dataclasses
+import functools
 import pathlib
 import re
 import sys
@@ -36,11 +40,15 @@ import evaluate
 import page_rules
 import script
 from definitions import Unreadable
-from evaluate import OWN, Page, shown
+from evaluate import Page
 from refusals import make_room, run_check
+from sources import COPYING
+from values import shown
 
 CHANGES = pathlib.Path("tools/page_changes.txt")
 COUNTED = pathlib.Path("docs/proof/HEADLINE.md")
+MOST = 9  # CPU seconds for a change that can't be told
+LISTED = "hand", "equal"
 EQUAL, UNSHOWN = "== equal forms\n", "== no witness\n"
 # a block, in which each mark stands once
 SIDE = "([^⟪⇒⟫\n]*)"
@@ -50,57 +58,82 @@ VALUE, SECOND, OUTCOME = "refused by a value", "refused by a second outcome", "r
 FILE, FACT, LOSS = "refused by a file", "refused by a fact of a single definition", "refused by a loss"
 PASSES, OPEN = "PASSES", "OPEN"
 WITNESSED = (VALUE, SECOND, OUTCOME, FILE)
+REFUSED = (*WITNESSED, FACT, LOSS)
 # where the library has what a change may use and no definition does
 LIBRARY = [("◌+◌", ("Rattle.std.specs.Prelude", "◌+◌")), ("is_none", ("Rattle.std.specs.Option", "is_none"))]
 
 
 @dataclasses.dataclass
 class Change:
-    """One change: what it changes, the file with its text after it, and what is expected of it."""
+    """One change: for each crate that has the definition its file with the text after it, and what is expected of
+    it."""
 
     title: str
-    module: str
-    text: str
-    kind: str  # "made" by a rule, "unshown" by any world, by "hand", or "equal"
+    kind: str  # "made" by a rule, "unshown" by any world, by "hand", or "equal"; or one of the "others" by rule
+    places: dict
 
     def is_right(self, verdict):
         if self.kind == "equal":
             return verdict == PASSES
-        return verdict not in WITNESSED if self.kind == "unshown" else verdict in (*WITNESSED, FACT, LOSS)
+        return verdict not in WITNESSED if self.kind == "unshown" else verdict in REFUSED
 
 
-def changes(page):
+def changes():
     """All changes: those that are listed, and those by rule."""
-    parts = re.split(f"{EQUAL}|{UNSHOWN}", CHANGES.read_text())
-    if len(parts) != 3 or not parts[2].startswith("\n"):
-        sys.exit(f"change_page: {CHANGES} has a block that lacks a mark or has one twice:\n{EQUAL}{UNSHOWN}")
-    copies = {name: it for it in page.modules.values() if it.text.startswith(page_rules.COPY) for name in it.names}
-    imports = [it for module in page.modules.values() for it in module.imports.items()] + LIBRARY
-    known = {name.strip("◌").split("◌")[0]: it for name, it in imports if it[1] == name}
-    known |= {name: (it.name, name) for name, it in copies.items()}
-    for kind, part in zip(("hand", "equal"), parts):
-        for block in part.strip().split("\n\n"):
-            found = BLOCK.fullmatch(block)
-            if not found:
-                sys.exit(f"change_page: {CHANGES} has a block that lacks a mark or has one twice:\n{block}")
-            title, name, before, goes, comes, after = found.groups()
-            old, new = (f"{before}{it}{after}".replace("¶", "\n") for it in (goes, comes))
-            text = copies[name].text if name in copies else ""
-            if text.count(old) != 1:
-                sys.exit(f"change_page: {title}: its text is there {text.count(old)} times")
-            yield Change(title, copies[name].name, importing(known, text, text.replace(old, new), comes), kind)
-    marks = {line.strip(): False for line in parts[2].split("\n") if line.startswith("  ")}
-    for module, name, start, end, comes in page_rules.changes(page):
-        text = module.text
-        goes, new = (" ".join(it.split()) for it in (text[start:end], comes))
-        first, last = text.rfind("\n", 0, start) + 1, text.find("\n", end)
-        title = f"{name}: {f'{text[first:start]}⟪{goes} ⇒ {new}⟫{text[end:last]}'.strip()}"
-        mine = [it for it in marks if title.startswith(f"{it.partition(': ')[0]}: ") and it.partition(": ")[2] in title]
-        marks.update(dict.fromkeys(mine, True))
-        yield Change(title, module.name, importing(known, text, text[:start] + comes + text[end:], comes),
-                     "unshown" if mine else "made")
-    if not all(marks.values()):
-        sys.exit("\n".join(["change_page: no rule makes:", *(it for it, is_made in marks.items() if not is_made)]))
+    *listed, unshown = re.split(f"{EQUAL}|{UNSHOWN}", CHANGES.read_text())
+    listed = [(kind, *it) for kind, part in zip(LISTED, listed) for it in blocks(part)]
+    marks, found = {line.strip(): False for line in unshown.split("\n") if line.startswith("  ")}, {}
+    for crate in COPYING:
+        page = Page(crate)
+        for kind, title, name, old, new in listed:
+            for module in page.modules.values():
+                if name in module.texts and is_copy(module) and module.text.count(old) == 1:
+                    at = module.text.index(old)
+                    add(found, page, Change(title, kind, {}), module, at, at + len(old), new)
+        for module, name, start, end, comes in page_rules.changes(page):
+            text = module.text
+            goes, new = (" ".join(it.split()) for it in (text[start:end], comes))
+            first, last = text.rfind("\n", 0, start) + 1, text.find("\n", end)
+            title = f"{name}: {f'{text[first:start]}⟪{goes} ⇒ {new}⟫{text[end:last]}'.strip()}"
+            mine = [it for it in marks if title.startswith(it.split(" ")[0]) and it.partition(": ")[2] in title]
+            marks.update(dict.fromkeys(mine, True))
+            kind = "unshown" if mine else "made" if crate == COPYING[0] else "other"
+            add(found, page, Change(title, kind, {}), module, start, end, comes)
+    lost = [it for it, is_made in marks.items() if not is_made] + [it[1] for it in listed if it[:2] not in found]
+    if lost:
+        sys.exit("\n".join(["change_page: can't be made, or its text isn't there once:", *lost]))
+    return [it for same in found.values() for it in same]
+
+
+def blocks(part):
+    """The changes of a part of the list: the title, the definition, the text before and after it."""
+    for block in part.strip().split("\n\n"):
+        found = BLOCK.fullmatch(block)
+        if not found:
+            sys.exit(f"change_page: {CHANGES} has a block that lacks a mark or has one twice:\n{block}")
+        title, name, before, goes, comes, after = found.groups()
+        yield title, name, *(f"{before}{it}{after}".replace("¶", "\n") for it in (goes, comes))
+
+
+def is_copy(module):
+    return module.text.startswith(page_rules.COPY)
+
+
+def add(found, page, change, module, start, end, comes):
+    """Adds a change at this place, or the place to the change with this title that another crate has."""
+    same, text = found.setdefault((change.kind in LISTED and change.kind, change.title), []), module.text
+    if not same or page.crate in same[-1].places:
+        same.append(change)
+    same[-1].places[page.crate] = module.name, functools.partial(
+        importing, names_of(page), text, text[:start] + comes + text[end:], comes)
+
+
+@functools.cache
+def names_of(page):
+    """Where what a change may use is defined, and its name there."""
+    named = [it for module in page.modules.values() for it in module.imports.items() if it[0] == it[1][1]] + LIBRARY
+    copies = [(name, (it.name, name)) for it in page.modules.values() if is_copy(it) for name in it.names]
+    return {name.strip("◌").split("◌")[0]: it for name, it in named + copies}
 
 
 def importing(known, old, new, comes):
@@ -111,33 +144,36 @@ def importing(known, old, new, comes):
 
 
 class Judge:
-    """The page as it is, and what is said of its worlds, with the names that this reaches; those that reach least first."""
+    """A page as it is, and what is said of its worlds, with the names that this reaches; those that reach least
+    first."""
 
-    def __init__(self):
-        self.page, self.claims, self.refusing = Page(), [], {}
+    def __init__(self, page):
+        self.page, self.claims, self.refusing, results = page, [], {}, {}
         for claim in evaluate.all_claims(self.page):
-            self.page.values, self.page.results, self.page.kept, self.page.reached = {}, {}, {}, set()
+            self.page.values, self.page.results, self.page.reached = {}, {}, set()
             claim.is_so(self.page)
             self.claims.append((claim, self.page.reached))
-        self.claims.sort(key=lambda it: (it[0].world is None, len(it[1])))
+            results |= self.page.results
+        self.page.results = results
+        self.claims.sort(key=lambda it: (it[0].said is None, len(it[1])))
 
-    def judge(self, change):
+    def judge(self, name, module, text):
         """What refuses a change, and the world with what is said and what is so now: the first that reaches it."""
         try:
-            page = Page(self.page, change.module, change.text)
+            page = Page(base=self.page, file=module, text=text())
         except (Unreadable, ValueError) as error:
             return OPEN, f"it can't be read: {error}"
-        old = self.page.modules[change.module].texts
-        changed = {name for name, text in page.modules[change.module].texts.items() if text != old.get(name)}
-        left, name = (PASSES, ""), change.title.partition(":")[0]
+        left, begun = (PASSES, ""), time.process_time()
         for claim, reached in sorted(self.claims, key=lambda it: it[0] is not self.refusing.get(name)):
             try:
-                found = differing(page, claim) if changed & reached else None
+                found = differing(page, claim) if page.changed & reached else None
             except Exception as error:
                 left = OPEN, f"{claim.title}: {type(error).__name__} {shown(error.args[0])[:80]}"
+                if time.process_time() > begun + MOST:
+                    return left
                 continue
             if found and found[0] != LOSS:
-                if claim.world:  # it may refuse the next one, too
+                if claim.said is not None:  # it may refuse the next one, too
                     self.refusing[name] = claim
                     self.claims.sort(key=lambda it: it[0] is not claim)
                 return found
@@ -147,19 +183,15 @@ class Judge:
 
 def differing(page, claim):
     """The kind of a difference and what differs, if a claim isn't so by the page."""
-    if not claim.world:
+    if claim.said is None:
         return None if claim.is_so(page) else (FACT, f"{claim.title} doesn't hold")
-    found, said = page.outcomes(*claim.world), claim.said
+    found, said = page.outcomes(*claim.fact), claim.said
     if found == said:
         return None
     if found:
         kind = SECOND if said and said[0] in found else VALUE if said else OUTCOME
         return kind, f"{claim.title}: {outcomes(said)} is said, and it is {outcomes(found)}"
-    run = claim.world[2]
-    asked = {it.items[0] for it in run.part("answers").part("asked")}
-    needed = page.needed(run)
-    needed = asked if needed is None else set(needed)
-    for what, names in (("doesn't ask for", needed - asked), ("asks without need for", asked - needed)):
+    for what, names in page.unneeded():
         for name in sorted(map(shown, names))[:1]:
             return FILE, f"{claim.title}: the run {what} {name}"
     return LOSS, f"{claim.title}: {outcomes(said)} is said, and it is none"
@@ -167,18 +199,31 @@ def differing(page, claim):
 
 def outcomes(values):
     """Outcomes in a few words: the status, and what is printed or reported."""
-    found = [f"{it.part('status')} {shown(it.part('text') or it.part('report'))}" for it in values[:2]]
+    found = [f"{it.part('status')} {shown(it.part('text') or it.part('report'))}" if "status" in getattr(
+        it, "name", "") else shown(it) for it in values[:2]]
     return " or ".join(it if len(it) < 130 else f"{it[:127]}.." for it in found) or "none"
 
 
+def verdict_of(judges, change):
+    """What refuses a change in the crates that have it: a witness, if there is one."""
+    found = []
+    for judge in judges:
+        if judge.page.crate in change.places:
+            found.append(judge.judge(change.title.partition(":")[0], *change.places[judge.page.crate]))
+            if found[-1][0] in WITNESSED:
+                return found[-1]
+    return min(found, key=lambda it: (FACT, LOSS, OPEN, PASSES).index(it[0]))
+
+
 def try_all(chosen, most):
-    """Tries these changes, until so many CPU seconds are over; gives how many were wrong, and how many had each verdict."""
-    judge, wrong, verdicts = Judge(), 0, collections.Counter()
+    """Tries these changes, until so many CPU seconds are over; gives how many were wrong, and how many had each
+    verdict."""
+    judges, wrong, verdicts = [*map(Judge, evaluate.all_pages())], 0, collections.Counter()
     for number, change in chosen:
         if most and time.process_time() >= most:
             break
         before = time.process_time()
-        verdict, why = judge.judge(change)
+        verdict, why = verdict_of(judges, change)
         is_right = change.is_right(verdict)
         verdicts[verdict] += 1
         wrong += not is_right
@@ -186,24 +231,27 @@ def try_all(chosen, most):
               f"({time.process_time() - before:.1f} s)\n  {why}".rstrip(), flush=True)
     for verdict, count in verdicts.most_common():
         print(f"{count} {verdict}")
-    print(f"{verdicts.total()} changes tried, {wrong} of them not as they should be; {time.process_time():.0f} CPU seconds")
+    print(f"{verdicts.total()} changes tried, {wrong} of them not as they should be; {time.process_time():.0f} CPU s")
     return wrong, verdicts
 
 
 def prove_all(chosen):
-    """Lets the prover check these changes, and gives how many were wrong."""
+    """Lets the prover check these changes, each in the first crate that has it, and gives how many were wrong."""
     wrong = 0
     with tempfile.TemporaryDirectory() as folder:
-        copy = make_room(folder, "page")
-        for number, change in [(0, None), *chosen]:
-            file = f"specs/{change.module.removeprefix(OWN).replace('.', '/')}.antt" if change else ""
-            said = run_check(copy, {file: change.text} if change else {}).stdout
-            is_proved = bool(re.search(r"(?m)^logic=proved", said))
-            wrong += is_proved != (change is None or change.kind in ("equal", "unshown"))
-            errors = re.findall(r"(?m)^\./(\S+)\.antt:\d+:\d+: error: (.*(?:\n  .*)*)", said)
-            print(f"{number} {change.title if change else 'as it is'}: {'PROVED' if is_proved else 'refused'}", flush=True)
-            for where, message in errors[:2]:
-                print(f"  {where}: {' '.join(message.split())[:300]}", flush=True)
+        for crate in COPYING:
+            mine = [it for it in chosen if next(iter(it[1].places)) == crate]
+            room = make_room(folder, crate) if mine else ""
+            for number, change in [(0, Change("as it is", "equal", {})), *mine] if mine else ():
+                texts = {f"specs/{it.split('specs.')[1].replace('.', '/')}.antt": text()
+                         for it, text in [*change.places.values()][:1]}
+                said = run_check(room, texts).stdout
+                is_proved = bool(re.search(r"(?m)^logic=proved", said))
+                wrong += is_proved != (change.kind in ("equal", "unshown"))
+                errors = re.findall(r"(?m)^\./(\S+)\.antt:\d+:\d+: error: (.*(?:\n  .*)*)", said)
+                print(f"{number} {change.title}: {'PROVED' if is_proved else 'refused'}", flush=True)
+                for where, message in errors[:2]:
+                    print(f"  {where}: {' '.join(message.split())[:300]}", flush=True)
     return wrong
 
 
@@ -224,24 +272,27 @@ def in_turn(numbered):
 
 def main(*words):
     """Does what the words say, and returns the status."""
-    numbered = [*enumerate(changes(Page()), 1)]
+    numbered = [*enumerate(changes(), 1)]
+    expected, others = ([it for it in numbered if (it[1].kind == "other") == is_other] for is_other in (False, True))
     if not words:
         for number, change in numbered:
             print(f"{number} {change.title}{' (an equal form)' if change.kind == 'equal' else ''}")
-        kinds = collections.Counter(it.kind for _, it in numbered)
-        says = (f"{kinds['made'] + kinds['unshown']} changes by rule, of which {kinds['unshown']} are marked as without a "
-                f"witness, {kinds['hand']} by hand, and {kinds['equal']}")
-        return int(evaluate.wrong_claims() + miscounted(says) > 0)
+        kinds = collections.Counter(it.kind for _, it in expected)
+        says = (f"{kinds['made'] + kinds['unshown']} changes by rule, of which {kinds['unshown']} are marked as without "
+                f"a witness, {kinds['hand']} by hand, and {kinds['equal']}")
+        wrong = evaluate.wrong_claims()
+        return int(wrong + miscounted(says) + miscounted(f"{len(others)} changes by rule of what it alone") > 0)
     if words[0] == "--some":
-        return int(try_all(in_turn(numbered), int(words[1]))[0] > 0)
-    if words[0] == "--all":
-        wrong, verdicts = try_all(numbered, 0)
+        return int(try_all(in_turn(expected), int(words[1]))[0] > 0)
+    if words[0] in ("--all", "--others"):
+        wrong, verdicts = try_all(expected if words[0] == "--all" else others, 0)
         witnessed = sum(verdicts[it] for it in WITNESSED)
-        says = f"{witnessed} are refused by a witness, {verdicts[FACT]} by a fact, {verdicts[LOSS]} by a loss"
-        return int(wrong + miscounted(says) > 0)
+        says = f"{witnessed} by a witness, {verdicts[FACT]} by a fact, {verdicts[LOSS]} by a loss"
+        says += f"; {verdicts[PASSES] + verdicts[OPEN]} pass" if words[0] == "--others" else ""
+        return int((words[0] == "--all" and wrong) + miscounted(says) > 0)
     if words[0] == "--sample":
-        others = [it for it in in_turn(numbered) if it[1].kind in ("made", "hand")]
-        return int(prove_all([it for it in numbered if it[1].kind == "equal"] + others[:30]) > 0)
+        some = [it for it in in_turn(expected) if it[1].kind in ("made", "hand")]
+        return int(prove_all([it for it in expected if it[1].kind == "equal"] + some[:30]) > 0)
     chosen = {int(it) for it in words if it.isdigit()}
     if max(chosen) > len(numbered):
         script.misused(f"there are {len(numbered)} changes")
@@ -250,4 +301,4 @@ def main(*words):
 
 
 if __name__ == "__main__":
-    script.run(main, r" --all| --sample| --some [1-9]\d{0,5}|( --prove)?( [1-9]\d{0,3})+|")
+    script.run(main, r" --all| --others| --sample| --some [1-9]\d{0,5}|( --prove)?( [1-9]\d{0,3})+|")

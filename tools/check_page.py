@@ -1,16 +1,16 @@
 #!/usr/bin/env -S python3 -B
-"""Compares bin/gomod with the definitions of crates/page on random modules: what `list` prints and reports, and its exit
-status.
+"""Compares bin/gomod with the definitions of crates/page on random modules: what `list` prints and reports, and its
+exit status.
 
     tools/check_page.py [WORLDS [SEED]]   worlds SEED, SEED + 1, .. (40, others for each commit)
     tools/check_page.py --program FILE .. the same with another program
 
 A world is made from its number alone; in nearly half of them each module's file is there and right, so that no fault
-hides the list. tools/evaluate.py computes by the definitions which files are needed and which outcomes there may be; what
-the files say is known, since they are written from that.
+hides the list. tools/evaluate.py computes by the definitions which files are needed and which outcomes there may be;
+what the files say is known, since they are written from that.
 
-It prints each world in which the program and the definitions differ, and a line with the counts. The status is 1 if there
-is one. It needs bin/gomod (./build makes it) and python3. A world takes some 0.8 s of CPU time.
+It prints each world in which the program and the definitions differ, and a line with the counts. The status is 1 if
+there is one. It needs bin/gomod (./build makes it) and python3. A world takes some 0.4 s of CPU time.
 """
 
 import dataclasses
@@ -21,19 +21,23 @@ import subprocess
 import tempfile
 
 import script
-from evaluate import MANY, NONE, Made, Page, record, text
+from definitions import Parser
+from evaluate import Page
 from go_worlds import hash_of
 from script import write
+from values import NONE, Made, record, text
 
 MAIN = "example.com/m"
 PATHS = [f"example.com/{name}" for name in "abcdef"]
-VERSIONS = ["v0.9.0", "v1.0.0-9", "v1.0.0-10", "v1.0.0", "v1.0.9", "v1.0.10", "v1.10.0"]  # crates/page knows their parts
+# crates/page knows their parts
+VERSIONS = ["v0.9.0", "v1.0.0-9", "v1.0.0-10", "v1.0.0", "v1.0.9", "v1.0.10", "v1.10.0"]
 CLOSE = [VERSIONS[1:3], VERSIONS[4:6]]  # their order as texts is the other one
 GO = [(1, 9), (1, 15), (1, 16), (1, 16), (1, 17), (1, 17), (1, 19), (1, 21), (2, 0)]
 ODD = ["local", "-a.org/x", "Example.com/a", MAIN, MAIN, MAIN]  # no proxy has the module of the first three
 FOLDERS = ["./x", "./y"]
 MALFORMED = "require example.com/a\n"
-PAGE = Page(few=MANY)
+PAGE = Page()
+ENDS = Parser("ListEnds after limit run outcome").whole()
 
 
 def value(it):
@@ -85,7 +89,7 @@ class File:
     def teach(self):
         """Tells the page what the bytes of the file say, or the line of a fault and its kind."""
         misread = Made("", self.text.count("\n"), Made("WrongArguments"))
-        PAGE.results_of_files["Rattle.page.specs.Files", "main_in" if self.is_main else "said_in", text(self.text)] = (
+        PAGE.results["Rattle.page.specs.Files", "main_in" if self.is_main else "said_in", text(self.text)] = (
             Made("Err", misread) if self.is_malformed else Made("Ok", self.said()))
 
 
@@ -169,7 +173,8 @@ class World:
             self.main.replaces[MAIN, None] = (self.random.choice(FOLDERS),)
 
     def add_sums(self):
-        """Makes a go.sum, or none, with some lines left out, wrong, doubled or invalid; the main file may be so, too."""
+        """Makes a go.sum, or none, with some lines left out, wrong, doubled or invalid; the main file may be so,
+        too."""
         if self.chance(0.45):
             self.sums = {name: [hash_of(file.text)] for name, file in self.files.items() if len(name) == 2}
             for name, hashes in self.sums.items():
@@ -200,7 +205,7 @@ class World:
 
 def expected(world):
     """The outcomes by the definitions: what is printed, what is reported, and the status."""
-    PAGE.results, PAGE.results_of_files, PAGE.kept = {}, {}, {}
+    PAGE.results, PAGE.kept, PAGE.universes = {}, {}, {}
     world.main.teach()
     for file in world.files.values():
         file.teach()
@@ -208,7 +213,7 @@ def expected(world):
         texts = {hash_of(it): it for it in ["other", *(file.text for file in world.files.values())]}
         lines = [(*name, texts[it]) for name, all in world.sums.items() for it in all]
         said = Made("Err", text(world.bad_sum)) if world.bad_sum else Made("Ok", value(lines))
-        PAGE.results_of_files["Rattle.page.specs.Types", "sums_in", text(world.sums_text)] = said
+        PAGE.results["Rattle.page.specs.Types", "sums_in", text(world.sums_text)] = said
     contents = {named(name, "folder_file", "mod_file"): text(file.text) for name, file in world.files.items()}
 
     def run(names):
@@ -216,7 +221,8 @@ def expected(world):
         sums = option(None if world.sums is None else world.sums_text)
         return value({"file": world.main.text, "sums": sums, "answers": {"asked": asked, "failed": []}})
 
-    found = PAGE.outcomes(option(world.after), option(world.limit), run(PAGE.needed(run(contents))))
+    given = {"after": option(world.after), "limit": option(world.limit), "run": run(PAGE.needed(run(contents)))}
+    found = PAGE.outcomes(ENDS, given, PAGE.modules["Rattle.page.specs.ListQuery"])
     return [(*(bytes(it.part(field)).decode() for field in ("text", "report")), it.part("status")) for it in found]
 
 

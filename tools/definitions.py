@@ -1,4 +1,5 @@
-"""Reads the definitions of crates/page: trees that know their place in the file, and what a module has and imports.
+"""Reads the definitions of crates/page and page_commands: trees that know their place in the file, and what a module
+has and imports.
 
 For tools/evaluate.py, which computes them, and tools/page_rules.py, which changes them.
 """
@@ -10,11 +11,14 @@ from sources import definitions_in, scope_of
 
 # a word in braces, as `{R}`, gives an implicit argument, which counts for nothing
 TOKEN = re.compile(r'(?:\s|--[^\n]*|\{\w+\})+|"(?P<text>(?:\\.|[^"\\])*)"|(?P<number>\d+)|(?P<part>(?<=\S)\.(?=\w))'
-                   r"|(?P<sign>\+\+|&&|\|\||==|[()\[\]{},;:=.λ→×⊎↔¬≡≢≤<∷+])|(?P<name>[^\W\d][\w']*|[⊥⊤])")
-KEYWORDS = {"if", "then", "else"}
+                   r"|(?P<sign>\+\+|&&|\|\||==|[()\[\]{},;:=.λ→×⊎↔¬≡≢≤<∷+*/%^-])|(?P<name>[^\W\d][\w']*|[⊥⊤])")
+KEYWORDS = {"if", "then", "else", "let", "in"}
+ESCAPES = {"n": "\n", "t": "\t", "r": "\r"}
+# what some tokens are
+READ = {"number": int, "text": lambda word: re.sub(r"\\(.)", lambda it: ESCAPES.get(it[1], it[1]), word)}
 # operators, those that bind least first, and those of them that group to the right
-POWER = {sign: power for power, signs in enumerate(["→", "↔", "× ⊎", "≡ ≢ ≤ <", "||", "&&", "==", "++ ∷ +"])
-         for sign in signs.split()}
+LEVELS = ["→", "↔", "× ⊎", "≡ ≢ ≤ <", "||", "&&", "==", "++ ∷ + -", "* / %", "^"]
+POWER = {sign: power for power, signs in enumerate(LEVELS) for sign in signs.split()}
 TO_THE_RIGHT = {"→", "×", "⊎", "++", "∷", "+"}
 BINDER, FACT = POWER["×"], POWER["≡"]  # how much binds what follows a binder's `×`, or a `¬`
 
@@ -31,7 +35,7 @@ class Node:
     """A piece of a definition: its kind, its parts, and from where to where it goes in the file."""
 
     def __init__(self, kind, parts, start=0, end=0):
-        self.kind, self.parts, self.start, self.end = kind, parts, start, end
+        self.kind, self.parts, self.start, self.end, self.shape = kind, parts, start, end, None
 
     def head(self):
         """The name that it is, or that it calls."""
@@ -52,7 +56,8 @@ class Node:
         return dict.fromkeys([*own, *(name for node in self.below() for name in node.names)])
 
     def result(self):
-        """What stands behind the last arrow of a type, and the nodes before that, of which a binder has one each name."""
+        """What stands behind the last arrow of a type, and the nodes before that, of which a binder has one each
+        name."""
         if self.kind == "→":
             last, before = self.parts[1].result()
             return last, [self.parts[0], *before]
@@ -160,15 +165,22 @@ class Parser:
             self.take(".")
             return self.node("lambda", first, bound, self.expression())
         if self.sign() == "if":
-            parts = []
-            for word in ("if", "then", "else"):
-                self.take(word)
-                parts.append(self.expression())
-            return self.node("if", first, *parts)
+            return self.node("if", first, *self.after("if", "then", "else"))
+        if self.sign() == "let":
+            self.take()
+            return self.node("let", first, self.take(), *self.after("=", "in"))
         function, arguments = self.atom(), []
-        while self.begins_atom() or self.sign() in ("λ", "if"):
+        while self.begins_atom() or self.sign() in ("λ", "if", "let"):
             arguments.append(self.atom() if self.begins_atom() else self.call())
         return self.node("call", first, function, arguments) if arguments else function
+
+    def after(self, *words):
+        """The expressions after each of these words."""
+        parts = []
+        for word in words:
+            self.take(word)
+            parts.append(self.expression())
+        return parts
 
     def begins_atom(self):
         return self.kind() in ("text", "number") or self.sign() in ("(", "[") or (
@@ -191,8 +203,7 @@ class Parser:
             self.take("]")
             found = self.node("nil", first)
         else:
-            value = {"text": lambda: word.encode().decode("unicode_escape"), "number": lambda: int(word)}
-            found = self.node(kind, first, value.get(kind, lambda: word)())
+            found = self.node(kind, first, READ.get(kind, str)(word))
         while self.kind() == "part":
             self.take()
             found = self.node("part", first, found, self.take())
@@ -223,10 +234,14 @@ class Function:
         self.is_constant = not (before or self.is_fact)
         self.takes = before  # the types of its arguments
 
+    def uses(self):
+        """The names in what it is."""
+        return dict.fromkeys(name for _, body in self.clauses for name in body.names)
+
 
 class Rule:
-    """A rule of a data type: its bound names with their types, its premises, and of what it is then. A record has one, which
-    binds its fields that are values, and whose premises are those that are facts."""
+    """A rule of a data type: its bound names with their types, its premises, and of what it is then. A record has one,
+    which binds its fields that are values, and whose premises are those that are facts."""
 
     def __init__(self, type_):
         self.bound, self.premises = {}, []
@@ -240,8 +255,8 @@ class Rule:
 
 
 class Relation:
-    """A record or a data type: its parameters, the types of all its arguments, its fields or rules with their types, and
-    the rules."""
+    """A record or a data type: its parameters, the types of all its arguments, its fields or rules with their types,
+    and the rules."""
 
     def __init__(self, kind, parameters, indices, fields):
         self.is_data, self.fields = kind == "data", fields
@@ -255,10 +270,14 @@ class Relation:
             rule.premises = [type_ for name, type_ in fields.items() if name not in rule.bound]
             self.rules = [rule]
 
+    def uses(self):
+        """The names in what it is."""
+        return dict.fromkeys(name for type_ in self.fields.values() for name in type_.names)
+
 
 class Module:
-    """What a file defines: functions, relations, and constructors, each as how many arguments it takes; the texts of the
-    definitions; and what the names mean that it imports: a module, and the name there or None."""
+    """What a file defines: functions, relations, and constructors, each as how many arguments it takes; the texts of
+    the definitions; and what the names mean that it imports: a module, and the name there or None."""
 
     def __init__(self, name, text):
         self.name, self.text, self.imports, self.names, self.texts = name, text, scope_of(text), {}, {}

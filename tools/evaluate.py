@@ -1,10 +1,11 @@
-"""Evaluates the definitions of crates/page on its worlds, functions and relations alike, without a proof; for
-tools/change_page.py and tools/check_page.py.
+"""Evaluates the definitions of crates/page and page_commands on their worlds, functions and relations alike, without a
+proof; for tools/change_page.py and tools/check_page.py.
 
-Functions are computed. Facts (`≡`, `×`, data, records, `(x : T) → ..`) are solved, over the modules, names and files that
-the worlds have; `ListEnds after limit run OUTCOME` gives each outcome that the definitions allow. A number near 65,536 is
-computed as one near 6, so that worlds with too many modules can be tried. That a world has no other outcome is no proof:
-of unknown lists those are tried that have all members, in some of the orders that their facts allow, or lack one.
+Functions are computed. Facts (`≡`, `×`, data, records, `(x : T) → ..`) are solved, over the modules, names, files,
+lines and versions that a world has; `ListEnds after limit run OUTCOME` gives each outcome that the definitions allow. A
+number near 65,536 is computed as one near 6, so that worlds with too many modules can be tried, and a path has at most
+as many edges as FAR says. That a world has no other outcome is no proof: of unknown lists those are tried that have all
+members, in some of the orders that their facts allow, or lack one, and the words of a file are at one place of it.
 
 tools/evaluate_cases.txt has facts of which it is known whether they hold.
 """
@@ -13,193 +14,27 @@ import collections
 import functools
 import gc
 import itertools
+import operator
 import pathlib
 import re
 import sys
 
 from definitions import Function, Module, Node, Parser, Relation, Unreadable
 from sources import scope_of
+from values import (BUILT, CONSTRUCTORS, FAILS, HOLDS, INVERSE, JOINED, NONE, TRAIL, Applied, Goal, Made, Stuck,
+                    Unknown, all_pairs, complete, forget, is_own, is_text, is_true, known, record, resolved, shown,
+                    text, unify, unknowns_in)
 
-PAGE = pathlib.Path("crates/page")
 CASES = pathlib.Path("tools/evaluate_cases.txt")
-OWN = "Rattle.page.specs."
-MANY, FEW = 65536, 6  # the bound of the definitions, and what it is computed as
+# relations whose last argument is the outcome, for which each is found that they allow
+ENDS = "ListEnds", "EditEnds", "FmtEnds", "VersionsEnds", "PrintsGraph", "PrintsChain", "SaysOfHash", "IsFirstInvalid"
+# the bound of the definitions, what it is computed as in worlds that are about it, and how what is said of these is
+# named
+MANY, FEW, BOUND = 65536, 6, "TooMany"
 MOST, MOST_STEPS = 24, 200000  # orders of a list, and steps for what is so of a world
+FAR = 9  # edges of a path
 sys.setrecursionlimit(9000)
 gc.set_threshold(200000)
-
-
-class Stuck(Exception):
-    """What is asked for needs an unknown to be known."""
-
-
-# ---- values: numbers, tuples for lists and texts, and these
-
-
-class Made:
-    """What a constructor makes; a pair, whose constructor is ""; a record, whose constructor has its fields' names; a
-    list with an unknown tail, whose constructor is "∷"; or a number above an unknown one, whose constructor is "suc"."""
-
-    def __init__(self, name, *items):
-        self.name, self.items, self.hash, self.is_complete = name, items, None, not items
-
-    def __eq__(self, other):
-        return self is other or isinstance(other, Made) and (self.name, self.items) == (other.name, other.items)
-
-    def __hash__(self):
-        if self.hash is None:
-            self.hash = hash((self.name, self.items))
-        return self.hash
-
-    def of(self, *items):
-        return Made(self.name, *items)
-
-    def part(self, field):
-        """A field of a record, or an item of a pair by its number."""
-        if field not in (self.name or "01234"[:len(self.items)]):
-            raise Unreadable(f"{shown(self)} has no part {field}")
-        return resolved(self.items[self.name.index(field) if self.name else int(field)])
-
-
-class Applied(Made):
-    """A function of so many arguments, which has been given some; its name tells it from others."""
-
-    def __init__(self, name, count, body, *given):
-        super().__init__(name, *given)
-        self.count, self.body = count, body
-
-    def of(self, *items):
-        return Applied(self.name, self.count, self.body, *items)
-
-    def to(self, *arguments):
-        """The function of some arguments, which may be fewer or more than it takes."""
-        given = (*self.items, *arguments)
-        if len(given) < self.count:
-            return self.of(*given)
-        result = self.body(*given[:self.count])
-        return known(result).to(*given[self.count:]) if len(given) > self.count else result
-
-
-class Goal(Made):
-    """A fact to be shown. Its name is a function that gives the alternatives, of its items. An alternative is pairs of what
-    has to be the same, and the goals that are left."""
-
-
-class Unknown:
-    """What is to be found, with the name of its type; its value, if it was found."""
-
-    def __init__(self, type_=None):
-        self.value, self.type = None, type_
-
-
-NONE = Made("None")
-HOLDS, FAILS = [([], [])], []
-TRAIL = []  # the unknowns that have a value, in the order in which they got it
-
-
-def truth(value):
-    return Made("true" if value else "false")
-
-
-def is_true(value):
-    return known(value).name == "true"
-
-
-def record(**fields):
-    names = tuple(sorted(fields))
-    return Made(names, *(fields[name] for name in names))
-
-
-def text(value):
-    return tuple(value.encode())
-
-
-def is_text(value):
-    return isinstance(value, tuple) and value != () and isinstance(value[0], int)
-
-
-def shown(value):
-    """A value as a reader writes it."""
-    value = resolved(value)
-    if isinstance(value, tuple):
-        return repr("".join(map(chr, value))) if is_text(value) else f"[{', '.join(map(shown, value))}]"
-    if isinstance(value, Made):
-        items = [shown(it) for it in value.items]
-        if isinstance(value.name, tuple):
-            return "{" + "; ".join(f"{name} = {it}" for name, it in zip(value.name, items)) + "}"
-        return " ".join([value.name, *items]) if value.name else f"({', '.join(items)})"
-    return "?" if isinstance(value, Unknown) else str(value)
-
-
-def resolved(value):
-    """A value, if it is known by now."""
-    while isinstance(value, Unknown) and value.value is not None:
-        value = value.value
-    if isinstance(value, Made) and value.name == "∷":
-        tail = resolved(value.items[1])
-        return (value.items[0], *tail) if isinstance(tail, tuple) else value
-    return value
-
-
-def known(value):
-    """A value whose constructor is known."""
-    value = resolved(value)
-    if isinstance(value, Unknown) or isinstance(value, Made) and value.name == "∷":
-        raise Stuck(value)
-    return value
-
-
-def complete(value):
-    """A value without unknowns."""
-    value = resolved(value)
-    if isinstance(value, Unknown):
-        raise Stuck(value)
-    if isinstance(value, tuple):
-        return value if not value or isinstance(value[0], int) else tuple(map(complete, value))
-    if isinstance(value, Made) and not value.is_complete:
-        items = tuple(map(complete, value.items))
-        if any(one is not other for one, other in zip(items, value.items)):
-            value = value.of(*items)
-        value.is_complete = True
-    return value
-
-
-def unknowns_in(value):
-    """The unknowns of values, goals and names with their values, in their order."""
-    value = resolved(value)
-    if isinstance(value, Unknown):
-        yield value
-    elif isinstance(value, (Made, dict, tuple)) and not is_text(value):
-        for it in value.items if isinstance(value, Made) else value.values() if isinstance(value, dict) else value:
-            yield from unknowns_in(it)
-
-
-def unify(one, other):
-    """Whether two values can be the same; it binds what has to be for that."""
-    one, other = resolved(one), resolved(other)
-    if not isinstance(one, Unknown) and (isinstance(other, Unknown) or getattr(other, "name", "") in ("∷", "suc")):
-        one, other = other, one
-    if one is other:
-        return True
-    if isinstance(one, Unknown):
-        one.value = other
-        TRAIL.append(one)
-        return True
-    if isinstance(one, tuple) and isinstance(other, tuple):
-        return one == other or len(one) == len(other) and all(map(unify, one, other))
-    if not isinstance(one, Made):
-        return one == other
-    if one.name == "∷" and isinstance(other, tuple):
-        return other != () and unify(one.items[0], other[0]) and unify(one.items[1], other[1:])
-    if one.name == "suc" and isinstance(other, int):
-        return other > 0 and unify(one.items[0], other - 1)
-    return isinstance(other, Made) and one.name == other.name and unify(one.items, other.items)
-
-
-def forget(mark):
-    """Takes back what was bound since the trail was so long."""
-    while len(TRAIL) > mark:
-        TRAIL.pop().value = None
 
 
 def unknown_of(type_):
@@ -207,9 +42,9 @@ def unknown_of(type_):
     name = type_.head() or type_.kind
     if name == "FaultPlace":
         return Made("", Unknown("ℕ"), Unknown("Misreading"))
-    if name == "Fault":
-        return record(vertex=Unknown("ModuleVersion"), **{"class": Unknown("Class")})
-    return Unknown(name)
+    if name in PARTS:
+        return record(**{field: Unknown(of) for field, of in PARTS[name].items()})
+    return Unknown("Lines" if name == "List" and type_.arguments()[0].head() == "Line" else name)
 
 
 def unknowns_of(bound):
@@ -217,20 +52,17 @@ def unknowns_of(bound):
     return {name: unknown_of(type_) for name, type_ in bound.items()}
 
 
-# what is tried of an unknown that nothing determines: two values show that anything goes
+# records of the code, with the types of their fields
+PARTS = {"Fault": {"vertex": "ModuleVersion", "class": "Class"}, "Edge": {"from": "Step", "to": "ModuleVersion"}}
+# what is tried of an unknown that nothing determines: two values show that anything goes; of a data type it is its
+# first two constructors without arguments
 ANY = {
-    "Class": [Made("Missing"), Made("TooLong")],
     "ℕ": [7, 8],
-    "Misreading": [Made("Unknown"), Made("NoModule")],
-    "Reply": [Made("absent"), Made("too_long")],
     "Result": [Made("Err", Made("Missing")), Made("Err", Made("TooLong"))],
     "Outcome": [record(text=(120 + it,), report=(), status=0) for it in (0, 1)],
     "Option": [NONE],
     "List": [()],
 }
-# the library's constructors, with how many arguments they take
-CONSTRUCTORS = {"true": 0, "false": 0, "None": 0, "Some": 1, "Ok": 1, "Err": 1, "Less": 0, "Equal": 0, "Greater": 0,
-                "suc": 1}
 
 
 class Table(dict):
@@ -240,21 +72,49 @@ class Table(dict):
 
 
 class Page:
-    """The definitions of crates/page, or those of another page with another text of a file; what was computed of them."""
+    """The definitions of a crate, or those of another page with another text of a file; what was computed of them."""
 
-    def __init__(self, base=None, file="", text="", few=FEW):
-        self.few, self.reached, self.steps = few, set(), 0
-        self.values, self.results, self.kept, self.tables, self.universe = {}, {}, {}, {}, {}
+    def __init__(self, crate="page", few=MANY, base=None, file="", text=""):
+        self.few, self.crate, self.reached, self.steps = few, crate, set(), 0
+        self.base, self.touched, self.given, self.busy, self.finds_lists = base or self, set(), (), [], False
+        self.values, self.results, self.kept, self.universes, self.lambdas = {}, {}, {}, {}, {}
         if base:
-            self.modules, self.results_of_files = {**base.modules, file: Module(file, text)}, base.results_of_files
+            self.few, self.crate = base.few, base.crate
+            self.modules = {**base.modules, file: Module(file, text)}
+            old, new = base.modules[file].texts, self.modules[file].texts
+            self.changed = {name for name, it in new.items() if it != old.get(name)}
+            self.touch({(file, name) for name in self.changed})
         else:
-            files = {OWN + ".".join(it.with_suffix("").relative_to(PAGE / "specs").parts): it
-                     for it in sorted(PAGE.glob("specs/**/*.antt"))}
-            self.modules, self.results_of_files = {it: Module(it, files[it].read_text()) for it in files}, {}
+            specs = pathlib.Path("crates", crate, "specs")
+            files = {self.own + ".".join(it.with_suffix("").relative_to(specs).parts): it
+                     for it in sorted(specs.glob("**/*.antt"))}
+            self.modules = {it: Module(it, files[it].read_text()) for it in files}
+
+    @property
+    def own(self):
+        """How the names of its modules begin."""
+        return f"Rattle.{self.crate}.specs."
+
+    @functools.cached_property
+    def users(self):
+        """The definitions by which each is used."""
+        found = collections.defaultdict(set)
+        for module in self.modules.values():
+            for name, one in module.names.items():
+                for used in one.uses() if not isinstance(one, int) else ():
+                    _, source, own = self.meaning(module, used)
+                    found[source and source.name, own].add((module.name, name))
+        return found
+
+    def touch(self, some):
+        """Notes what these definitions are used by: all else is as in the page that was changed."""
+        while some:
+            self.touched |= some
+            some = {user for it in some for user in self.base.users[it]} - self.touched
 
     def of(self, module, name, *given):
         """A definition of a module of the page, of these arguments."""
-        return self.named(self.modules[OWN + module], name).to(*given)
+        return self.named(self.modules[self.own + module], name).to(*given)
 
     # ---- names
 
@@ -275,15 +135,16 @@ class Page:
     def named_anew(self, module, name):
         one, source, own = self.meaning(module, name)
         self.reached.add(own)
-        if isinstance(one, Function):
-            return Applied((source.name, own), one.count, functools.partial(self.call, source, own)).to()
-        if isinstance(one, Relation):
-            return Applied((source.name, own), one.count, functools.partial(Goal, self.relation, source, own))
-        if isinstance(one, int):
+        if isinstance(one, (Function, Relation)):
+            body = functools.partial(self.call, source, own) if isinstance(one, Function) else functools.partial(
+                Goal, self.relation, source, own)
+            found = Applied((source.name, own), one.count, body, own=(source.name, own) in self.touched)
+            return found.to() if isinstance(one, Function) else found
+        if isinstance(one, int) and own != "suc":
             return Applied(own, one, functools.partial(Made, own)).to()
         if own not in BUILT:
             raise Unreadable(f"{name} of {module.name} is not known")
-        return Applied(own, *BUILT[own]).to()
+        return Applied((own,), *BUILT[own]).to()
 
     # ---- expressions
 
@@ -296,9 +157,12 @@ class Page:
             arguments = [self.value(it, env, module) for it in parts[1]]
             return arguments[0] if node.head() == "codes" else known(self.value(parts[0], env, module)).to(*arguments)
         if kind == "part":
+            path, own = module.imports.get(parts[0].head(), (None, ""))
+            if own is None and parts[0].head() not in env:  # a name of a module
+                return self.named(self.modules[path], parts[1])
             return known(self.value(parts[0], env, module)).part(parts[1])
         if kind == "number":
-            return parts[0] if parts[0] < MANY - 99 else parts[0] - MANY + self.few
+            return parts[0] - (abs(parts[0] - MANY) < 99 and MANY - self.few)
         if kind == "text":
             return text(parts[0])
         if kind == "nil":
@@ -313,6 +177,8 @@ class Page:
             return self.function(node, env, module)
         if kind == "if":
             return self.value(parts[1 if is_true(self.value(parts[0], env, module)) else 2], env, module)
+        if kind == "let":
+            return self.value(parts[2], {**env, parts[0]: self.value(parts[1], env, module)}, module)
         if kind in ("&&", "||"):
             left = known(self.value(parts[0], env, module))
             return left if is_true(left) == (kind == "||") else self.value(parts[1], env, module)
@@ -325,7 +191,15 @@ class Page:
         outside = [name for name in node.names if name in env]
         names = [*outside, *node.parts[0]]
         return Applied(node, len(names), lambda *given: self.value(node.parts[1], dict(zip(names, given)), module),
-                       *(env[name] for name in outside))
+                       *(env[name] for name in outside), own=self.is_touched(node, module))
+
+    def is_touched(self, node, module):
+        """Whether a λ uses what was changed, or stands in the file with that."""
+        if node not in self.lambdas:
+            self.lambdas[node] = bool(self.touched) and (module is not self.base.modules.get(module.name) or any(
+                (source and source.name, own) in self.touched
+                for _, source, own in (self.meaning(module, name) for name in node.names)))
+        return self.lambdas[node]
 
     def call(self, module, name, *given):
         """A function of all its arguments; the result is kept, if they have no unknowns."""
@@ -333,11 +207,15 @@ class Page:
             key = (module.name, name, *map(complete, given))
         except Stuck:
             return self.call_anew(module, name, given)
-        # what files say stays the same, whatever is changed: no copy has a function that this uses
-        results = self.results_of_files if module.name.startswith((OWN + "Files", OWN + "Types")) else self.results
+        # a goal is solved by the page that made it
+        results = (self if module.names[name].is_fact else self.holder(module, name, key[2:])).results
         if key not in results:
             results[key] = self.call_anew(module, name, key[2:])
         return results[key]
+
+    def holder(self, module, name, given):
+        """The page that keeps what is found of a definition: the one that was changed, if that is the same there."""
+        return self if (module.name, name) in self.touched or is_own(given) else self.base
 
     def call_anew(self, module, name, given):
         """What the first clause is that matches; for a fact all clauses may, if that depends on an unknown."""
@@ -356,63 +234,97 @@ class Page:
     def match(self, patterns, given, module):
         """The names of patterns with what they are in these values, or None if the values are of others; stuck if they
         may be."""
-        mark, env = len(TRAIL), {}
-        try:
-            if not unify(tuple(self.pattern(it, env, module) for it in patterns), given):
-                return None
-            own = set(env.values())
-            for unknown in TRAIL[mark:]:
-                if unknown not in own:
-                    raise Stuck(unknown)
-            return {name: resolved(value) for name, value in env.items()}
-        finally:
-            forget(mark)
+        env, stuck = {}, []
+        fit = all(self.fits(*it, env, stuck, module) for it in zip(patterns, given))
+        if fit and stuck:
+            raise Stuck(*stuck[:1])
+        return env if fit else None
+
+    def fits(self, node, value, env, stuck, module):
+        """Whether a value may be of a pattern; notes what the names are, and what has to be known for the rest."""
+        if node.shape is None:
+            node.shape = self.shape(node, module)
+        name, below = node.shape
+        if name is None:
+            env[below] = value
+            return True
+        value = resolved(value)
+        if value.__class__ is Unknown:
+            stuck.append(value)
+            return True
+        if name == "∷" and isinstance(value, tuple):
+            items = value and (value[0], value[1:])
+        elif name == "suc" and isinstance(value, int):
+            items = (value - 1,) if value else ()
+        elif not isinstance(value, Made):
+            return value == name
+        else:
+            items = value.items if value.name == name else ()
+        return len(items) == len(below) and (items or value.__class__ is Made and value.name == name) and all(
+            self.fits(*it, env, stuck, module) for it in zip(below, items))
+
+    def shape(self, node, module):
+        """What a pattern is: a constructor, a number or the empty list, with the patterns below; or a name."""
+        kind, parts = node.kind, node.parts
+        if self.is_variable(node, module):
+            return None, parts[0]
+        if kind in ("number", "nil") or node.head() == "zero":
+            return parts[0] if kind == "number" else () if kind == "nil" else 0, ()
+        if node.head():
+            return self.meaning(module, node.head())[2], node.arguments()
+        if kind in ("call", "part"):  # a name of a module
+            return (parts[0].parts if kind == "call" else parts)[-1], node.arguments()
+        return ("", parts[0]) if kind == "tuple" else (kind, parts)
 
     def is_variable(self, node, module):
         """Whether a pattern is a name that stands for any value."""
-        return node.kind == "name" and node.head() != "zero" and not isinstance(self.meaning(module, node.head())[0], int)
+        name = node.head()
+        return node.kind == "name" and name != "zero" and not isinstance(self.meaning(module, name)[0], int)
 
     def pattern(self, node, env, module):
         """A pattern as a value, whose names are unknowns."""
-        kind, parts = node.kind, node.parts
-        if self.is_variable(node, module):
-            return env.setdefault(node if parts[0] == "_" else parts[0], Unknown())
-        if kind in ("number", "nil"):
-            return parts[0] if parts else ()
-        items = [self.pattern(it, env, module) for it in node.arguments() or (
-            parts[0] if kind == "tuple" else parts if kind == "∷" else ())]
-        if node.head():
-            return 0 if node.head() == "zero" else Made(self.meaning(module, node.head())[2], *items)
-        return Made({"tuple": "", "part": parts[-1]}.get(kind, kind), *items)
+        name, below = self.shape(node, module)
+        if name is None:
+            return env.setdefault(node if below == "_" else below, Unknown())
+        return Made(name, *(self.pattern(it, env, module) for it in below)) if isinstance(name, str) else name
 
     # ---- facts
 
     def solve(self, goals):
-        """Finds the solutions of all of these, one after the other, and each is there while the unknowns are bound. A goal
-        that can't be tried yet waits for the others."""
+        """Finds the solutions of all of these, one after the other, and each is there while the unknowns are bound. A
+        goal that can't be tried yet waits for the others."""
         if not goals:
             yield
             return
         self.steps += 1
-        if self.steps > MOST_STEPS:
+        if self.steps > (MOST_STEPS if self.base is self else MOST_STEPS / 10):
             raise Unreadable("it takes too many steps")
-        goals, stuck = [*goals], None
-        for index, goal in enumerate(goals):
-            try:
-                while goal.name == self.facts and goal.items[0].kind in ("name", "call", "part"):
-                    goals[index] = goal = known(self.value(*goal.items))
-                alternatives = goal.name(*goal.items)
-            except Stuck as error:
-                stuck = stuck or error
-                continue
-            for equations, more in alternatives:
-                yield from self.solve_if(equations, [*more, *goals[:index], *goals[index + 1:]])
-            return
-        for unknown, values in self.guesses(goals):
+        goals = [*goals]
+        index, found = self.first(goals, False)
+        guesses = self.guesses(goals) if index is None else iter(())
+        guess = next(guesses, None)
+        if index is None and not guess:
+            index, found = self.first(goals, True)
+        if index is None:
+            unknown, values = guess or self.last_guess(goals, found)
             for value in values:
                 yield from self.solve_if([(unknown, value)], goals)
-            return
-        raise stuck
+        else:
+            for equations, more in found:
+                yield from self.solve_if(equations, [*more, *goals[:index], *goals[index + 1:]])
+
+    def first(self, goals, finds_lists):
+        """The place of the first goal that can be tried, and its alternatives; or none, and why one can't."""
+        stuck = None
+        for index, goal in enumerate(goals):
+            try:
+                while goal.name == self.facts and goal.items[0].kind in ("name", "call", "part", "let", "if"):
+                    goals[index] = goal = known(self.value(*goal.items))
+                self.finds_lists = finds_lists
+                return index, goal.name(*goal.items)
+            except Stuck as error:
+                stuck = stuck or error
+        return None, stuck
 
     def solve_if(self, equations, goals=()):
         """The solutions of goals in which these pairs are the same."""
@@ -443,14 +355,30 @@ class Page:
         return HOLDS if self.follows(node, [], dict(zip(env, map(complete, env.values()))), module) else FAILS
 
     def equations(self, parts, env, module):
-        """The alternatives of `a ≡ b`; of `text ≡ x ++ rest` there is one for each place at which the text is cut."""
+        """The alternatives of `a ≡ b`."""
         for whole, cut in (parts, parts[::-1]):
-            if cut.kind == "++":
-                head = self.value(cut.parts[0], env, module)
-                if isinstance(head, Unknown):
-                    whole, tail = known(self.value(whole, env, module)), self.value(cut.parts[1], env, module)
-                    return [([(head, whole[:at]), (tail, whole[at:])], []) for at in range(len(whole) + 1)]
-        return [([tuple(self.value(it, env, module) for it in parts)], [])]
+            if cut.kind == "++" or cut.head() in INVERSE:
+                try:
+                    self.value(cut, env, module)
+                except Stuck:
+                    return [(found, []) for found in self.cuts(known(self.value(whole, env, module)), cut, env, module)]
+        return self.same(parts[0], env, module, self.value(parts[1], env, module))
+
+    def same(self, node, env, module, value):
+        return [([(self.value(node, env, module), value)], [])]
+
+    def cuts(self, whole, node, env, module):
+        """What has to be the same so that an expression is this list: one way for each place at which it can be cut."""
+        if node.kind == "++":
+            head = self.value(node.parts[0], env, module)
+            heads = [whole[:at] for at in range(len(whole) + 1)] if isinstance(head, Unknown) else [
+                head] if whole[:len(known(head))] == head else []
+            return [[(head, it), *others] for it in heads
+                    for others in self.cuts(whole[len(it):], node.parts[1], env, module)]
+        if node.head() in INVERSE:
+            *given, last = (self.value(it, env, module) for it in node.arguments())
+            return [[(last, it)] for it in INVERSE[node.head()](whole, *given)]
+        return [[(self.value(node, env, module), whole)]]
 
     def follows(self, node, premises, env, module):
         """Whether a fact is so in each solution of the premises; those before its arrows are added."""
@@ -478,9 +406,19 @@ class Page:
             yield complete(term)
         except Stuck as error:
             unknown = resolved(error.args[0])
-            for value in (self.universe | ANY)[getattr(unknown, "type", None)]:
+            if not self.tried(unknown):
+                raise
+            for value in self.tried(unknown):
                 for _ in self.solve_if([(unknown, value)]):
                     yield from self.values_of(term)
+
+    def tried(self, unknown):
+        """What is tried of an unknown that nothing determines: what the world has of its type, or two values."""
+        type_ = getattr(unknown, "type", None)
+        some = (it.names[type_].fields.items() for it in self.modules.values()
+                if isinstance(it.names.get(type_), Relation) and it.names[type_].is_data)
+        return self.universe.get(type_) or ANY.get(type_) or [
+            Made(name) for name, of in next(some, ()) if not of.result()[1]][:2]
 
     def cases(self, module, function, given):
         """An alternative for each clause of a fact, if no clause before it matches."""
@@ -494,20 +432,23 @@ class Page:
     # ---- guesses, if all goals wait
 
     def guesses(self, goals):
-        """Unknowns with what they may be: lists first, and what nothing determines last."""
-        for goal in goals:
-            yield from self.lists(goal, goals)
-        unknowns = [*unknowns_in(tuple(goals))]
-        for values in (self.universe, ANY):
-            yield from ((it, values[it.type]) for it in unknowns if it.type in values)
+        """Unknown lists with what they may be, first those of which all members are told."""
+        return (it for sign in "↔→" for goal in goals for it in self.lists(goal, goals, sign))
 
-    def lists(self, goal, goals):
-        """An unknown list of a goal `(x : T) → Contains xs x ↔ P x`, and lists of what P holds of. If P only has to imply
-        that the list contains it, the list may have others; if it is only implied, the list may lack some."""
+    def last_guess(self, goals, stuck):
+        """An unknown with what it may be, first one that the world has something for."""
+        for unknown in sorted(unknowns_in(tuple(goals)), key=lambda it: it.type not in self.universe):
+            if self.tried(unknown):
+                return unknown, self.tried(unknown)
+        raise stuck
+
+    def lists(self, goal, goals, sign):
+        """An unknown list of a goal `(x : T) → Contains xs x ↔ P x`, and lists of what P holds of. If P only has to
+        imply that the list contains it, the list may have others; if it is only implied, the list may lack some."""
         if goal.name != self.facts or goal.items[0].kind != "all":
             return
         ((bound, body), env, module) = goal.items[0].parts, *goal.items[1:]
-        for one, other in itertools.permutations(body.parts[:2]) if body.kind in ("↔", "→") else ():
+        for one, other in itertools.permutations(body.parts[:2]) if body.kind == sign else ():
             if one.head() != "Contains":
                 continue
             try:
@@ -546,20 +487,22 @@ class Page:
                 if not one.is_data:
                     env = dict(zip(one.parameters, given)) | unknowns_of(one.rules[0].bound)
                     return [([], [self.fact(it, env, module) for it in one.rules[0].premises])]
-                if getattr(error.args[0], "type", "List") == "List":
-                    raise  # a list is guessed first
+                if getattr(error.args[0], "type", "List") == "List" and not self.finds_lists:
+                    raise  # other goals may tell what it is
                 key.append(None)
                 free.append(value)
         return [([(tuple(free), values)], []) for values in [*self.table(module, name, tuple(key))]]
 
     def table(self, module, name, given):
         """The solutions of a relation of these arguments: the values of those that are None."""
-        key = name, given
-        if key in self.tables:
-            self.tables[key].is_used = True
-            return self.tables[key]
+        page = self if self.reads_anew else self.holder(module, name, given)
+        key, tables = (name, given), page.kept.setdefault(self.given, {})
+        if key in tables:
+            tables[key].is_used = True
+            return tables[key]
         one, table, size = module.names[name], Table(), -1
-        self.tables[key] = table
+        tables[key] = table
+        self.busy.append(table)
         try:
             while len(table) > size and (size < 0 or table.is_used):
                 size = len(table)
@@ -567,66 +510,103 @@ class Page:
                     self.run(rule, one, given, module, table)
             table.is_used = False
             # what a table gave that is still busy may not be all
-            table.is_busy = any(it.is_busy and it.is_used for it in self.tables.values())
+            table.is_busy = any(it.is_used for it in self.busy)
         finally:
+            self.busy.pop()
             if table.is_busy:
-                del self.tables[key]
+                del tables[key]
         return table
 
     def run(self, rule, one, given, module, table):
-        """Adds the solutions that a rule gives."""
-        values = [unknown_of(of) if it is None else it for it, of in zip(given, one.takes)]
+        """Adds the solutions that a rule gives. A list that is asked for is found, and not guessed."""
+        values = [it if it is not None else Unknown() if of.head() == "List" else unknown_of(of)
+                  for it, of in zip(given, one.takes)]
         free = tuple(value for it, value in zip(given, values) if it is None)
         env = dict(zip(one.parameters, values)) | unknowns_of(rule.bound)
-        sides = [self.value(it, env, module) for it in rule.result.arguments()]
+        sides = rule.result.arguments()
         if len(sides) != len(given):
             raise Unreadable("a rule says nothing of its type")
-        for _ in self.solve_if(zip(sides, values), [self.fact(it, env, module) for it in rule.premises]):
-            table.update(dict.fromkeys(self.values_of(free)))
+        goals = [Goal(self.same, it, env, module, value) for it, value in zip(sides, values)]
+        for _ in self.solve([*goals, *(self.fact(it, env, module) for it in rule.premises)]):
+            table.update((found, None) for found in self.values_of(free)
+                         if all(not isinstance(it, int) or it <= FAR for it in found))
             if not free:
                 break
 
     # ---- worlds
 
-    def begin(self, run=None):
-        """Begins to find what is so of a run, or of all worlds; what was found of them before is kept."""
-        if run not in self.kept:
-            self.kept[run] = {}, self.universe_of(self.values_in(run) if run else self.values_of_worlds())
-        (self.tables, self.universe), self.steps = self.kept[run], 0
+    @functools.cached_property
+    def reads_anew(self):
+        """Whether what was changed is used to find what files say, and so what there is."""
+        return any((self.own + file, name) in self.touched for file, names in READERS.items() for name in names)
 
-    def values_in(self, run):
-        """A run, and what its files say."""
-        contents = [it.items[1].items[0] for it in run.part("answers").part("asked") if it.items[1].items]
-        return [run, self.of("Files", "main_in", run.part("file")), *(self.of("Files", "said_in", it) for it in contents)]
+    @property
+    def universe(self):
+        """What there is in a world, or in all: found when it is needed."""
+        page = self if self.reads_anew else self.base
+        if self.given not in page.universes:
+            values = self.values_of_worlds() if self.crate == "page" and not self.given else self.values_in(*self.given)
+            page.universes[self.given] = self.universe_of(values)
+        return page.universes[self.given]
+
+    def begin(self, *given):
+        """Begins to find what is so of a world, or of all of them."""
+        self.given, self.steps = given, 0
+
+    def values_in(self, *given):
+        """A world, and what its files say: their contents, or their lines and the versions there."""
+        asked = (it.items[0] if getattr(it, "name", "") == "Some" else it for it in given)
+        given = *given, *(Made("", it, text("v1.0.0")) for it in asked if is_text(it))
+        if self.crate == "page":
+            *_, run = (it for it in given if it.name == ("answers", "file", "sums"))
+            contents = [it.items[1].items[0] for it in run.part("answers").part("asked") if it.items[1].items]
+            return [*given, self.of("Files", "main_in", run.part("file")),
+                    *(self.of("Files", "said_in", it) for it in contents)]
+        return given
 
     def values_of_worlds(self):
         return [self.named(module, name) for module in self.modules.values() for name, one in module.names.items()
-                if module.name.startswith((OWN + "Files", OWN + "Worlds")) and getattr(one, "is_constant", False)]
+                if module.name.startswith((self.own + "Files", self.own + "Worlds"))
+                and getattr(one, "is_constant", False) and (self.few == FEW or str(MANY)[:4] not in module.texts[name])]
 
-    def outcomes(self, after, limit, run):
-        """All outcomes that `ListEnds` allows."""
-        self.begin(run)
-        outcome = Unknown("Outcome")
-        return self.found([self.of("ListQuery", "ListEnds", after, limit, run, outcome)], outcome)
+    def outcomes(self, node, env, module):
+        """All values of its last argument for which a fact holds."""
+        *given, _ = node.arguments()
+        given = [complete(self.value(it, env, module)) for it in given]
+        takes = self.meaning(module, node.head())[0].takes
+        outcome = Unknown(takes[-1].head() if len(takes) > len(given) else "Outcome")
+        self.begin(*given)
+        return self.found([self.value(node.parts[0], env, module).to(*given, outcome)], outcome)
 
     def needed(self, run):
         """The names of the files that a run needs by its answers, or None if its main file or its go.sum is invalid."""
-        self.begin(run)
+        self.begin(NONE, NONE, run)
         main, table, name = self.of("Files", "main_in", run.part("file")), Unknown(), Unknown("Name")
-        for sums in self.found([self.of("Types", "AreSums", run.part("sums"), table)], table) if main.name == "Ok" else ():
+        are_sums = self.of("Types", "AreSums", run.part("sums"), table)
+        for sums in self.found([are_sums], table) if main.name == "Ok" else ():
             by_answers = self.of("Run", "run_of", main.items[0], sums, run.part("answers").part("asked"))
             return self.found([self.of("Run", "IsNeeded", by_answers, name)], name)
         return None
+
+    def unneeded(self):
+        """For a run of `list` without an outcome, the files that it doesn't ask for but needs, and the other way
+        round."""
+        run = self.given[-1]
+        if self.crate != "page":
+            return []
+        asked = {it.items[0] for it in run.part("answers").part("asked")}
+        needed = self.needed(run)
+        needed = asked if needed is None else set(needed)
+        return [("doesn't ask for", needed - asked), ("asks without need for", asked - needed)]
 
     def is_so(self, node, env, module):
         """Whether a fact holds, over all worlds."""
         self.begin()
         return self.holds([self.fact(node, env, module)])
 
-    @staticmethod
-    def universe_of(values):
-        """The modules, names, files and rows that occur in values, by their types."""
-        found, replacements = collections.defaultdict(dict), {NONE: None}
+    def universe_of(self, values):
+        """The modules, names, files, rows, lines and versions that occur in values, by their types."""
+        found, replacements, texts = collections.defaultdict(dict), {NONE: None}, {(): None}
 
         def look(value):
             if isinstance(value, Made):
@@ -637,158 +617,103 @@ class Page:
                     replacements[Made("Some", value)] = found["Name"][Made(RIGHTS[value.name], *value.items)] = None
                 if value.name == ("path", "version"):
                     look(Made("", value.items[0], *(value.items[1].items or [text("v1.0.0")])))
-            elif isinstance(value, tuple) and not is_text(value):
+            elif is_text(value):
+                texts[value] = None
+            elif isinstance(value, tuple):
                 for it in value:
                     look(it)
 
         look(tuple(values))
+        if self.crate != "page":
+            words = {it[1:]: None for some in texts for it in re.findall(rb'[^][\s(),"`]+', bytes(some))}
+            readings = ("Lines", "Files", "lines_in", texts), ("Parts", "Types", "version_parts", words)
+            for name, *reader, some in readings:
+                said = (self.of(*reader, tuple(it)) for it in some)
+                found[name] = [placed(*it.items) for it in said if it.name == "Ok"]
         found["Name"].update((Made("mod_file", *it.items), None) for it in found["ModuleVersion"])
         found["Step"] = [Made("Main"), *(Made("Of", it) for it in found["ModuleVersion"])]
         found["Entry"] = found["×"] = [Made("", *it) for it in itertools.product(found["Step"], replacements)]
         return {name: [*some] for name, some in found.items() if name}
 
 
+def placed(value):
+    """Lines whose words have a place."""
+    if isinstance(value, Made):
+        is_word = value.name == ("kind", "spelling")
+        return record(word=value, line=0, span=NONE) if is_word else value.of(*map(placed, value.items))
+    return tuple(map(placed, value)) if isinstance(value, tuple) else value
+
+
+# what is used to find what there is in a world
+READERS = {"Files": ("main_in", "said_in", "lines_in"), "Types": ("version_parts",)}
 # the files of the right sides of replaces; which of the universe's types some constructors are of
 RIGHTS = {"Folder": "folder_file", "Module": "mod_file"}
-TYPES = {"mod_file": "Name", "folder_file": "Name", "list_file": "Name", ("declared", "go", "requirements"): "Dependency"}
-COMPARED = {"≢": lambda one, other: one != other, "≤": lambda one, other: one <= other, "<": lambda one, other: one < other}
-
-
-# ---- the library
-
-
-def compare(one, other):
-    return Made("Less" if one < other else "Greater" if one > other else "Equal")
-
-
-def compare_lists(order, one, other):
-    """The order of lists by that of their elements; a list comes after those that begin it."""
-    if order.name == "nat_cmp":
-        return compare(complete(one), complete(other))
-    orders = (known(order.to(*it)) for it in zip(one, other))
-    return next((it for it in orders if it.name != "Equal"), None) or compare(len(one), len(other))
-
-
-def then_compare(one, other, a, b):
-    found = known(one.to(a, b))
-    return found if found.name != "Equal" else other.to(a, b)
-
-
-def prepended(one, other):
-    tail = resolved(other)
-    return (one, *tail) if isinstance(tail, tuple) else Made("∷", one, tail)
-
-
-# operators that compute a value of two
-JOINED = {"∷": prepended, "==": lambda one, other: truth(known(one) == known(other)),
-          **dict.fromkeys(("+", "++"), lambda one, other: known(one) + known(other))}
-
-
-def contains(xs, x):
-    """An alternative for each element of a list."""
-    return [([(x, it)], []) for it in dict.fromkeys(known(xs))]
-
-
-def is_distinct(equal, xs):
-    pairs = itertools.combinations(complete(xs), 2)
-    return FAILS if any(is_true(equal.to(*it)) for it in pairs) else HOLDS
-
-
-def all_pairs(relation, xs):
-    return [([], [relation.to(*it) for it in itertools.combinations(complete(xs), 2)])]
-
-
-def all_by_recursion(relation, xs):
-    return [([], [relation.to(it) for it in complete(xs)])]
-
-
-def strict(body):
-    """A function whose arguments are known."""
-    return lambda *given: body(*map(known, given))
-
-
-BUILT = {name: (count, strict(body)) for name, count, body in [
-    ("bytes_eq", 2, lambda a, b: truth(complete(a) == complete(b))),
-    ("pointwise", 3, lambda equal, a, b: truth(len(a) == len(b) and all(is_true(equal.to(*it)) for it in zip(a, b)))),
-    ("nat_eq", 2, lambda a, b: truth(a == b)),
-    ("nat_lt", 2, lambda a, b: truth(a < b)),
-    ("nat_le", 2, lambda a, b: truth(a <= b)),
-    ("nat_cmp", 2, compare),
-    ("slice_cmp", 3, compare_lists),
-    ("then_cmp", 4, then_compare),
-    ("on", 4, lambda f, order, a, b: order.to(f.to(a), f.to(b))),
-    ("ordering_then", 2, lambda a, b: b if a.name == "Equal" else a),
-    ("is_gt", 1, lambda a: truth(a.name == "Greater")),
-    ("not", 1, lambda a: truth(a.name == "false")),
-    ("map", 2, lambda f, xs: tuple(f.to(it) for it in xs)),
-    ("flat_map", 2, lambda f, xs: tuple(y for x in xs for y in known(f.to(x)))),
-    ("filter", 2, lambda f, xs: tuple(it for it in xs if is_true(f.to(it)))),
-    ("find", 2, lambda f, xs: next((Made("Some", it) for it in xs if is_true(f.to(it))), NONE)),
-    ("before_first", 2, lambda f, xs: tuple(itertools.takewhile(lambda it: not is_true(f.to(it)), xs))),
-    ("list_any", 2, lambda f, xs: truth(any(is_true(f.to(it)) for it in xs))),
-    ("list_all", 2, lambda f, xs: truth(all(is_true(f.to(it)) for it in xs))),
-    ("length", 1, len),
-    ("take", 2, lambda n, xs: xs[:n]),
-    ("slice_index", 2, lambda xs, at: xs[at] if at < len(xs) else 0),
-    ("option_map", 2, lambda f, a: Made("Some", f.to(*a.items)) if a.items else a),
-    ("option_or", 2, lambda a, b: a if a.items else b),
-    ("is_none", 1, lambda a: truth(not a.items)),
-    ("decimal", 1, lambda n: text(str(n))),
-    ("is_ascii_lowercase", 1, lambda b: truth(97 <= b <= 122)),
-    ("is_ascii_digit", 1, lambda b: truth(48 <= b <= 57)),
-]}
-BUILT |= {name: (2, functools.partial(Goal, alternatives)) for name, alternatives in [
-    ("Contains", contains), ("IsDistinct", is_distinct), ("AllPairs", all_pairs), ("AllByRecursion", all_by_recursion)]}
-BUILT |= {"⊤": (0, lambda: Goal(lambda: HOLDS)), "⊥": (0, lambda: Goal(lambda: FAILS))}
+TYPES = {**dict.fromkeys(("mod_file", "folder_file", "list_file"), "Name"),
+         ("declared", "go", "requirements"): "Dependency"}
+COMPARED = {"≢": operator.ne, "≤": operator.le, "<": operator.lt}
 
 
 # ---- what the page says of its worlds
 
 
 class Claim:
-    """What is said: a world, which is the path, the limit and the run, and its outcome, if it has one; or a fact."""
+    """What is said: a fact; and the value of its last argument, or none, if it is one that has outcomes."""
 
-    def __init__(self, title, fact, world=None, said=()):
-        self.title, self.fact, self.world, self.said = title, fact, world, said
+    def __init__(self, title, node, env, module, said=None):
+        self.title, self.fact, self.said = title, (node, env, module), said
 
     def is_so(self, page):
-        return page.outcomes(*self.world) == self.said if self.world else page.is_so(*self.fact)
+        return page.is_so(*self.fact) if self.said is None else page.outcomes(*self.fact) == self.said
 
 
 def claims_of(page, title, node, env, module):
     """The claims that an expression makes, about each of its worlds."""
     head, arguments = node.head(), node.arguments()
     one, source, name = page.meaning(module, head) if head else (None, None, "")
-    if head in ("ListEnds", "HasNoOutcome"):
-        given = [page.value(it, env, module) for it in arguments]
-        return [Claim(title, None, *((given[:3], given[3:]) if head == "ListEnds" else ([NONE, NONE, *given], [])))]
+    is_of_worlds = source and source.name.startswith(page.own + "Worlds")
+    if head in ENDS:
+        return [Claim(title, node, env, module, [complete(page.value(arguments[-1], env, module))])]
+    if node.kind == "all" and node.parts[1].kind == "→" and node.parts[1].parts[0].head() in ENDS:
+        return [Claim(title, node.parts[1].parts[0], env, module, [])]
     if head == "AllByRecursion":
-        (parameter,), body = module.names[arguments[0].head()].clauses[0]
+        one = Node("call", (arguments[0], [Node("name", ("one",))]))
         return [it for number, world in enumerate(page.value(arguments[1], env, module)) for it in claims_of(
-            page, f"{arguments[1].head()}[{number}]", body, {parameter.head(): world}, module)]
-    if isinstance(one, Relation) and not one.count:
-        return [it for field, type_ in one.fields.items() for it in claims_of(page, f"{name}.{field}", type_, {}, source)]
-    if isinstance(one, Function) and one.is_fact and source.name.startswith(OWN + "Worlds"):
+            page, f"{arguments[1].head() or arguments[0].head()}[{number}]", one, {"one": world}, module)]
+    if isinstance(one, Relation) and is_of_worlds:
+        facts = [(f"{name}.{field}", type_, {}, source) for field, type_ in one.fields.items()]
+        return [it for fact in facts for it in claims_of(page, *fact)]
+    if isinstance(one, Function) and one.is_fact and is_of_worlds:
         patterns, body = one.clauses[0]
         given = [page.value(it, env, module) for it in arguments]
         return claims_of(page, title, body, dict(zip((it.head() for it in patterns), given)), source)
-    return [Claim(title, (node, env, module))]
+    return [Claim(title, node, env, module)]
 
 
 def all_claims(page):
-    """What crates/page proves of its worlds; not its law, that a run has one outcome."""
-    code, source = (PAGE / "src/lib.rt").read_text(), Module("", "")
+    """What a crate proves of its worlds, of those about the bound alone if the page has a lower one; not the law that a
+    run has one outcome."""
+    source = Module("", "")
+    code = pathlib.Path("crates", page.crate, "src/lib.rt").read_text()
     source.imports = scope_of(code)
     names = [it for it in re.findall(r"ensures \{ (\w+) \}", code) if it != "OneOutcome"]
-    return [it for name in names for it in claims_of(page, name, Node("name", (name,)), {}, source)]
+    return [it for name in names if name.startswith(BOUND) == (page.few == FEW)
+            for it in claims_of(page, name, Node("name", (name,)), {}, source)]
+
+
+def all_pages():
+    """The pages whose claims are tried."""
+    return Page(), Page(few=FEW), Page("page_commands")
 
 
 def wrong_claims():
-    """Compares all claims, and the cases, with what is computed; it prints what is otherwise, and gives how many are."""
-    page, text = Page(), CASES.read_text()
-    claims, facts = all_claims(page), re.findall(r"(?m)^(holds|fails) (.*)", text)
+    """Compares all claims, and the cases, with what is computed; it prints what is otherwise, and gives how many
+    are."""
+    text = CASES.read_text()
+    claims = [(page, it) for page in all_pages() for it in all_claims(page)]
+    facts = re.findall(r"(?m)^(holds|fails) (.*)", text)
+    wrong = [it.title for page, it in claims if not it.is_so(page)]
+    page = Page()
     cases = page.modules["cases"] = Module("cases", text[:text.index("\nholds")])
-    wrong = [it.title for it in claims if not it.is_so(page)]
     wrong += [f"{word} {it}" for word, it in facts if page.is_so(Parser(it).whole(), {}, cases) != (word == "holds")]
     for title in wrong:
         print(f"evaluate: {title} is otherwise")

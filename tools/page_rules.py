@@ -1,12 +1,13 @@
 """Changes of the definitions that crates/page copies, made by rule from their syntax; for tools/change_page.py."""
 
+import collections
 import re
 
-from definitions import OF_VALUES, Function, Parser, nodes_in
+from definitions import ESCAPES, OF_VALUES, Function, Parser, Relation
 
 COPY = "-- A copy from "
-# What becomes what else, or each the other: in a pattern, a letter stands for any expression. What depends on types is in
-# Maker.
+# What becomes what else, or each the other: in a pattern, a letter stands for any expression. What depends on types is
+# in Maker.
 RULES = """
 a ≡ b ⇔ a ≢ b
 a < b ⇔ a ≤ b
@@ -70,12 +71,14 @@ folder_file ⇒ list_file
 """ + "".join(f"{it} a b ⇒ {it} b a\n" for it in (
     "nat_lt", "nat_le", "version_cmp", "pair_cmp", "path_cmp", "is_same_left", "is_same_version", "then_cmp",
     "ordering_then", "option_or", "list_line"))
-TABLE = [(Parser(one).whole(), others.split("; ")) for left, sign, right in re.findall("(.+) ([⇒⇔]) (.+)", RULES)
-         for one, others in [(left, right), *([(right, left)] if sign == "⇔" else [])]]
+TABLE = collections.defaultdict(list)
+for left, sign, right in re.findall("(.+) ([⇒⇔]) (.+)", RULES):
+    for one, others in [(left, right), *([(right, left)] if sign == "⇔" else [])]:
+        pattern = Parser(one).whole()
+        TABLE[pattern.kind, pattern.head()].append((pattern, others.split("; ")))
+ESCAPED = str.maketrans({"\\": "\\\\", '"': '\\"', **{it: f"\\{name}" for name, it in ESCAPES.items()}})
 # the items of a type that are of one type
 ITEMS = {"ModuleVersion": "01", "ℕ × ℕ": "01", "Parts": "012"}
-# what the names are that a constructor's pattern has, if they are no texts
-OF_PATTERNS = {"Of": "ModuleVersion", "Ok": None, "Err": None}
 
 
 def fits(pattern, node, found):
@@ -105,7 +108,7 @@ class Maker:
         if kind in ("all", "some", "lambda"):
             bound = {name: self.of(of).strip("()") if of else None for name, of in parts[0].items()}
             scope, below = {**scope, **bound}, [parts[1]]
-        for pattern, templates in TABLE:
+        for pattern, templates in TABLE[kind, node.head()]:
             found = {}
             for template in templates if fits(pattern, node, found) else ():
                 new = re.sub(r"(?<![\w.\"])[a-z](?![\w'])", lambda it: self.of(found[it[0]]), template)
@@ -125,7 +128,7 @@ class Maker:
 
     def string(self, parts, _):
         """A text with another last letter, and one without it."""
-        begin = parts[0][:-1].replace("\n", "\\n")
+        begin = parts[0][:-1].translate(ESCAPED)
         return [f'"{begin}{it}"' for it in ("#", "")] if parts[0] else []
 
     def name(self, parts, scope):
@@ -142,15 +145,29 @@ class Maker:
 TYPED = {"number": Maker.number, "text": Maker.string, "name": Maker.name, "part": Maker.part}
 
 
+def types_in(page, module, pattern, type_):
+    """The names of a pattern with the texts of their types, or None if that isn't known."""
+    if page.is_variable(pattern, module):
+        return {pattern.head(): type_ and type_.strip("()")} if pattern.head() != "_" else {}
+    name, below = page.shape(pattern, module)
+    node = pattern.parts[0] if pattern.kind == "call" else pattern
+    source = page.modules.get(module.imports[node.parts[0].head()][0]) if node.kind == "part" else (
+        page.meaning(module, node.head())[1] if node.head() else None)
+    types = [None] * len(below)
+    if name in ("∷", "Some") and type_:
+        types = [type_.strip("()").partition(" ")[2], type_][:len(below)]
+    elif source and below:
+        fields = next(it.fields for it in source.names.values() if isinstance(it, Relation) and name in it.fields)
+        types = [source.text[it.start:it.end] for it in fields[name].result()[1]]
+    return {name: of for it in zip(below, types) for name, of in types_in(page, module, *it).items()}
+
+
 def of_function(page, module, one, maker):
     """The changes of a function: those of each clause, and that a clause has its neighbour's body."""
     for index, (patterns, body) in enumerate(one.clauses):
         scope = {}
         for pattern, type_ in zip(patterns, one.takes):
-            for node in [pattern, *nodes_in(pattern.arguments())]:
-                if page.is_variable(node, module) and node.head() != "_":
-                    of = maker.of(type_).strip("()") if node is pattern else OF_PATTERNS.get(pattern.head(), "List ℕ")
-                    scope[node.head()] = of
+            scope |= types_in(page, module, pattern, maker.of(type_))
         yield from maker.changes(body, scope)
         for patterns_of_other, other in one.clauses[max(index - 1, 0):index] + one.clauses[index + 1:index + 2]:
             needed = {name for it in patterns_of_other for name in it.names} & other.names.keys()
@@ -182,16 +199,18 @@ def of_relation(_, __, one, maker):
 
 
 def changes(page):
-    """All changes by rule of what crates/page copies, each once: the module, the name, from where to where, what comes."""
+    """All changes by rule of what crates/page copies, each once: the module, the name, from where to where, what
+    comes."""
     for module in page.modules.values():
-        seen = {bare(module.text)}
+        seen, whole = set(), module.text
         for name, one in module.names.items() if module.text.startswith(COPY) else ():
             if isinstance(one, int) or (one.type.head() == "Type" if isinstance(one, Function) else not one.count):
                 continue  # a constructor or a type
             make = of_function if isinstance(one, Function) else of_relation
             for start, end, new in make(page, module, one, Maker(module.text)):
-                text = bare(module.text[:start] + new + module.text[end:])
-                if text not in seen:
+                first, last = whole.rfind("\n\n", 0, start), whole.find("\n\n", end)
+                old, text = bare(whole[first:last]), bare(whole[first:start] + new + whole[end:last])
+                if text != old and text not in seen:
                     seen.add(text)
                     yield module, name, start, end, new
 
