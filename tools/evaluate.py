@@ -83,7 +83,8 @@ class Page:
             self.modules = {**base.modules, file: Module(file, text)}
             old, new = base.modules[file].texts, self.modules[file].texts
             self.changed = {name for name, it in new.items() if it != old.get(name)}
-            self.touch({(file, name) for name in self.changed})
+            # all else is as in the page that was changed
+            self.touched = base.with_users({(file, name) for name in self.changed})
         else:
             specs = pathlib.Path("crates", crate, "specs")
             files = {self.own + ".".join(it.with_suffix("").relative_to(specs).parts): it
@@ -106,11 +107,13 @@ class Page:
                     found[source and source.name, own].add((module.name, name))
         return found
 
-    def touch(self, some):
-        """Notes what these definitions are used by: all else is as in the page that was changed."""
+    def with_users(self, some):
+        """These definitions, and those that use them."""
+        found = set()
         while some:
-            self.touched |= some
-            some = {user for it in some for user in self.base.users[it]} - self.touched
+            found |= some
+            some = {user for it in some for user in self.users[it]} - found
+        return found
 
     def of(self, module, name, *given):
         """A definition of a module of the page, of these arguments."""
@@ -565,9 +568,12 @@ class Page:
         return given
 
     def values_of_worlds(self):
-        return [self.named(module, name) for module in self.modules.values() for name, one in module.names.items()
-                if module.name.startswith((self.own + "Files", self.own + "Worlds"))
-                and getattr(one, "is_constant", False) and (self.few == FEW or str(MANY)[:4] not in module.texts[name])]
+        """What the worlds are made of; lists that are as long as the bound only if that is a low one."""
+        constants = {(module.name, name) for module in self.modules.values() for name, one in module.names.items()
+                     if module.name.startswith((self.own + "Files", self.own + "Worlds"))
+                     and getattr(one, "is_constant", False)}
+        long = {it for it in constants if str(MANY) in self.modules[it[0]].texts[it[1]] and self.few == MANY}
+        return [self.named(self.modules[file], name) for file, name in sorted(constants - self.base.with_users(long))]
 
     def outcomes(self, node, env, module):
         """All values of its last argument for which a fact holds."""
