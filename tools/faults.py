@@ -88,8 +88,9 @@ LINES = [
     ("edit --help", b""),
 ]
 FOLDERS = {"E": "example", "D": "crates/run_cases/data/example", "V": "crates/run_cases/data/versions"}
-# the modules of the main files in D and L that folders and another module replace
+# the modules of the main files in D, L and W that folders and another module replace
 REPLACED = {"./local": "example.com/local@v0.0.0", "example.com/fork@v1.1.0": "example.com/c@v1.9.0"}
+REPLACED["./x"] = "local@v1.0.0"
 REPLACED |= {f"./{number}": f"{it}@v1.0.0" for number, it in enumerate(LONG)}
 NO_MEMORY = b"", b"gomod: no memory\n", 3
 # how many bytes of lines wait to be written: two writes in a row have more (crates/gomod_run/src/reports/buffer.rt)
