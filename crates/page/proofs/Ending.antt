@@ -1,9 +1,7 @@
 -- How a run ends, from what each module that is written out says.
-use Rattle.std.proofs.Common.{◌≡◌, ◌≤◌, Bool, true, false, List, [], ◌∷◌, Option, Some, Result, Contains, arith, length, subst, sym}
-use Rattle.std.specs.Prelude.{if◌then◌else◌}
+use Rattle.std.proofs.Common.{◌≡◌, ◌≤◌, true, List, [], ◌∷◌, Option, Result, Contains, arith, inl, inr, length, subst, sym}
 use Rattle.std.specs.List.{AllByRecursion, IsDistinct}
-use Rattle.std.proofs.lemmas.Option.{same_Some}
-use Rattle.page.specs.Asked.{Name, Reply, answer_in, names_in, same_name}
+use Rattle.page.specs.Asked.{Name, Reply, names_in, same_name}
 use Rattle.page.specs.Fields.{Dependency}
 use Rattle.page.specs.Files.RowFiles.{most_opened}
 use Rattle.page.specs.Main.{Main}
@@ -11,6 +9,7 @@ use Rattle.page.specs.ModuleVersion.{ModuleVersion}
 use Rattle.page.specs.Reading.{IsFileReading, file_of, is_askable}
 use Rattle.page.specs.Run.{IsNeeded, IsOpened, IsRead, IsSettled, Run, run_of}
 use Rattle.page.specs.Types.{Class, Sums}
+use Rattle.page.proofs.Forms.{answer_is}
 use Rattle.page.proofs.Members.{each_member, few_members}
 
 -- ---- answers
@@ -19,18 +18,12 @@ use Rattle.page.proofs.Members.{each_member, few_members}
 abbrev pub IsReadable : Option Sums → Name × Reply → Type 0
 IsReadable sums pair = (name : Name) → (said : Result Dependency Class) × IsFileReading sums name pair.1 said
 
-read_if : (sums : Option Sums) (is : Bool) (name : Name) (first reply : Reply) (others : Option Reply)
-    → ((name : Name) → (said : Result Dependency Class) × IsFileReading sums name first said)
-    → (others ≡ Some reply → (said : Result Dependency Class) × IsFileReading sums name reply said)
-    → (if is then Some first else others) ≡ Some reply → (said : Result Dependency Class) × IsFileReading sums name reply said
-read_if sums true name first reply others own later at =
-    subst (λ (r : Reply). (said : Result Dependency Class) × IsFileReading sums name r said) (same_Some first reply at) (own name)
-read_if sums false name first reply others own later at = later at
-
 pub all_read : (main : Main) (sums : Option Sums) (asked : List (Name × Reply)) → AllByRecursion (IsReadable sums) asked → IsRead (run_of main sums asked)
 all_read main sums [] h name reply at = absurd (cc at)
-all_read main sums (pair ∷ pairs) h name reply at =
-    read_if sums (same_name name pair.0) name pair.1 reply (answer_in pairs name) h.0 (all_read main sums pairs h.1 name reply) at
+all_read main sums (pair ∷ pairs) h name reply at = elim (answer_is pair pairs name reply at) [
+  | inl own ↦ subst (λ (r : Reply). (said : Result Dependency Class) × IsFileReading sums name r said) own (h.0 name)
+  | inr later ↦ all_read main sums pairs h.1 name reply later
+]
 
 module _ (main : Main) (sums : Option Sums) (asked : List (Name × Reply)) (opened : List ModuleVersion)
     (opened_in : (x : ModuleVersion) → IsOpened (run_of main sums asked) x → Contains opened x) where

@@ -1,4 +1,5 @@
 pub mod Members
+pub mod Forms
 pub mod Saying
 pub mod Ending
 pub mod RowsTable

@@ -1,5 +1,5 @@
 -- Members of lists that are written out, and how many different modules such a list has.
-use Rattle.std.proofs.Common.{◌≡◌, ◌∙◌, ◌↔◌, ◌≤◌, ◌⊎◌, ℕ, zero, suc, true, false, List, [], ◌∷◌, Contains, ap, ap₂, arith, inl, inr, length, nat_eq, refl, subst, sym}
+use Rattle.std.proofs.Common.{◌≡◌, ◌∙◌, ◌↔◌, ◌≤◌, ◌⊎◌, ◌&&◌, ℕ, Bool, zero, suc, true, false, List, [], ◌∷◌, Contains, ap, ap₂, arith, inl, inr, length, nat_eq, refl, subst, sym}
 use Rattle.std.specs.Prelude.{AllPairs}
 use Rattle.std.specs.Cmp.{IsEquivalence, IsTotalOrder, decided}
 use Rattle.std.specs.Cmp.Lexicographic.{nat_list_eq_equiv, pointwise, same_text}
@@ -12,7 +12,6 @@ use Rattle.std.proofs.lemmas.List.Kept.{AllPairs-cons}
 use Rattle.std.proofs.lemmas.Map.Made.{length-le_from_is_member}
 use Rattle.std.proofs.lemmas.Map.Views.{Contains-from_any, list_any-from_Contains}
 use Rattle.page.specs.ModuleVersion.{ModuleVersion, pair_eq}
-use Rattle.page.specs.Order.{IsAscending}
 
 -- ---- members
 
@@ -90,7 +89,7 @@ module _ {T : Type 0} {cmp : T → T → Ordering} (total : IsTotalOrder cmp) wh
     | inr rest ↦ rest
   ]
 
-  pub same_lists : (xs ys : List T) → IsAscending cmp xs → IsAscending cmp ys → ((z : T) → Contains xs z ↔ Contains ys z) → xs ≡ ys
+  pub same_lists : (xs ys : List T) → AllPairs IsLess xs → AllPairs IsLess ys → ((z : T) → Contains xs z ↔ Contains ys z) → xs ≡ ys
   same_lists [] [] up down h = refl
   same_lists [] (y ∷ ys) up down h = absurd (no_member y ((h y).1 (member_head y ys)))
   same_lists (x ∷ xs) [] up down h = absurd (no_member x ((h x).0 (member_head x xs)))
@@ -111,11 +110,20 @@ text_itself a = nat_list_eq_equiv.refl a
 pair_itself : (a : ModuleVersion) → pair_eq a a ≡ true
 pair_itself a = rw (text_itself a.0, text_itself a.1) refl
 
+left_true : (p q : Bool) → (p && q) ≡ true → p ≡ true
+left_true p q e = (and_parts p q e).0
+
+right_true : (p q : Bool) → (p && q) ≡ true → q ≡ true
+right_true p q e = (and_parts p q e).1
+
+ruleset both_true = (left_true, right_true)
+
 pub pair_same : (a b : ModuleVersion) → pair_eq a b ≡ true → a ≡ b
 pair_same a b e =
-    let p = and_parts (pointwise nat_eq a.0 b.0) (pointwise nat_eq a.1 b.1) e in
-    ap (λ (x : List ℕ). (x, a.1)) (same_text a.0 b.0 (sym p.0))
-    ∙ ap (λ (x : List ℕ). (b.0, x)) (same_text a.1 b.1 (sym p.1))
+    let paths : pointwise nat_eq a.0 b.0 ≡ true = search both_true in
+    let versions : pointwise nat_eq a.1 b.1 ≡ true = search both_true in
+    ap (λ (x : List ℕ). (x, a.1)) (same_text a.0 b.0 (sym paths))
+    ∙ ap (λ (x : List ℕ). (b.0, x)) (same_text a.1 b.1 (sym versions))
 
 pairs_equivalence : IsEquivalence pair_eq
 pairs_equivalence = decided pair_eq (λ a b. (pair_same a b, λ same. subst (λ (x : ModuleVersion). pair_eq a x ≡ true) same (pair_itself a)))

@@ -8,12 +8,13 @@ use Rattle.page.specs.Files.RowFiles.{alone_file, alone_text, bare_file, first_o
 use Rattle.page.specs.Files.RowFiles.{most_opened}
 use Rattle.page.specs.Main.{Main, without_excluded}
 use Rattle.page.specs.ModuleVersion.{ModuleVersion}
-use Rattle.page.specs.Queries.{AreFound, Given, bad_main, bad_sums, device, faulty, no_fault, too_many}
+use Rattle.page.specs.Queries.{AreFound, Given, IsUnasked, bad_main, bad_sums, device, faulty, no_fault, too_many}
 use Rattle.page.specs.Path.{is_fetchable}
 use Rattle.page.specs.Run.{AreTooMany, IsDeep, IsDue, IsNeeded, IsOpened, IsTop, Requires, Run, from_deep, from_main, from_top, run_of}
 use Rattle.page.specs.Types.{AreSums, Fault, Misreading, Sums}
 use Rattle.page.specs.Worlds.{HasNoOutcome, failing, given_by}
 use Rattle.page.specs.Worlds.Rows.{OthersHaveNone, a_bare, a_name}
+use Rattle.page.proofs.Forms.{none_asked, none_failed}
 use Rattle.page.proofs.Members.{each_member, few_members, no_member}
 use Rattle.page.proofs.OneOutcome.{not_both, one_main}
 use Rattle.page.proofs.Saying.{required_in, said_of, says}
@@ -32,7 +33,7 @@ some_not_none a e = cc e
 -- ---- a main file that is invalid
 
 pub no_main : (run : Given) (place : ℕ × Misreading) → main_in run.file ≡ Err place → run.sums ≡ None
-    → ((run.answers.asked ≡ []) × (run.answers.failed ≡ []) → ⊥) → HasNoOutcome run
+    → (IsUnasked run.answers → ⊥) → HasNoOutcome run
 no_main run place is none asks outcome (bad_main other misread unasked says) = asks unasked
 no_main run place is none asks outcome (bad_sums main report read bad unasked says) = not_both main place (sym read ∙ is)
 no_main run place is none asks outcome (device main table name read due failed says) = not_both main place (sym read.main_file ∙ is)
@@ -114,8 +115,8 @@ none_unneeded : HasNoOutcome (given_by alone_text (a_bare ∷ []))
 none_unneeded = none_ends alone_text alone_file (a_bare ∷ []) [] refl (alone_is_bare (a_bare ∷ [])) (omega arith) (nothing_failed (a_bare ∷ []) alone_file)
     (λ faults found. not_needed (a_bare ∷ []) a_name ((found.settled.needed a_name).0 (0, omega arith, refl)))
 
-none_failed : HasNoOutcome (failing alone_text [] a_name)
-none_failed = none_ends alone_text alone_file [] (a_name ∷ []) refl (alone_is_bare []) (omega arith)
+device_failed : HasNoOutcome (failing alone_text [] a_name)
+device_failed = none_ends alone_text alone_file [] (a_name ∷ []) refl (alone_is_bare []) (omega arith)
     (λ name is due. not_needed [] name due.calls.needed) (λ faults found. no_cons a_name [] found.none_failed)
 
 abbrev twice : List (Name × Reply)
@@ -147,7 +148,7 @@ not_read (Some table) is = cc is
 
 -- a file was asked for beside it, or the device failed on one
 beside_bad : (content : List ℕ) (main : Main) (asked : List (Name × Reply)) (failed : List Name) → main_in content ≡ Ok main
-    → ((asked ≡ []) × (failed ≡ []) → ⊥)
+    → (IsUnasked (record { asked = asked; failed = failed }) → ⊥)
     → HasNoOutcome (record { file = content; sums = bad; answers = record { asked = asked; failed = failed } })
 beside_bad content main asked failed is_main asks outcome (bad_main place misread unasked is) = not_both main place (sym is_main ∙ misread)
 beside_bad content main asked failed is_main asks outcome (bad_sums other report is invalid unasked says) = asks unasked
@@ -161,7 +162,7 @@ others_have_none = record {
   unasked = none_unasked;
   unneeded = none_unneeded;
   twice = none_twice;
-  failed = none_failed;
-  beside_sums = beside_bad alone_text alone_file (a_bare ∷ []) [] refl (λ unasked. no_cons a_bare [] unasked.0);
-  failed_beside_sums = beside_bad one_text one_file [] (a_name ∷ []) refl (λ unasked. no_cons a_name [] unasked.1);
+  failed = device_failed;
+  beside_sums = beside_bad alone_text alone_file (a_bare ∷ []) [] refl (λ unasked. no_cons a_bare [] (none_asked _ unasked));
+  failed_beside_sums = beside_bad one_text one_file [] (a_name ∷ []) refl (λ unasked. no_cons a_name [] (none_failed _ unasked));
 }

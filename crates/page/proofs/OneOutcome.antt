@@ -18,6 +18,7 @@ use Rattle.page.specs.Run.{AreFaults, AreRows, AreTooMany, Run, run_of}
 use Rattle.page.specs.Types.{AreInvalidSums, AreSums, Fault, Parts, Sums, parts_in, pre_cmp, pre_rank}
 use Rattle.page.specs.Version.{precedence, version_cmp}
 use Rattle.page.specs.Worlds.{OneOutcome}
+use Rattle.page.proofs.Forms.{pairs_in}
 use Rattle.page.proofs.Members.{member_head, member_tail, same_lists}
 
 -- ---- orders
@@ -113,7 +114,8 @@ one_faults run a b is be = same_lists faults_total a b is.ascending be.ascending
 
 one_rows : (run : Run) (a b : List Entry) → AreRows run a → AreRows run b → a ≡ b
 one_rows run a b is be =
-    let same : is.selected ≡ be.selected = same_lists path_total is.selected be.selected is.ascending be.ascending (λ x. both (is.each x) (be.each x)) in
+    let same : is.selected ≡ be.selected = same_lists path_total is.selected be.selected
+    (pairs_in path_cmp is.selected is.ascending) (pairs_in path_cmp be.selected be.ascending) (λ x. both (is.each x) (be.each x)) in
     is.entries_are ∙ ap (λ (xs : List ModuleVersion). main_entry ∷ map (entry_of (replacement_in run.main)) xs) same ∙ sym be.entries_are
 
 -- ---- what follows a path
@@ -208,11 +210,11 @@ data Reads (after : Option (List ℕ)) (limit : Option ℕ) (run : Given) (outco
       → Ends after limit run main table outcome → Reads after limit run outcome
 
 reads : (after : Option (List ℕ)) (limit : Option ℕ) (run : Given) (outcome : Outcome) → ListEnds after limit run outcome → Reads after limit run outcome
-reads after limit run outcome (bad_main place misread unasked is) = no_main place misread is
-reads after limit run outcome (bad_sums main report is bad unasked says) = no_sums main report is bad says
-reads after limit run outcome (device main table name read due failed is) = valid main table read (broken name failed is)
-reads after limit run outcome (too_many main table read readable over unfailed is) = valid main table read (many over unfailed is)
-reads after limit run outcome (faulty main table first others found is) = valid main table found.read (known (first ∷ others) found is)
+reads after limit run outcome (bad_main place misread unasked is) = no_main place misread search
+reads after limit run outcome (bad_sums main report is bad unasked says) = no_sums main report is bad search
+reads after limit run outcome (device main table name read due failed is) = valid main table read (broken name failed (search))
+reads after limit run outcome (too_many main table read readable over unfailed is) = valid main table read (many over unfailed (search))
+reads after limit run outcome (faulty main table first others found is) = valid main table found.read (known (first ∷ others) found (search))
 reads after limit run outcome (no_fault main table found prints) = valid main table found.read (known [] found prints)
 
 module _ (after : Option (List ℕ)) (limit : Option ℕ) (run : Given) where

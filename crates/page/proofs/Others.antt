@@ -20,6 +20,7 @@ use Rattle.page.specs.Types.{Class, Malformed, NotFetchable, Of, TooMany, WrongP
 use Rattle.page.specs.Worlds.{printing, pruned_answers, wrong_answers}
 use Rattle.page.specs.Worlds.Parts.{OthersDoNotHold, huge_answers, local_answers, local_name, pruned_run, stray_answers, three_rows, to_own, twice_rows}
 use Rattle.page.specs.Worlds.Rows.{a_name, unopened_answers}
+use Rattle.page.proofs.Forms.{end_of, greatest_of}
 use Rattle.page.proofs.Members.{differ, member_cases, no_member}
 use Rattle.page.proofs.Saying.{file_is, reading_of, reads, said_of, says}
 
@@ -150,7 +151,8 @@ unfolding is_fetchable
 top_requires = (inl (0, omega arith, refl), (top_file, sound (answered (bytes top_text) refl refl refl) refl, (0, omega arith, refl)))
 
 not_lesser : IsSelected (codes "m") (IsEdge pruned_run) mid_nine → ⊥
-not_lesser is = false≢true (sym (is.greatest mid_ten (Of top_one, top_requires) refl))
+not_lesser is = false≢true (sym (greatest_of (codes "m") (IsEdge pruned_run) mid_nine is mid_ten
+    (end_of (IsEdge pruned_run) (Of top_one) mid_ten top_requires) refl))
 
 -- ---- what does not follow
 

@@ -1,24 +1,23 @@
 -- What single definitions say, each from its own rules.
-use Rattle.std.proofs.Common.{◌≡◌, ℕ, Bool, true, false, List, [], ◌∷◌, Contains, Some, None, Result, Ok, Err, arith, codes, inl, inr, refl, subst, sym}
-use Rattle.std.specs.Prelude.{if◌then◌else◌}
+use Rattle.std.proofs.Common.{◌≡◌, ℕ, false, List, [], ◌∷◌, Contains, Some, None, Result, Ok, Err, arith, codes, inl, inr, refl, subst, sym}
 use Rattle.std.specs.Fmt.{digits}
 use Rattle.std.specs.Ordering.{is_gt}
-use Rattle.std.proofs.lemmas.Option.{same_Some}
-use Rattle.page.specs.Asked.{Reply, bytes, folder_file, list_file, mod_file, same_name}
+use Rattle.page.specs.Asked.{Reply, bytes, folder_file, list_file, mod_file}
 use Rattle.page.specs.BuildList.{main_entry, path_of}
 use Rattle.page.specs.Entries.{Entry}
 use Rattle.page.specs.Fields.{Dependency}
-use Rattle.page.specs.Files.{folder_says, folder_text, end_one, low_ten, mid_file, mid_nine, mid_ten, mid_text, top_file, top_one, top_text}
+use Rattle.page.specs.Files.{folder_says, folder_text, end_one, low_nine, low_ten, mid_file, mid_nine, mid_ten, mid_text, top_file, top_one, top_text}
 use Rattle.page.specs.Files.RowFiles.{file_requiring, first_of, going, huge_text, malformed_text, one_file, requiring, three_file}
 use Rattle.page.specs.Graph.{IsEdgeEnd}
 use Rattle.page.specs.ModuleVersion.{ModuleVersion}
 use Rattle.page.specs.Path.{is_fetchable}
 use Rattle.page.specs.Reading.{IsFileReading}
 use Rattle.page.specs.Run.{IsDeep, IsOpened, IsRead, Says, answered, faulty, from_deep, from_main, from_top, run_of, sound, wrong_path}
-use Rattle.page.specs.Types.{Class, Main, NoSum, Of}
+use Rattle.page.specs.Types.{Class, Main, NoSum, Of, Step}
 use Rattle.page.specs.Version.{version_cmp}
 use Rattle.page.specs.Worlds.Parts.{PartsAreShown, huge_answers, pruned_run, two_paths, two_versions}
 use Rattle.page.specs.Worlds.Rows.{a_name, malformed_answers}
+use Rattle.page.proofs.Forms.{answer_is, edge_to, end_of, fault_of, selected_by}
 use Rattle.page.proofs.Members.{differ, member_cases, no_member}
 
 top_says : Says pruned_run top_one (Ok top_file)
@@ -52,23 +51,23 @@ b_is_opened = inr (from_deep (from_main refl (0, omega arith, refl)) (
 ))
 
 greatest_version : (y : ModuleVersion) → IsEdgeEnd two_versions y → y.0 ≡ mid_ten.0 → is_gt (version_cmp y.1 mid_ten.1) ≡ false
-greatest_version y (step, inl e) same = subst (λ (z : ModuleVersion). is_gt (version_cmp z.1 mid_ten.1) ≡ false) (sym e) refl
-greatest_version y (step, inr e) same = subst (λ (z : ModuleVersion). is_gt (version_cmp z.1 mid_ten.1) ≡ false) (sym e) refl
+greatest_version y is same = elim (edge_to two_versions y is).1 [
+  | inl e ↦ subst (λ (z : ModuleVersion). is_gt (version_cmp z.1 mid_ten.1) ≡ false) (sym e) refl
+  | inr e ↦ subst (λ (z : ModuleVersion). is_gt (version_cmp z.1 mid_ten.1) ≡ false) (sym e) refl
+]
 
 greatest_of_path : (y : ModuleVersion) → IsEdgeEnd two_paths y → y.0 ≡ mid_nine.0 → is_gt (version_cmp y.1 mid_nine.1) ≡ false
-greatest_of_path y (step, inl e) same = subst (λ (z : ModuleVersion). is_gt (version_cmp z.1 mid_nine.1) ≡ false) (sym e) refl
-greatest_of_path y (step, inr e) same = absurd (differ low_ten.0 mid_nine.0 refl (subst (λ (z : ModuleVersion). z.0 ≡ mid_nine.0) e same))
-
--- whatever has the answer, the go.sum lists nothing
-huge_says : (is : Bool) (path version : List ℕ) (reply : Reply) → (if is then Some (bytes huge_text) else None) ≡ Some reply
-    → (said : Result Dependency Class) × IsFileReading (Some []) (mod_file path version) reply said
-huge_says true path version reply at =
-    subst (λ (r : Reply). (said : Result Dependency Class) × IsFileReading (Some []) (mod_file path version) r said)
-    (same_Some (bytes huge_text) reply at) (Err NoSum, refl)
-huge_says false path version reply at = absurd (cc at)
+greatest_of_path y is same = elim (edge_to two_paths y is).1 [
+  | inl e ↦ subst (λ (z : ModuleVersion). is_gt (version_cmp z.1 mid_nine.1) ≡ false) (sym e) refl
+  | inr e ↦ absurd (differ low_ten.0 mid_nine.0 refl (subst (λ (z : ModuleVersion). z.0 ≡ mid_nine.0) e same))
+]
 
 huge_is_read : IsRead (run_of one_file (Some []) huge_answers)
-huge_is_read (mod_file path version) reply at = huge_says (same_name (mod_file path version) a_name) path version reply at
+-- whatever has the answer, the go.sum lists nothing
+huge_is_read (mod_file path version) reply at = elim (answer_is (a_name, bytes huge_text) [] (mod_file path version) reply at) [
+  | inl own ↦ subst (λ (r : Reply). (said : Result Dependency Class) × IsFileReading (Some []) (mod_file path version) r said) own (Err NoSum, refl)
+  | inr later ↦ absurd (cc later)
+]
 huge_is_read (folder_file text) reply at = absurd (cc at)
 huge_is_read (list_file path) reply at = absurd (cc at)
 
@@ -89,12 +88,14 @@ parts_are_shown = record {
   from_deep = from_deep mid_is_deep (folder_says, sound (answered (bytes folder_text) refl refl refl) refl, (0, omega arith, refl));
   opened = inr mid_is_deep;
   needed = (mid_ten, inr mid_is_deep, refl, refl);
-  fault = (b_is_opened, faulty (answered (bytes malformed_text) refl refl refl));
+  fault = fault_of _ _ b_is_opened (faulty (answered (bytes malformed_text) refl refl refl));
   edge = (inl (1, omega arith, refl), (mid_file, sound (answered (bytes mid_text) refl refl refl) refl, (0, omega arith, refl)));
   top_edge = (inl (0, omega arith, refl), (a_file, sound (answered (bytes a_text) refl refl refl) refl, (0, omega arith, refl)));
-  end = (Of mid_nine, refl);
-  greater = record { not_main = differ mid_ten.0 (codes "m") refl; is_end = (Of mid_nine, inr refl); greatest = greatest_version };
-  other_path = record { not_main = differ mid_nine.0 (codes "m") refl; is_end = (Of mid_nine, inl refl); greatest = greatest_of_path };
+  end = end_of (λ (step : Step) (x : ModuleVersion). step ≡ Of mid_nine) (Of mid_nine) low_nine refl;
+  greater = selected_by (codes "m") two_versions mid_ten (differ mid_ten.0 (codes "m") refl)
+      (end_of two_versions (Of mid_nine) mid_ten (inr refl)) greatest_version;
+  other_path = selected_by (codes "m") two_paths mid_nine (differ mid_nine.0 (codes "m") refl)
+      (end_of two_paths (Of mid_nine) mid_nine (inl refl)) greatest_of_path;
   tie = refl;
   builds = refl;
   first_right = refl;

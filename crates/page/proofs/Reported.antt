@@ -14,6 +14,7 @@ use Rattle.page.specs.Worlds.{DeviceIsReported, FaultsAreReported, HasNoOutcome,
 use Rattle.page.specs.Worlds.Rows.{EmptyMainIsReported, FolderDeviceIsReported, ForkIsReported, HostsAreReported, MalformedIsReported, OneFileIsReported, SumsAreReported, TwoFaultsAreReported, UnfetchableIsReported, a_bare, a_name, answer, first_answers, folder_answers, fork_answers, fork_name, lower_answers, malformed_answers, malformed_report, name_at, nine_answers, sums_answers, two_long, two_missing, wrong_fork_answers}
 use Rattle.page.proofs.Checked.{ends_so}
 use Rattle.page.proofs.Ending.{all_read}
+use Rattle.page.proofs.Forms.{none_asked, none_failed}
 use Rattle.page.proofs.Nothing.{no_cons, no_main, same_one, some_not_none}
 use Rattle.page.proofs.OneOutcome.{not_both}
 
@@ -193,6 +194,6 @@ unfolding digits
 empty_main_is_reported = record {
   empty = bad_main empty_place refl (refl, refl) refl;
   late = bad_main (12, Unknown) refl (refl, refl) refl;
-  unasked = no_main _ empty_place refl refl (λ unasked. no_cons _ [] unasked.0);
-  unfailed = no_main _ empty_place refl refl (λ unasked. no_cons _ [] unasked.1);
+  unasked = no_main _ empty_place refl refl (λ unasked. no_cons _ [] (none_asked _ unasked));
+  unfailed = no_main _ empty_place refl refl (λ unasked. no_cons _ [] (none_failed _ unasked));
 }

@@ -16,10 +16,11 @@ use Rattle.page.specs.ModuleVersion.{ModuleVersion, pair_cmp, pair_eq}
 use Rattle.page.specs.Queries.{AreFound}
 use Rattle.page.specs.Reading.{file_of, is_askable}
 use Rattle.page.specs.Run.{AreFaults, AreRows, IsDeep, IsEdge, IsFault, IsNeeded, IsOpened, IsTop, Requires, Run, Says, from_deep, from_main, from_top, run_of}
-use Rattle.page.specs.Types.{AreSums, Class, Fault, Main as FromMain, Of, Sums}
+use Rattle.page.specs.Types.{AreSums, Class, Fault, Main as FromMain, Of, Step, Sums}
 use Rattle.page.specs.Version.{version_cmp}
 use Rattle.page.specs.Worlds.{given_with}
 use Rattle.page.proofs.Ending.{IsReadable, settled}
+use Rattle.page.proofs.Forms.{ascending_by, edge_to, end_of, fault_of, fault_opens, fault_says, greatest_of, selected_by}
 use Rattle.page.proofs.Members.{Pairs, each_member, member_cases, member_head, member_tail, no_member, pair_same, pairs_of, text_itself}
 use Rattle.page.proofs.Saying.{class_is, file_is, has_no_fault, required_in, requires_nothing, says}
 
@@ -359,7 +360,7 @@ module _ (content : List ℕ) (text : Option (List ℕ)) (main : Main) (sums : O
       (subst (λ (x : ModuleVersion). Says run x (Err one.class)) (sym same) also))
 
   fault_at : (one : Fault) → Contains rows (one.vertex, Err one.class) → IsFault run one
-  fault_at one there = (opens _ there, tell _ there)
+  fault_at one there = fault_of run one (opens _ there) (tell _ there)
 
   pub faults_from : (faults : List Fault) → Pairs (λ (a b : Fault). pair_cmp a.vertex b.vertex ≡ Less) faults
       → AllByRecursion (λ (one : Fault). Contains rows (one.vertex, Err one.class)) faults → AllByRecursion (IsReported faults) rows → AreFaults run faults
@@ -367,7 +368,7 @@ module _ (content : List ℕ) (text : Option (List ℕ)) (main : Main) (sums : O
     ascending = pairs_of (λ (a b : Fault). pair_cmp a.vertex b.vertex ≡ Less) faults ascend;
     each = λ one. (
       each_member (IsFault run) faults (changed _ _ fault_at faults there) one,
-      λ is. reported_in faults are one (first_of rows one.vertex (opened_in one.vertex is.0)) is.1,
+      λ is. reported_in faults are one (first_of rows one.vertex (opened_in one.vertex (fault_opens run one is))) (fault_says run one is),
     );
   }
 
@@ -396,16 +397,19 @@ module _ (content : List ℕ) (text : Option (List ℕ)) (main : Main) (sums : O
       in_right y (firsts tops) (gathered main rows) (in_gathered main rows row there y
       (requires_in row.0 row.1 (tell row there) y (subst (λ (z : ModuleVersion). Requires run z y) (sym same) requires)))
 
+  edge_in : (y : ModuleVersion) → (step : Step) × IsEdge run step y → Contains ends y
+  edge_in y (FromMain, top) = in_left y (firsts tops) (gathered main rows) (row_at_top y top)
+  edge_in y (Of x, (opens_x, requires)) = leads_in x y (first_of rows x (opened_in x opens_x)) requires
+
   end_in : (y : ModuleVersion) → IsEdgeEnd (IsEdge run) y → Contains ends y
-  end_in y (FromMain, top) = in_left y (firsts tops) (gathered main rows) (row_at_top y top)
-  end_in y (Of x, (opens_x, requires)) = leads_in x y (first_of rows x (opened_in x opens_x)) requires
+  end_in y is = edge_in y (edge_to (IsEdge run) y is)
 
   end_by : (y : ModuleVersion) → (row : Row) × Contains rows row × Contains (kept main row.1) y → IsEdgeEnd (IsEdge run) y
-  end_by y (row, there, is) = (Of row.0, (opens row there, requires_out row.0 row.1 (tell row there) y is))
+  end_by y (row, there, is) = end_of (IsEdge run) (Of row.0) y (opens row there, requires_out row.0 row.1 (tell row there) y is)
 
   end_at : (y : ModuleVersion) → Contains ends y → IsEdgeEnd (IsEdge run) y
   end_at y there = elim (either_side y (firsts tops) (gathered main rows) there) [
-    | inl top ↦ (FromMain, subst (λ (xs : List ModuleVersion). Contains xs y) table.tops_are top)
+    | inl top ↦ end_of (IsEdge run) FromMain y (subst (λ (xs : List ModuleVersion). Contains xs y) table.tops_are top)
     | inr is ↦ end_by y (gathered_from main rows y is)
   ]
 
@@ -425,16 +429,15 @@ module _ (content : List ℕ) (text : Option (List ℕ)) (main : Main) (sums : O
   chosen x h =
       let parts = and_parts (has ends x) (not (pointwise nat_eq x.0 main.path) && every (is_no_greater x) ends) h in
       let others = and_parts (not (pointwise nat_eq x.0 main.path)) (every (is_no_greater x) ends) parts.1 in
-      record {
-        not_main = λ same. false≢true (sym (not-true (pointwise nat_eq x.0 main.path) others.0) ∙ same_is x.0 main.path same);
-        is_end = end_at x (has_member ends x parts.0);
-        greatest = λ y is. no_greater x y (every_one (is_no_greater x) ends others.1 y (end_in y is));
-      }
+      selected_by main.path (IsEdge run) x
+      (λ same. false≢true (sym (not-true (pointwise nat_eq x.0 main.path) others.0) ∙ same_is x.0 main.path same))
+      (end_at x (has_member ends x parts.0))
+      (λ y is. no_greater x y (every_one (is_no_greater x) ends others.1 y (end_in y is)))
 
   no_lesser : (x : ModuleVersion) → Selects x → (y : ModuleVersion) × Contains ends y × (is_greater x y ≡ true) → ⊥
   no_lesser x is (y, there, h) =
       let parts = and_parts (pointwise nat_eq y.0 x.0) (is_gt (version_cmp y.1 x.1)) h in
-      false≢true (sym (is.greatest y (end_at y there) (same_text y.0 x.0 (sym parts.0))) ∙ parts.1)
+      false≢true (sym (greatest_of main.path (IsEdge run) x is y (end_at y there) (same_text y.0 x.0 (sym parts.0))) ∙ parts.1)
 
   placed : (selected : List ModuleVersion) (x : ModuleVersion) → is_placed main ends selected x ≡ true → Selects x → Contains selected x
   placed selected x h is = elim (or_cases (has selected x) (pointwise nat_eq x.0 main.path || some (is_greater x) ends) h) [
@@ -452,7 +455,7 @@ module _ (content : List ℕ) (text : Option (List ℕ)) (main : Main) (sums : O
       record {
         selected = selected;
         entries_are = refl;
-        ascending = pairs_of (λ (a b : ModuleVersion). path_cmp a b ≡ Less) selected ascend;
+        ascending = ascending_by path_cmp selected (pairs_of (λ (a b : ModuleVersion). path_cmp a b ≡ Less) selected ascend);
         each = λ x. (
           λ there. chosen x (every_one (is_chosen main ends) selected parts.0 x there),
           λ is. placed selected x (every_one (is_placed main ends selected) ends parts.1 x (end_in x is.is_end)) is,
