@@ -168,7 +168,8 @@ class Judge:
             try:
                 found = differing(page, claim) if page.changed & reached else None
             except Exception as error:
-                left = OPEN, f"{claim.title}: {type(error).__name__} {shown(error.args[0])[:80]}"
+                if left[0] == PASSES:
+                    left = OPEN, f"{claim.title}: {type(error).__name__} {shown(error.args[0])[:80]}"
                 if time.process_time() > begun + MOST:
                     return left
                 continue
