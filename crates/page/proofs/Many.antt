@@ -141,5 +141,5 @@ too_many_are_reported = record {
   corp = are_too_many corp_file.replaces [];
   full = not_too_many;
   unopened = not_wide;
-  sums = bad_sums many_file _ is_main refl (refl, refl) refl;
+  sums = bad_sums many_file _ is_main refl (search) refl;
 }

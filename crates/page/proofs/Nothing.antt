@@ -14,7 +14,6 @@ use Rattle.page.specs.Run.{AreTooMany, IsDeep, IsDue, IsNeeded, IsOpened, IsTop,
 use Rattle.page.specs.Types.{AreSums, Fault, Misreading, Sums}
 use Rattle.page.specs.Worlds.{HasNoOutcome, failing, given_by}
 use Rattle.page.specs.Worlds.Rows.{OthersHaveNone, a_bare, a_name}
-use Rattle.page.proofs.Forms.{none_asked, none_failed}
 use Rattle.page.proofs.Members.{each_member, few_members, no_member}
 use Rattle.page.proofs.OneOutcome.{not_both, one_main}
 use Rattle.page.proofs.Saying.{required_in, said_of, says}
@@ -115,8 +114,8 @@ none_unneeded : HasNoOutcome (given_by alone_text (a_bare ∷ []))
 none_unneeded = none_ends alone_text alone_file (a_bare ∷ []) [] refl (alone_is_bare (a_bare ∷ [])) (omega arith) (nothing_failed (a_bare ∷ []) alone_file)
     (λ faults found. not_needed (a_bare ∷ []) a_name ((found.settled.needed a_name).0 (0, omega arith, refl)))
 
-device_failed : HasNoOutcome (failing alone_text [] a_name)
-device_failed = none_ends alone_text alone_file [] (a_name ∷ []) refl (alone_is_bare []) (omega arith)
+none_failed : HasNoOutcome (failing alone_text [] a_name)
+none_failed = none_ends alone_text alone_file [] (a_name ∷ []) refl (alone_is_bare []) (omega arith)
     (λ name is due. not_needed [] name due.calls.needed) (λ faults found. no_cons a_name [] found.none_failed)
 
 abbrev twice : List (Name × Reply)
@@ -162,7 +161,7 @@ others_have_none = record {
   unasked = none_unasked;
   unneeded = none_unneeded;
   twice = none_twice;
-  failed = device_failed;
-  beside_sums = beside_bad alone_text alone_file (a_bare ∷ []) [] refl (λ unasked. no_cons a_bare [] (none_asked _ unasked));
-  failed_beside_sums = beside_bad one_text one_file [] (a_name ∷ []) refl (λ unasked. no_cons a_name [] (none_failed _ unasked));
+  failed = none_failed;
+  beside_sums = beside_bad alone_text alone_file (a_bare ∷ []) [] refl (λ unasked. no_cons a_bare [] (search));
+  failed_beside_sums = beside_bad one_text one_file [] (a_name ∷ []) refl (λ unasked. no_cons a_name [] (search));
 }

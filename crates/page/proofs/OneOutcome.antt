@@ -1,5 +1,7 @@
 -- A run has one outcome.
 use Rattle.std.proofs.Common.{◌≡◌, ◌∙◌, ◌↔◌, ◌++◌, ℕ, List, [], ◌∷◌, Option, Some, None, Result, Ok, Err, Contains, ap, arith, map, refl, subst, sym}
+use Rattle.std.specs.Prelude.{AllPairs}
+use Rattle.std.specs.declared.cmp.Ordering.TheVariants.{Less}
 use Rattle.std.specs.Cmp.{IsTotalOrder, nat_cmp_total, on_total, then_total}
 use Rattle.std.specs.Cmp.Lexicographic.{nat_list_cmp_total, slice_cmp}
 use Rattle.std.specs.Ordering.{nat_cmp, on}
@@ -11,6 +13,7 @@ use Rattle.page.specs.Directives.{Strict}
 use Rattle.page.specs.ListQuery.{list_text, up_to, ListEnds, PrintsList, PrintsRows, no_path, path_listed, path_unlisted}
 use Rattle.page.specs.Main.{Main, replacement_in}
 use Rattle.page.specs.ModuleVersion.{ModuleVersion, pair_cmp}
+use Rattle.page.specs.Order.{IsAscending}
 use Rattle.page.specs.Outcome.{Outcome, failure_outcome, refusal_outcome, text_outcome}
 use Rattle.page.specs.Queries.{AreFound, FilesReadAs, Given, bad_main, bad_sums, device, faulty, no_fault, too_many}
 use Rattle.page.specs.Reports.{FaultPlace, device_line, faults_text, main_line, not_listed_line, too_many_line}
@@ -18,7 +21,6 @@ use Rattle.page.specs.Run.{AreFaults, AreRows, AreTooMany, Run, run_of}
 use Rattle.page.specs.Types.{AreInvalidSums, AreSums, Fault, Parts, Sums, parts_in, pre_cmp, pre_rank}
 use Rattle.page.specs.Version.{precedence, version_cmp}
 use Rattle.page.specs.Worlds.{OneOutcome}
-use Rattle.page.proofs.Forms.{pairs_in}
 use Rattle.page.proofs.Members.{member_head, member_tail, same_lists}
 
 -- ---- orders
@@ -112,10 +114,13 @@ faults_total = on_total (λ (f : Fault). f.vertex) pair_total
 one_faults : (run : Run) (a b : List Fault) → AreFaults run a → AreFaults run b → a ≡ b
 one_faults run a b is be = same_lists faults_total a b is.ascending be.ascending (λ f. both (is.each f) (be.each f))
 
+rows_ascend : (xs : List ModuleVersion) → IsAscending path_cmp xs → AllPairs (λ (a b : ModuleVersion). path_cmp a b ≡ Less) xs
+rows_ascend xs are = λ i j d lt below. search (are i j d lt below)
+
 one_rows : (run : Run) (a b : List Entry) → AreRows run a → AreRows run b → a ≡ b
 one_rows run a b is be =
     let same : is.selected ≡ be.selected = same_lists path_total is.selected be.selected
-    (pairs_in path_cmp is.selected is.ascending) (pairs_in path_cmp be.selected be.ascending) (λ x. both (is.each x) (be.each x)) in
+    (rows_ascend is.selected is.ascending) (rows_ascend be.selected be.ascending) (λ x. both (is.each x) (be.each x)) in
     is.entries_are ∙ ap (λ (xs : List ModuleVersion). main_entry ∷ map (entry_of (replacement_in run.main)) xs) same ∙ sym be.entries_are
 
 -- ---- what follows a path

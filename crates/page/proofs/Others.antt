@@ -1,6 +1,7 @@
 -- What does not hold in worlds.
 use Rattle.std.proofs.Common.{◌≡◌, ◌++◌, ◌&&◌, ℕ, Bool, true, false, List, [], ◌∷◌, Contains, None, Some, Option, Result, Ok, Err, ◌∙◌, ap, arith, codes, inl, inr, nat_eq, not, refl, subst, sym}
 use Rattle.std.specs.Cmp.Lexicographic.{pointwise}
+use Rattle.std.specs.Ordering.{is_gt}
 use Rattle.std.proofs.lemmas.Bool.{and_parts, false≢true, not-true}
 use Rattle.std.proofs.lemmas.Option.{same_Some}
 use Rattle.page.specs.Asked.{Name, Reply, bytes}
@@ -9,6 +10,7 @@ use Rattle.page.specs.Entries.{Entry}
 use Rattle.page.specs.Fields.{Dependency}
 use Rattle.page.specs.Files.{end_one, local_file, low_ten, main_file, mid_nine, mid_ten, own_one, top_file, top_one, top_text}
 use Rattle.page.specs.Files.RowFiles.{alone_file, file_requiring, first_of, huge_text, one_file}
+use Rattle.page.specs.Graph.{IsEdgeEnd}
 use Rattle.page.specs.Main.{is_pruned_by, without_excluded}
 use Rattle.page.specs.ModuleVersion.{ModuleVersion}
 use Rattle.page.specs.Outcome.{Outcome}
@@ -17,10 +19,11 @@ use Rattle.page.specs.Path.{is_fetchable}
 use Rattle.page.specs.Reading.{IsFileReading}
 use Rattle.page.specs.Run.{FileSays, IsDeep, IsEdge, IsNeeded, IsOpened, IsRead, IsTop, Requires, Says, answered, from_deep, from_main, from_top, run_of, sound, unaskable}
 use Rattle.page.specs.Types.{Class, Malformed, NotFetchable, Of, TooMany, WrongPath}
+use Rattle.page.specs.Version.{version_cmp}
 use Rattle.page.specs.Worlds.{printing, pruned_answers, wrong_answers}
 use Rattle.page.specs.Worlds.Parts.{OthersDoNotHold, huge_answers, local_answers, local_name, pruned_run, stray_answers, three_rows, to_own, twice_rows}
 use Rattle.page.specs.Worlds.Rows.{a_name, unopened_answers}
-use Rattle.page.proofs.Forms.{end_of, greatest_of}
+use Rattle.page.proofs.Forms.{end_of, no_greater}
 use Rattle.page.proofs.Members.{differ, member_cases, no_member}
 use Rattle.page.proofs.Saying.{file_is, reading_of, reads, said_of, says}
 
@@ -151,8 +154,10 @@ unfolding is_fetchable
 top_requires = (inl (0, omega arith, refl), (top_file, sound (answered (bytes top_text) refl refl refl) refl, (0, omega arith, refl)))
 
 not_lesser : IsSelected (codes "m") (IsEdge pruned_run) mid_nine → ⊥
-not_lesser is = false≢true (sym (greatest_of (codes "m") (IsEdge pruned_run) mid_nine is mid_ten
-    (end_of (IsEdge pruned_run) (Of top_one) mid_ten top_requires) refl))
+not_lesser is =
+    let end : IsEdgeEnd (IsEdge pruned_run) mid_ten = end_of (IsEdge pruned_run) (Of top_one) mid_ten top_requires in
+    let not_greater : is_gt (version_cmp mid_ten.1 mid_nine.1) ≡ false = search (no_greater, is.greatest mid_ten end refl) in
+    false≢true (sym not_greater)
 
 -- ---- what does not follow
 

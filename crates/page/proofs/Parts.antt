@@ -6,18 +6,18 @@ use Rattle.page.specs.Asked.{Reply, bytes, folder_file, list_file, mod_file}
 use Rattle.page.specs.BuildList.{main_entry, path_of}
 use Rattle.page.specs.Entries.{Entry}
 use Rattle.page.specs.Fields.{Dependency}
-use Rattle.page.specs.Files.{folder_says, folder_text, end_one, low_nine, low_ten, mid_file, mid_nine, mid_ten, mid_text, top_file, top_one, top_text}
+use Rattle.page.specs.Files.{folder_says, folder_text, end_one, low_ten, mid_file, mid_nine, mid_ten, mid_text, top_file, top_one, top_text}
 use Rattle.page.specs.Files.RowFiles.{file_requiring, first_of, going, huge_text, malformed_text, one_file, requiring, three_file}
 use Rattle.page.specs.Graph.{IsEdgeEnd}
 use Rattle.page.specs.ModuleVersion.{ModuleVersion}
 use Rattle.page.specs.Path.{is_fetchable}
 use Rattle.page.specs.Reading.{IsFileReading}
 use Rattle.page.specs.Run.{IsDeep, IsOpened, IsRead, Says, answered, faulty, from_deep, from_main, from_top, run_of, sound, wrong_path}
-use Rattle.page.specs.Types.{Class, Main, NoSum, Of, Step}
+use Rattle.page.specs.Types.{Class, Main, Malformed, NoSum, Of, WrongArguments}
 use Rattle.page.specs.Version.{version_cmp}
 use Rattle.page.specs.Worlds.Parts.{PartsAreShown, huge_answers, pruned_run, two_paths, two_versions}
 use Rattle.page.specs.Worlds.Rows.{a_name, malformed_answers}
-use Rattle.page.proofs.Forms.{answer_is, edge_to, end_of, fault_of, selected_by}
+use Rattle.page.proofs.Forms.{answer_is, edge_to, end_of, no_greater}
 use Rattle.page.proofs.Members.{differ, member_cases, no_member}
 
 top_says : Says pruned_run top_one (Ok top_file)
@@ -50,6 +50,10 @@ b_is_opened = inr (from_deep (from_main refl (0, omega arith, refl)) (
   (0, omega arith, refl),
 ))
 
+b_is_faulty : Says (run_of three_file None malformed_answers) (first_of (codes "b")) (Err (Malformed 3 WrongArguments))
+unfolding is_fetchable
+b_is_faulty = faulty (answered (bytes malformed_text) refl refl refl)
+
 greatest_version : (y : ModuleVersion) → IsEdgeEnd two_versions y → y.0 ≡ mid_ten.0 → is_gt (version_cmp y.1 mid_ten.1) ≡ false
 greatest_version y is same = elim (edge_to two_versions y is).1 [
   | inl e ↦ subst (λ (z : ModuleVersion). is_gt (version_cmp z.1 mid_ten.1) ≡ false) (sym e) refl
@@ -62,8 +66,8 @@ greatest_of_path y is same = elim (edge_to two_paths y is).1 [
   | inr e ↦ absurd (differ low_ten.0 mid_nine.0 refl (subst (λ (z : ModuleVersion). z.0 ≡ mid_nine.0) e same))
 ]
 
-huge_is_read : IsRead (run_of one_file (Some []) huge_answers)
 -- whatever has the answer, the go.sum lists nothing
+huge_is_read : IsRead (run_of one_file (Some []) huge_answers)
 huge_is_read (mod_file path version) reply at = elim (answer_is (a_name, bytes huge_text) [] (mod_file path version) reply at) [
   | inl own ↦ subst (λ (r : Reply). (said : Result Dependency Class) × IsFileReading (Some []) (mod_file path version) r said) own (Err NoSum, refl)
   | inr later ↦ absurd (cc later)
@@ -88,14 +92,20 @@ parts_are_shown = record {
   from_deep = from_deep mid_is_deep (folder_says, sound (answered (bytes folder_text) refl refl refl) refl, (0, omega arith, refl));
   opened = inr mid_is_deep;
   needed = (mid_ten, inr mid_is_deep, refl, refl);
-  fault = fault_of _ _ b_is_opened (faulty (answered (bytes malformed_text) refl refl refl));
+  fault = assumption (b_is_opened, b_is_faulty);
   edge = (inl (1, omega arith, refl), (mid_file, sound (answered (bytes mid_text) refl refl refl) refl, (0, omega arith, refl)));
   top_edge = (inl (0, omega arith, refl), (a_file, sound (answered (bytes a_text) refl refl refl) refl, (0, omega arith, refl)));
-  end = end_of (λ (step : Step) (x : ModuleVersion). step ≡ Of mid_nine) (Of mid_nine) low_nine refl;
-  greater = selected_by (codes "m") two_versions mid_ten (differ mid_ten.0 (codes "m") refl)
-      (end_of two_versions (Of mid_nine) mid_ten (inr refl)) greatest_version;
-  other_path = selected_by (codes "m") two_paths mid_nine (differ mid_nine.0 (codes "m") refl)
-      (end_of two_paths (Of mid_nine) mid_nine (inl refl)) greatest_of_path;
+  end = (let leads : Of mid_nine ≡ Of mid_nine = refl in search leads);
+  greater = record {
+    not_main = differ mid_ten.0 (codes "m") refl;
+    is_end = end_of two_versions (Of mid_nine) mid_ten (inr refl);
+    greatest = λ y is same. search (no_greater, greatest_version y is same);
+  };
+  other_path = record {
+    not_main = differ mid_nine.0 (codes "m") refl;
+    is_end = end_of two_paths (Of mid_nine) mid_nine (inl refl);
+    greatest = λ y is same. search (no_greater, greatest_of_path y is same);
+  };
   tie = refl;
   builds = refl;
   first_right = refl;

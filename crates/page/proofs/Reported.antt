@@ -14,7 +14,6 @@ use Rattle.page.specs.Worlds.{DeviceIsReported, FaultsAreReported, HasNoOutcome,
 use Rattle.page.specs.Worlds.Rows.{EmptyMainIsReported, FolderDeviceIsReported, ForkIsReported, HostsAreReported, MalformedIsReported, OneFileIsReported, SumsAreReported, TwoFaultsAreReported, UnfetchableIsReported, a_bare, a_name, answer, first_answers, folder_answers, fork_answers, fork_name, lower_answers, malformed_answers, malformed_report, name_at, nine_answers, sums_answers, two_long, two_missing, wrong_fork_answers}
 use Rattle.page.proofs.Checked.{ends_so}
 use Rattle.page.proofs.Ending.{all_read}
-use Rattle.page.proofs.Forms.{none_asked, none_failed}
 use Rattle.page.proofs.Nothing.{no_cons, no_main, same_one, some_not_none}
 use Rattle.page.proofs.OneOutcome.{not_both}
 
@@ -73,12 +72,12 @@ unfolding is_fetchable digits
 sums_are_reported = record {
   checked = ends_so three_text (Some sums_text) three_file (Some sums_table) sums_answers refl refl refl None None
       (reporting (codes "example.com/b@v1.1.0: NoSum\nexample.com/c@v1.0.0: SumDiffers\n")) refl;
-  invalid = bad_sums alone_file _ refl refl (refl, refl) refl;
+  invalid = bad_sums alone_file _ refl refl (search) refl;
   twice = ends_so one_text (Some twice_text) one_file (Some twice_table) (a_bare ∷ []) refl refl refl None None
       (reporting (codes "example.com/a@v1.0.0: SumDiffers\n")) refl;
   folder = ends_so replacing_text (Some sums_text) replacing_file (Some sums_table) folder_answers refl refl refl None None
       (printing (codes "example.com/m\nlocal v0.0.0 => ../local\n")) refl;
-  both = bad_main (0, NoModule) refl (refl, refl) refl;
+  both = bad_main (0, NoModule) refl (search) refl;
   empty = ends_so one_text (Some sums_text) one_file (Some sums_table) (answer (codes "a") [] ∷ []) refl refl refl None None
       (reporting (codes "example.com/a@v1.0.0: SumDiffers\n")) refl;
   missing = ends_so two_text (Some sums_text) two_file (Some sums_table) two_missing refl refl refl None None
@@ -192,8 +191,8 @@ folder_device_is_reported = record {
 pub empty_main_is_reported : EmptyMainIsReported
 unfolding digits
 empty_main_is_reported = record {
-  empty = bad_main empty_place refl (refl, refl) refl;
-  late = bad_main (12, Unknown) refl (refl, refl) refl;
-  unasked = no_main _ empty_place refl refl (λ unasked. no_cons _ [] (none_asked _ unasked));
-  unfailed = no_main _ empty_place refl refl (λ unasked. no_cons _ [] (none_failed _ unasked));
+  empty = bad_main empty_place refl (search) refl;
+  late = bad_main (12, Unknown) refl (search) refl;
+  unasked = no_main _ empty_place refl refl (λ unasked. search no_cons);
+  unfailed = no_main _ empty_place refl refl (λ unasked. search no_cons);
 }

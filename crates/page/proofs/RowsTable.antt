@@ -20,7 +20,7 @@ use Rattle.page.specs.Types.{AreSums, Class, Fault, Main as FromMain, Of, Step, 
 use Rattle.page.specs.Version.{version_cmp}
 use Rattle.page.specs.Worlds.{given_with}
 use Rattle.page.proofs.Ending.{IsReadable, settled}
-use Rattle.page.proofs.Forms.{ascending_by, edge_to, end_of, fault_of, fault_opens, fault_says, greatest_of, selected_by}
+use Rattle.page.proofs.Forms.{edge_to, end_of, no_greater}
 use Rattle.page.proofs.Members.{Pairs, each_member, member_cases, member_head, member_tail, no_member, pair_same, pairs_of, text_itself}
 use Rattle.page.proofs.Saying.{class_is, file_is, has_no_fault, required_in, requires_nothing, says}
 
@@ -360,7 +360,7 @@ module _ (content : List ℕ) (text : Option (List ℕ)) (main : Main) (sums : O
       (subst (λ (x : ModuleVersion). Says run x (Err one.class)) (sym same) also))
 
   fault_at : (one : Fault) → Contains rows (one.vertex, Err one.class) → IsFault run one
-  fault_at one there = fault_of run one (opens _ there) (tell _ there)
+  fault_at one there = assumption (opens (one.vertex, Err one.class) there, tell (one.vertex, Err one.class) there)
 
   pub faults_from : (faults : List Fault) → Pairs (λ (a b : Fault). pair_cmp a.vertex b.vertex ≡ Less) faults
       → AllByRecursion (λ (one : Fault). Contains rows (one.vertex, Err one.class)) faults → AllByRecursion (IsReported faults) rows → AreFaults run faults
@@ -368,7 +368,7 @@ module _ (content : List ℕ) (text : Option (List ℕ)) (main : Main) (sums : O
     ascending = pairs_of (λ (a b : Fault). pair_cmp a.vertex b.vertex ≡ Less) faults ascend;
     each = λ one. (
       each_member (IsFault run) faults (changed _ _ fault_at faults there) one,
-      λ is. reported_in faults are one (first_of rows one.vertex (opened_in one.vertex (fault_opens run one is))) (fault_says run one is),
+      λ is. reported_in faults are one (first_of rows one.vertex (opened_in one.vertex (search))) (search),
     );
   }
 
@@ -419,8 +419,8 @@ module _ (content : List ℕ) (text : Option (List ℕ)) (main : Main) (sums : O
   same_is : (a b : List ℕ) → a ≡ b → pointwise nat_eq a b ≡ true
   same_is a b same = subst (λ (c : List ℕ). pointwise nat_eq a c ≡ true) same (text_itself a)
 
-  no_greater : (x y : ModuleVersion) → is_no_greater x y ≡ true → y.0 ≡ x.0 → is_gt (version_cmp y.1 x.1) ≡ false
-  no_greater x y h same = elim (or_cases (not (pointwise nat_eq y.0 x.0)) (not (is_gt (version_cmp y.1 x.1))) h) [
+  none_greater : (x y : ModuleVersion) → is_no_greater x y ≡ true → y.0 ≡ x.0 → is_gt (version_cmp y.1 x.1) ≡ false
+  none_greater x y h same = elim (or_cases (not (pointwise nat_eq y.0 x.0)) (not (is_gt (version_cmp y.1 x.1))) h) [
     | inl unlike ↦ absurd (false≢true (sym (not-true (pointwise nat_eq y.0 x.0) unlike) ∙ same_is y.0 x.0 same))
     | inr not_gt ↦ not-true (is_gt (version_cmp y.1 x.1)) not_gt
   ]
@@ -429,15 +429,17 @@ module _ (content : List ℕ) (text : Option (List ℕ)) (main : Main) (sums : O
   chosen x h =
       let parts = and_parts (has ends x) (not (pointwise nat_eq x.0 main.path) && every (is_no_greater x) ends) h in
       let others = and_parts (not (pointwise nat_eq x.0 main.path)) (every (is_no_greater x) ends) parts.1 in
-      selected_by main.path (IsEdge run) x
-      (λ same. false≢true (sym (not-true (pointwise nat_eq x.0 main.path) others.0) ∙ same_is x.0 main.path same))
-      (end_at x (has_member ends x parts.0))
-      (λ y is. no_greater x y (every_one (is_no_greater x) ends others.1 y (end_in y is)))
+      record {
+        not_main = λ same. false≢true (sym (not-true (pointwise nat_eq x.0 main.path) others.0) ∙ same_is x.0 main.path same);
+        is_end = end_at x (has_member ends x parts.0);
+        greatest = λ y is same. search (no_greater, none_greater x y (every_one (is_no_greater x) ends others.1 y (end_in y is)) same);
+      }
 
   no_lesser : (x : ModuleVersion) → Selects x → (y : ModuleVersion) × Contains ends y × (is_greater x y ≡ true) → ⊥
   no_lesser x is (y, there, h) =
       let parts = and_parts (pointwise nat_eq y.0 x.0) (is_gt (version_cmp y.1 x.1)) h in
-      false≢true (sym (greatest_of main.path (IsEdge run) x is y (end_at y there) (same_text y.0 x.0 (sym parts.0))) ∙ parts.1)
+      let is_not : is_gt (version_cmp y.1 x.1) ≡ false = search (no_greater, is.greatest y (end_at y there) (same_text y.0 x.0 (sym parts.0))) in
+      false≢true (sym is_not ∙ parts.1)
 
   placed : (selected : List ModuleVersion) (x : ModuleVersion) → is_placed main ends selected x ≡ true → Selects x → Contains selected x
   placed selected x h is = elim (or_cases (has selected x) (pointwise nat_eq x.0 main.path || some (is_greater x) ends) h) [
@@ -455,7 +457,7 @@ module _ (content : List ℕ) (text : Option (List ℕ)) (main : Main) (sums : O
       record {
         selected = selected;
         entries_are = refl;
-        ascending = ascending_by path_cmp selected (pairs_of (λ (a b : ModuleVersion). path_cmp a b ≡ Less) selected ascend);
+        ascending = λ i j d lt below. search (pairs_of (λ (a b : ModuleVersion). path_cmp a b ≡ Less) selected ascend i j d lt below);
         each = λ x. (
           λ there. chosen x (every_one (is_chosen main ends) selected parts.0 x there),
           λ is. placed selected x (every_one (is_placed main ends selected) ends parts.1 x (end_in x is.is_end)) is,
