@@ -4,6 +4,7 @@ use Rattle.std.specs.Prelude.{if◌then◌else◌, nat_le}
 use Rattle.std.specs.Cmp.Lexicographic.{pointwise}
 use Rattle.std.specs.Ordering.{is_lt}
 use Rattle.std.proofs.lemmas.Bool.{and_parts, eq-eqb, eqb-true, false≢true, leb-true, not-true, or_cases}
+use Rattle.std.proofs.lemmas.List.{append-nil, append_assoc}
 use Rattle.std.proofs.lemmas.Option.{same_Some}
 use Rattle.page_commands.specs.BuildList.{HasEntryFor, IsAt, path_of}
 use Rattle.page_commands.specs.ChainQuery.{ShowsChain, chain_text}
@@ -285,10 +286,16 @@ module _ (es : List EdgePair) where
           level = n;
           nearer = level_is s n (level_so n (level_in levels s) q.0);
           further = level_is (Of y) (suc n) (level_so (suc n) (level_in levels (Of y)) r.0);
-          least = λ t there is. not_less t s y n (level_back t n is) (every_one (is_rival s y n) es r.1 (t, y) there);
+          least = λ t there is. search (not_less t s y n (level_back t n is) (every_one (is_rival s y n) es r.1 (t, y) there));
         }
 
     -- ---- the chain
+
+    ruleset appended = (append-nil, append_assoc)
+
+    -- the steps, in whichever way they are put together
+    chain_is : (s : Step) (one other : List Step) → IsChain edges s one → one ≡ other → IsChain edges s other
+    chain_is s one other chain same = subst (IsChain edges s) same chain
 
     chain_so : (n : ℕ) (s : Step) (steps : List Step) → chain n s ≡ Some steps → IsChain edges s steps
     chain_so n Main steps h = subst (IsChain edges Main) (same_Some _ _ h) begins
@@ -298,7 +305,7 @@ module _ (es : List EdgePair) where
         by_steps : (s : Step) (r : Option (List Step)) → chain n s ≡ r → is_before s y n ≡ true → extended y r ≡ Some steps
             → ((t : Step) (more : List Step) → chain n t ≡ Some more → IsChain edges t more) → IsChain edges (Of y) steps
         by_steps s None e is f so = absurd (cc f)
-        by_steps s (Some more) e is f so = subst (IsChain edges (Of y)) (same_Some _ _ f) (goes_on (so s more e) (before_so s y n is))
+        by_steps s (Some more) e is f so = chain_is (Of y) _ steps (goes_on (so s more e) (before_so s y n is)) (search (appended, same_Some _ _ f))
 
         by_test : (s : Step) (b : Bool) → is_before s y n ≡ b → (if b then extended y (chain n s) else None) ≡ Some steps
             → ((t : Step) (more : List Step) → chain n t ≡ Some more → IsChain edges t more) → IsChain edges (Of y) steps
