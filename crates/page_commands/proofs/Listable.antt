@@ -103,7 +103,8 @@ module _ (text : List ℕ) (byte : ℕ) (ends : last_of text ≡ Some byte) wher
   pub ends_in_none : (mark : List ℕ) → 58 ≤ byte → (n : ℕ) → n < 2 ^ 64 → EndsInNumber text mark n → ⊥
   ends_in_none mark high n small (front, is) =
       let (x, rest, shape, k, low, at) = digit_at_end n small in
-      let whole : text ≡ (front ++ mark) ++ (x ∷ rest) = is ∙ ap (λ (t : List ℕ). (front ++ mark) ++ t) shape in
+      let at_end : text ≡ front ++ mark ++ decimal n = search is in
+      let whole : text ≡ (front ++ mark) ++ (x ∷ rest) = at_end ∙ ap (λ (t : List ℕ). (front ++ mark) ++ t) shape in
       let last : Some byte ≡ Some (48 + k) =
       sym ends ∙ (ap last_of whole ∙ (last_append (front ++ mark) x rest ∙ (ap last_of (sym shape) ∙ at))) in
       let same : byte ≡ 48 + k = same_Some _ _ last in
@@ -198,14 +199,17 @@ split_from p before (x ∷ xs) h = elim (or_cases (p before (x ∷ xs)) (some_sp
 
 stamp_so : (pre front time revision : List ℕ) → IsStamp pre front time revision → is_stamp (time ++ 45 ∷ revision) ≡ true
 stamp_so pre front time revision is = ap₂ (λ (x y : Bool). x && y)
-    (subst (λ (t : List ℕ). is_time t ≡ true) (sym taken) (rw (is.fourteen, is.digits) refl))
+    (subst (λ (t : List ℕ). is_time t ≡ true) (sym taken) (rw (fourteen, is.digits) refl))
     (subst (λ (t : List ℕ). is_revision t ≡ true) (sym dropped) (rw (lt-ltb 0 (length revision) is.some, is.letters_or_digits) refl))
   where
+    fourteen : length time ≡ 14
+    fourteen = search is.fourteen
+
     taken : take 14 (time ++ 45 ∷ revision) ≡ time
-    taken = subst (λ (n : ℕ). take n (time ++ 45 ∷ revision) ≡ time) is.fourteen (take-append_seam time (45 ∷ revision))
+    taken = subst (λ (n : ℕ). take n (time ++ 45 ∷ revision) ≡ time) fourteen (take-append_seam time (45 ∷ revision))
 
     dropped : drop 14 (time ++ 45 ∷ revision) ≡ 45 ∷ revision
-    dropped = subst (λ (n : ℕ). drop n (time ++ 45 ∷ revision) ≡ 45 ∷ revision) is.fourteen (drop-append_seam time (45 ∷ revision))
+    dropped = subst (λ (n : ℕ). drop n (time ++ 45 ∷ revision) ≡ 45 ∷ revision) fourteen (drop-append_seam time (45 ∷ revision))
 
 joined_so : (front time revision : List ℕ) → ((front ++ time) ++ codes "-") ++ revision ≡ front ++ (time ++ 45 ∷ revision)
 joined_so front time revision = append_assoc (front ++ time) (codes "-") revision ∙ append_assoc front time (45 ∷ revision)
@@ -228,7 +232,7 @@ stamp_from pre front rest e h =
       revision,
       record {
         joined = e ∙ (ap (λ (t : List ℕ). front ++ t) whole ∙ sym (joined_so front (take 14 rest) revision));
-        fourteen = eqb-true (length (take 14 rest)) 14 q.0;
+        fourteen = search (eqb-true (length (take 14 rest)) 14 q.0);
         digits = q.1;
         some = some;
         letters_or_digits = letters;

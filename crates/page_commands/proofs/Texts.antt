@@ -152,7 +152,7 @@ majors_are_told = record {
   zero = no_zero;
   bare = ends_otherwise (codes "a/v") 118 refl refl;
   unmarked = λ (front, tail, is, some, all). no_v (codes "a/2") front tail refl is;
-  marked = λ (front, is). no_v (codes "a/x2") front (decimal 2) refl is;
+  marked = λ (front, is). no_v (codes "a/x2") front (decimal 2) refl (search is);
   other = λ is. (let wrong : 1 ≡ 2 = is.0 in omega (arith, wrong));
   early_slash = λ is. (let wrong : 0 ≡ 1 = is.0 in omega (arith, wrong));
   build = λ is. some_build is.1;
