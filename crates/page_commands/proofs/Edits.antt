@@ -33,9 +33,9 @@ module _ (texts : List (List ℕ)) where
     by_fault : (lines : List (Line Word)) (fault : Option Fault) → lines_in file ≡ Ok lines → fault_of Strict lines ≡ fault
         → fault_ending lines fault ≡ outcome → EditEnds texts file outcome
     by_fault lines None e none f = applied (placed lines)
-        (e ∙ ap (λ (ls : List (Line Word)). Ok ls) (sym (plain_placed lines)), ap (fault_of Strict) (plain_placed lines) ∙ none) (sym f)
+        (e ∙ ap (λ (ls : List (Line Word)). Ok ls) (sym (plain_placed lines)), ap (fault_of Strict) (plain_placed lines) ∙ none) (search f)
     by_fault lines (Some fault) e at f = bad_main (fault.0, misreading.Directive fault.1)
-        (placed lines, e ∙ ap (λ (ls : List (Line Word)). Ok ls) (sym (plain_placed lines)), ap (fault_of Strict) (plain_placed lines) ∙ at) (sym f)
+        (placed lines, e ∙ ap (λ (ls : List (Line Word)). Ok ls) (sym (plain_placed lines)), ap (fault_of Strict) (plain_placed lines) ∙ at) (search f)
 
     by_lines : (r : Result (List (Line Word)) SyntaxFault) → lines_in file ≡ r → ending r ≡ Some outcome → EditEnds texts file outcome
     by_lines (Ok lines) e f = by_fault lines (fault_of Strict lines) e refl (same_Some _ _ f)

@@ -131,7 +131,7 @@ module _ (path version : List ℕ) where
             (subst (IsSum text path version) (same first own) own, same)
         by_test false some =
             let (other, there, unlike) = other_in hash (first ∷ more) some in
-            (other, sum_so other (subst (λ (hs : List (List ℕ)). Contains hs other) (sym e) there), unlike)
+            (other, sum_so other (subst (λ (hs : List (List ℕ)). Contains hs other) (sym e) there), λ same. unlike (search same))
 
 abbrev IsTold : World → Type 0
 IsTold w = says_of (codes "example.com/a") (codes "v1.0.0") w.sums (file_hash w.content)
