@@ -1,5 +1,5 @@
 -- How `versions` ends, computed, and that it does.
-use Rattle.std.proofs.Common.{◌≡◌, ◌∙◌, ◌&&◌, ◌||◌, ℕ, Bool, true, false, List, [], ◌∷◌, codes, Option, Some, None, Result, Ok, Err, Contains, ap, inl, inr, lit<, map, nat_eq, not, refl, subst, sym}
+use Rattle.std.proofs.Common.{◌≡◌, ◌∙◌, ◌↔◌, ◌⊎◌, ◌&&◌, ◌||◌, ℕ, Bool, true, false, List, [], ◌∷◌, codes, Option, Some, None, Result, Ok, Err, Contains, ap, inl, inr, lit<, map, nat_eq, not, refl, subst, sym}
 use Rattle.std.specs.Prelude.{if◌then◌else◌, filter}
 use Rattle.std.specs.Cmp.Lexicographic.{pointwise}
 use Rattle.std.specs.List.Sorted.{IsStrictlySortedBy}
@@ -13,7 +13,7 @@ use Rattle.page_commands.specs.Faults.{Fault, fault_of}
 use Rattle.page_commands.specs.Fields.{dependency_of, lax_retracts_of}
 use Rattle.page_commands.specs.Files.{IsParsedAs, lines_in}
 use Rattle.page_commands.specs.GmNameLines.{first_word, lines}
-use Rattle.page_commands.specs.Latest.{IsGreatest, IsLatest, counts, is_release}
+use Rattle.page_commands.specs.Latest.{IsGreatest, IsLatest, NoneConsidered, counts, is_release}
 use Rattle.page_commands.specs.Listed.{AreListed, IsListed}
 use Rattle.page_commands.specs.Outcome.{Outcome, refusal_outcome, text_outcome}
 use Rattle.page_commands.specs.Path.{is_fetchable}
@@ -62,7 +62,7 @@ strictly [] h = tt
 strictly (v ∷ vs) h = let p = and_parts _ (ascends version_cmp vs) h in (below_all version_cmp v vs p.0, strictly vs p.1)
 
 list_so : (list : List ℕ) (versions : List (List ℕ)) → is_list list versions ≡ true → AreListed m list versions
-list_so list versions h = record { ascending = strictly versions p.0; members = λ version. (listed_so version, there_so version) }
+list_so list versions h = record { ascending = strictly versions p.0; members = λ version. search (listed_so version, there_so version) }
   where
     p : (ascends version_cmp versions ≡ true) × ((every (is_right list) versions && every (is_considered versions) (words list)) ≡ true)
     p = and_parts (ascends version_cmp versions) (every (is_right list) versions && every (is_considered versions) (words list)) h
@@ -82,6 +82,11 @@ list_so list versions h = record { ascending = strictly versions p.0; members = 
           | inl never ↦ absurd (false≢true (sym (not-true (is_listable version) never) ∙ listable_back version is.listable))
           | inr has ↦ text_there versions version has
         ]
+
+-- both ways, in either order
+members_are : (list : List ℕ) (versions : List (List ℕ)) → AreListed m list versions → (version : List ℕ)
+    → Contains versions version ↔ IsListed m list version
+members_are list versions are version = search (are.members version)
 
 -- ---- the latest version
 
@@ -125,15 +130,24 @@ has_none versions = every (λ (other : List ℕ). not (counts true other)) versi
 abbrev is_latest : List (List ℕ) → List ℕ → Bool
 is_latest versions version = is_greatest true versions version || (has_none versions && is_greatest false versions version)
 
+other_side : {A B : Type 0} → A ⊎ B → B ⊎ A
+other_side (inl one) = inr one
+other_side (inr other) = inl other
+
+ruleset either = (inl, inr, other_side)
+
 latest_so : (versions : List (List ℕ)) (version : List ℕ) → is_latest versions version ≡ true → IsLatest versions version
 latest_so versions version h = elim (or_cases (is_greatest true versions version) (has_none versions && is_greatest false versions version) h) [
-  | inl release ↦ inl (greatest_so true versions version release)
+  | inl release ↦ search (either, greatest_so true versions version release)
   | inr any ↦ (let p = and_parts (has_none versions) (is_greatest false versions version) any in
-      inr (
-        λ other there. not-true (counts true other) (every_one (λ (other : List ℕ). not (counts true other)) versions p.0 other there),
-        greatest_so false versions version p.1,
-      ))
+      let none : NoneConsidered true versions = λ other there. not-true (counts true other) (every_one (λ (other : List ℕ). not (counts true other)) versions p.0 other there) in
+      search (either, none, greatest_so false versions version p.1))
 ]
+
+-- the greatest release, or there is none: the cases in either order
+latest_is : (versions : List (List ℕ)) (version : List ℕ) → IsLatest versions version
+    → IsGreatest true versions version ⊎ (NoneConsidered true versions × IsGreatest false versions version)
+latest_is versions version is = search either
 
 -- ---- how it ends
 
@@ -303,15 +317,17 @@ same_list : (a b : List ℕ) → Some (bytes a) ≡ Some (bytes b) → a ≡ b
 same_list a b e = cc e
 
 latest_there : (versions : List (List ℕ)) (latest : List ℕ) → IsLatest versions latest → Contains versions latest
-latest_there versions latest (inl is) = is.listed
-latest_there versions latest (inr (none, is)) = is.listed
+latest_there versions latest is = elim (latest_is versions latest is) [
+  | inl release ↦ release.listed
+  | inr any ↦ any.1.listed
+]
 
 -- the latest version is a word of the list
 no_other : VersionsNeed m false (answer_in one_listed) (mod_file m (codes "v0.9.0")) → ⊥
 no_other (inl is) = (let wrong : mod_file m (codes "v0.9.0") ≡ list_file m = is.1 in cc wrong)
 no_other (inr (versions, latest, is, chosen)) =
     let has = chosen.listed in
-    let there = ((has.listed.members latest).0 (latest_there versions latest chosen.greatest)).named in
+    let there = ((members_are has.list versions has.listed latest).0 (latest_there versions latest chosen.greatest)).named in
     no_word (subst (λ (list : List ℕ). Contains (words list) (codes "v0.9.0")) (sym (same_list (codes "v1.0.0\n") has.list has.answered))
     (subst (Contains (words has.list)) (sym (same_version (codes "v0.9.0") latest is)) there))
 
@@ -327,13 +343,17 @@ none_needed = none_fails [] (mod_file m (codes "v1.0.0")) no_need
 
 not_lesser : IsLatest (codes "v1.0.0" ∷ codes "v1.1.0" ∷ []) (codes "v1.0.0") → ⊥
 unfolding on_literals
-not_lesser (inl is) = false≢true (sym (is.greatest (codes "v1.1.0") (1, lit< tt, refl) refl))
-not_lesser (inr (none, is)) = false≢true (sym (none (codes "v1.0.0") (0, lit< tt, refl)))
+not_lesser is = elim (latest_is (codes "v1.0.0" ∷ codes "v1.1.0" ∷ []) (codes "v1.0.0") is) [
+  | inl release ↦ false≢true (sym (release.greatest (codes "v1.1.0") (1, lit< tt, refl) refl))
+  | inr any ↦ false≢true (sym (any.0 (codes "v1.0.0") (0, lit< tt, refl)))
+]
 
 not_pre : IsLatest (codes "v1.1.0" ∷ codes "v1.2.0-rc.1" ∷ []) (codes "v1.2.0-rc.1") → ⊥
 unfolding on_literals
-not_pre (inl is) = false≢true is.counted
-not_pre (inr (none, is)) = false≢true (sym (none (codes "v1.1.0") (0, lit< tt, refl)))
+not_pre is = elim (latest_is (codes "v1.1.0" ∷ codes "v1.2.0-rc.1" ∷ []) (codes "v1.2.0-rc.1") is) [
+  | inl release ↦ false≢true release.counted
+  | inr any ↦ false≢true (sym (any.0 (codes "v1.1.0") (0, lit< tt, refl)))
+]
 
 abbrev three_listed : List ℕ
 three_listed = codes "v1.0.0\nv1.1.0\nv1.2.0-rc.1\n"
