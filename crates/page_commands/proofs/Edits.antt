@@ -44,10 +44,10 @@ module _ (texts : List (List ℕ)) where
     by_lines (Err NotUtf8) e f = bad_main (0, misreading.NotUtf8) (refl, e) (sym (same_Some _ _ f))
     by_lines (Err (Syntax number kind)) e f = bad_main (number, misreading.Syntax kind) e (sym (same_Some _ _ f))
 
-abbrev IsTold : World → Type 0
+abbrev pub IsTold : World → Type 0
 IsTold w = ending w.0 (lines_in w.1) ≡ Some w.2
 
-told_so : (w : World) → IsTold w → Holds w
+pub told_so : (w : World) → IsTold w → Holds w
 told_so (texts, file, outcome) is = by_lines texts file outcome (lines_in file) refl is
 
 pub requirements_are_set : RequirementsAreSet

@@ -3,6 +3,7 @@ pub mod Members
 pub mod Rows
 pub mod Formats
 pub mod Edits
+pub mod Lines
 pub mod Texts
 pub mod Chains
 pub mod Listable

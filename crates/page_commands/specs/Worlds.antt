@@ -6,6 +6,7 @@ use Rattle.page_commands.specs.Outcome.{Outcome}
 pub mod Chains
 pub mod Edits
 pub mod Formats
+pub mod Lines
 pub mod Parts
 pub mod Sums
 pub mod Texts

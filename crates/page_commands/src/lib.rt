@@ -14,6 +14,7 @@ ghost use Rattle.page_commands.specs.Worlds.Edits.{
   RequirementsAreSet,
 };
 ghost use Rattle.page_commands.specs.Worlds.Formats.{LinesAreLaidOut, SyntaxIsReported, WordsAreLaidOut};
+ghost use Rattle.page_commands.specs.Worlds.Lines.{LinesAreEdited, LinesAreTold};
 ghost use Rattle.page_commands.specs.Worlds.Parts.{MajorsAreTold, PartsAreTold};
 ghost use Rattle.page_commands.specs.Worlds.Sums.{SumsAreRead};
 ghost use Rattle.page_commands.specs.Worlds.Texts.{HashesAreTold, NamesAreTold, PathsAreTold, VersionsAreTold};
@@ -102,6 +103,16 @@ pub fn directives_are_reported()
 /// `edit`: faults of replaces, retractions and go versions in the main file.
 pub fn replaces_are_reported()
     ensures { ReplacesAreReported }
+{}
+
+/// `edit`: faults and changes of single lines.
+pub fn lines_are_edited()
+    ensures { LinesAreEdited }
+{}
+
+/// What single definitions say of words, verbs, and of lines that are dropped.
+pub fn lines_are_told()
+    ensures { LinesAreTold }
 {}
 
 /// What a go.sum says of a file's hash.
