@@ -9,3 +9,4 @@ pub mod Chains
 pub mod Listable
 pub mod Versions
 pub mod Sums
+pub mod Single

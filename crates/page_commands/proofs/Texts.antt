@@ -94,21 +94,22 @@ parts_are_told = record {
 
 -- ---- majors
 
-first_byte : (text : List ℕ) (byte : ℕ) → slice_index text 0 ≡ byte → (byte ≡ 103 → ⊥) → IsUnderGopkg text → ⊥
+pub first_byte : (text : List ℕ) (byte : ℕ) → slice_index text 0 ≡ byte → (byte ≡ 103 → ⊥) → IsUnderGopkg text → ⊥
 first_byte text byte begins other (rest, is) = other (sym begins ∙ ap (λ (t : List ℕ). slice_index t 0) is)
 
-has_v : (front tail : List ℕ) → list_any (λ b. b == 118) (front ++ codes "/v" ++ tail) ≡ true
-has_v [] tail = refl
-has_v (x ∷ front) tail = rw (has_v front tail) (or_true (x == 118))
-  where
-    or_true : (b : Bool) → (b || true) ≡ true
-    or_true true = refl
-    or_true false = refl
+or_true : (b : Bool) → (b || true) ≡ true
+or_true true = refl
+or_true false = refl
+
+-- a `v` after a byte
+pub has_v : (byte : ℕ) (front tail : List ℕ) → list_any (λ b. b == 118) (front ++ (byte ∷ 118 ∷ []) ++ tail) ≡ true
+has_v byte [] tail = or_true (byte == 118)
+has_v byte (x ∷ front) tail = rw (has_v byte front tail) (or_true (x == 118))
 
 -- a text without a `v` does not have it behind a slash
 no_v : (text front tail : List ℕ) → list_any (λ b. b == 118) text ≡ false → text ≡ front ++ codes "/v" ++ tail → ⊥
 no_v text front tail none is =
-    false≢true (sym none ∙ (ap (λ (t : List ℕ). list_any (λ b. b == 118) t) is ∙ has_v front tail))
+    false≢true (sym none ∙ (ap (λ (t : List ℕ). list_any (λ b. b == 118) t) is ∙ has_v 47 front tail))
 
 no_zero : EndsInDotNumber (codes "gopkg.in/a.v0-unstable") 0 → ⊥
 no_zero (inl is) = ends_in_none (codes "gopkg.in/a.v0-unstable") 101 refl (codes ".v") (omega arith) 0 (omega arith) is

@@ -8,6 +8,7 @@ pub mod Edits
 pub mod Formats
 pub mod Lines
 pub mod Parts
+pub mod Single
 pub mod Sums
 pub mod Texts
 pub mod Versions

@@ -16,6 +16,7 @@ ghost use Rattle.page_commands.specs.Worlds.Edits.{
 ghost use Rattle.page_commands.specs.Worlds.Formats.{LinesAreLaidOut, SyntaxIsReported, WordsAreLaidOut};
 ghost use Rattle.page_commands.specs.Worlds.Lines.{LinesAreEdited, LinesAreTold};
 ghost use Rattle.page_commands.specs.Worlds.Parts.{MajorsAreTold, PartsAreTold};
+ghost use Rattle.page_commands.specs.Worlds.Single.{NeedsAreExact, PartsAreExact, PathsAreExact};
 ghost use Rattle.page_commands.specs.Worlds.Sums.{SumsAreRead};
 ghost use Rattle.page_commands.specs.Worlds.Texts.{HashesAreTold, NamesAreTold, PathsAreTold, VersionsAreTold};
 ghost use Rattle.page_commands.specs.Worlds.Versions.{DeviceIsReported, LatestFilesAreRead, ListsAreRead, RetractedAreLeftOut};
@@ -148,4 +149,19 @@ pub fn parts_are_told()
 /// The major version of a path, which versions fit it, and the forms of pseudo-versions.
 pub fn majors_are_told()
     ensures { MajorsAreTold }
+{}
+
+/// Module paths, major versions and pseudo-versions, told from others like them.
+pub fn paths_are_exact()
+    ensures { PathsAreExact }
+{}
+
+/// Single definitions, told from others like them.
+pub fn parts_are_exact()
+    ensures { PartsAreExact }
+{}
+
+/// `versions`: a path with a major version, and which files aren't needed.
+pub fn needs_are_exact()
+    ensures { NeedsAreExact }
 {}
