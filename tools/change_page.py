@@ -7,8 +7,6 @@
     tools/change_page.py NUMBER..         tries these
     tools/change_page.py --all            tries all, and compares what refused them with HEADLINE, too
     tools/change_page.py --some SECONDS   tries as many as fit into so many seconds of CPU time, others for each commit
-    tools/change_page.py --others         tries the changes by rule of what page_commands alone has, and counts those
-                                          that no row of it refuses; neither --all nor --some has them
     tools/change_page.py --prove NUMBER.. lets the prover check these, which takes some 15 s of CPU time each
     tools/change_page.py --sample         lets the prover check all equal forms, and thirty others for each commit
 
@@ -69,7 +67,7 @@ class Change:
     it."""
 
     title: str
-    kind: str  # "made" by a rule, "unshown" by any world, by "hand", or "equal"; or one of the "others" by rule
+    kind: str  # "made" by a rule, "unshown" by any world, by "hand", or "equal"
     places: dict
 
     def is_right(self, verdict):
@@ -97,8 +95,8 @@ def changes():
             title = f"{name}: {f'{text[first:start]}⟪{goes} ⇒ {new}⟫{text[end:last]}'.strip()}"
             mine = [it for it in marks if title.startswith(it.split(" ")[0]) and it.partition(": ")[2] in title]
             marks.update(dict.fromkeys(mine, True))
-            kind = "unshown" if mine else "made" if crate == COPYING[0] else "other"
-            add(found, page, Change(title, kind, {}), module, start, end, comes)
+            change = Change(title, "unshown" if mine else "made", {})
+            add(found, page, change, module, start, end, comes)
     lost = [it for it, is_made in marks.items() if not is_made] + [it[1] for it in listed if it[:2] not in found]
     if lost:
         sys.exit("\n".join(["change_page: can't be made, or its text isn't there once:", *lost]))
@@ -274,28 +272,23 @@ def in_turn(numbered):
 def main(*words):
     """Does what the words say, and returns the status."""
     numbered = [*enumerate(changes(), 1)]
-    expected, others = ([it for it in numbered if (it[1].kind == "other") == is_other] for is_other in (False, True))
     if not words:
         for number, change in numbered:
             print(f"{number} {change.title}{' (an equal form)' if change.kind == 'equal' else ''}")
-        kinds = collections.Counter(it.kind for _, it in expected)
+        kinds = collections.Counter(it.kind for _, it in numbered)
         says = (f"{kinds['made'] + kinds['unshown']} changes by rule, of which {kinds['unshown']} are marked as without "
                 f"a witness, {kinds['hand']} by hand, and {kinds['equal']}")
-        wrong = evaluate.wrong_claims()
-        return int(wrong + miscounted(says) + miscounted(f"{len(others)} changes by rule of what it alone") > 0)
+        return int(evaluate.wrong_claims() + miscounted(says) > 0)
     if words[0] == "--some":
-        return int(try_all(in_turn(expected), int(words[1]))[0] > 0)
+        return int(try_all(in_turn(numbered), int(words[1]))[0] > 0)
     if words[0] == "--all":
-        wrong, verdicts = try_all(expected, 0)
+        wrong, verdicts = try_all(numbered, 0)
         witnessed = sum(verdicts[it] for it in WITNESSED)
         says = f"{witnessed} by a witness, {verdicts[FACT]} by a fact, {verdicts[LOSS]} by a loss"
         return int(wrong + miscounted(says) > 0)
-    if words[0] == "--others":
-        try_all(others, 0)
-        return 0
     if words[0] == "--sample":
-        some = [it for it in in_turn(expected) if it[1].kind in ("made", "hand")]
-        return int(prove_all([it for it in expected if it[1].kind == "equal"] + some[:30]) > 0)
+        some = [it for it in in_turn(numbered) if it[1].kind in ("made", "hand")]
+        return int(prove_all([it for it in numbered if it[1].kind == "equal"] + some[:30]) > 0)
     chosen = {int(it) for it in words if it.isdigit()}
     if max(chosen) > len(numbered):
         script.misused(f"there are {len(numbered)} changes")
@@ -304,4 +297,4 @@ def main(*words):
 
 
 if __name__ == "__main__":
-    script.run(main, r" --all| --others| --sample| --some [1-9]\d{0,5}|( --prove)?( [1-9]\d{0,3})+|")
+    script.run(main, r" --all| --sample| --some [1-9]\d{0,5}|( --prove)?( [1-9]\d{0,3})+|")
