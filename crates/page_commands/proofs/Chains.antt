@@ -4,7 +4,6 @@ use Rattle.std.specs.Prelude.{if◌then◌else◌, nat_le}
 use Rattle.std.specs.Cmp.Lexicographic.{pointwise}
 use Rattle.std.specs.Ordering.{is_lt}
 use Rattle.std.proofs.lemmas.Bool.{and_parts, eq-eqb, eqb-true, false≢true, leb-true, not-true, or_cases}
-use Rattle.std.proofs.lemmas.List.{append-nil, append_assoc}
 use Rattle.std.proofs.lemmas.Option.{same_Some}
 use Rattle.page_commands.specs.BuildList.{HasEntryFor, IsAt, path_of}
 use Rattle.page_commands.specs.ChainQuery.{ShowsChain, chain_text}
@@ -19,7 +18,7 @@ use Rattle.page_commands.specs.Types.Edge.{Edge}
 use Rattle.page_commands.specs.Types.Step.{Main, Of, Step}
 use Rattle.page_commands.specs.Worlds.{prints}
 use Rattle.page_commands.specs.Worlds.Chains.{ChainHolds, ChainWorld, ChainsAreShown, EdgePair, GraphHolds, GraphWorld, GraphsAreShown, LevelsAreLeast, graph_worlds, level_worlds, path_worlds, run_of}
-use Rattle.page_commands.proofs.Members.{ascending, ascends, differ, every, every_one, member_cases, member_head, member_tail, no_member, pair_itself, pair_same, some, some_one, sorted, text_same}
+use Rattle.page_commands.proofs.Members.{appended, ascending, ascends, differ, every, every_one, member_cases, member_head, member_tail, no_member, pair_itself, pair_same, some, some_one, sorted, text_same}
 use Rattle.page_commands.proofs.OnLiterals.{on_literals}
 use Rattle.page_commands.proofs.Rows.{all_so}
 
@@ -291,9 +290,6 @@ module _ (es : List EdgePair) where
 
     -- ---- the chain
 
-    ruleset appended = (append-nil, append_assoc)
-
-    -- the steps, in whichever way they are put together
     chain_is : (s : Step) (one other : List Step) → IsChain edges s one → one ≡ other → IsChain edges s other
     chain_is s one other chain same = subst (IsChain edges s) same chain
 

@@ -40,9 +40,9 @@ module _ (texts : List (List ℕ)) where
     by_lines : (r : Result (List (Line Word)) SyntaxFault) → lines_in file ≡ r → ending r ≡ Some outcome → EditEnds texts file outcome
     by_lines (Ok lines) e f = by_fault lines (fault_of Strict lines) e refl (same_Some _ _ f)
     by_lines (Err NoMemory) e f = absurd (cc f)
-    by_lines (Err TooMany) e f = bad_main (0, misreading.TooMany) (refl, e) (sym (same_Some _ _ f))
-    by_lines (Err NotUtf8) e f = bad_main (0, misreading.NotUtf8) (refl, e) (sym (same_Some _ _ f))
-    by_lines (Err (Syntax number kind)) e f = bad_main (number, misreading.Syntax kind) e (sym (same_Some _ _ f))
+    by_lines (Err TooMany) e f = bad_main (0, misreading.TooMany) (refl, e) (search (same_Some _ _ f))
+    by_lines (Err NotUtf8) e f = bad_main (0, misreading.NotUtf8) (refl, e) (search (same_Some _ _ f))
+    by_lines (Err (Syntax number kind)) e f = bad_main (number, misreading.Syntax kind) e (search (same_Some _ _ f))
 
 abbrev pub IsTold : World → Type 0
 IsTold w = ending w.0 (lines_in w.1) ≡ Some w.2

@@ -20,7 +20,7 @@ use Rattle.page_commands.specs.Types.{Error, Parts, parts_text, version_parts}
 use Rattle.page_commands.specs.Types.Major.{Dot, NoSuffix, Slash}
 use Rattle.page_commands.specs.Version.{IsVersion, HasPlainBuild, parts_in, version_text}
 use Rattle.page_commands.specs.Worlds.Versions.{m}
-use Rattle.page_commands.proofs.Members.{text_same}
+use Rattle.page_commands.proofs.Members.{appended, text_same}
 
 -- ---- versions
 
@@ -103,7 +103,7 @@ module _ (text : List ℕ) (byte : ℕ) (ends : last_of text ≡ Some byte) wher
   pub ends_in_none : (mark : List ℕ) → 58 ≤ byte → (n : ℕ) → n < 2 ^ 64 → EndsInNumber text mark n → ⊥
   ends_in_none mark high n small (front, is) =
       let (x, rest, shape, k, low, at) = digit_at_end n small in
-      let at_end : text ≡ front ++ mark ++ decimal n = search is in
+      let at_end : text ≡ front ++ mark ++ decimal n = search (appended, is) in
       let whole : text ≡ (front ++ mark) ++ (x ∷ rest) = at_end ∙ ap (λ (t : List ℕ). (front ++ mark) ++ t) shape in
       let last : Some byte ≡ Some (48 + k) =
       sym ends ∙ (ap last_of whole ∙ (last_append (front ++ mark) x rest ∙ (ap last_of (sym shape) ∙ at))) in
@@ -199,11 +199,17 @@ split_from p before (x ∷ xs) h = elim (or_cases (p before (x ∷ xs)) (some_sp
 
 stamp_so : (pre front time revision : List ℕ) → IsStamp pre front time revision → is_stamp (time ++ 45 ∷ revision) ≡ true
 stamp_so pre front time revision is = ap₂ (λ (x y : Bool). x && y)
-    (subst (λ (t : List ℕ). is_time t ≡ true) (sym taken) (rw (fourteen, is.digits) refl))
-    (subst (λ (t : List ℕ). is_revision t ≡ true) (sym dropped) (rw (lt-ltb 0 (length revision) is.some, is.letters_or_digits) refl))
+    (subst (λ (t : List ℕ). is_time t ≡ true) (sym taken) (rw (fourteen, digits) refl))
+    (subst (λ (t : List ℕ). is_revision t ≡ true) (sym dropped) (rw (lt-ltb 0 (length revision) is.some, letters) refl))
   where
     fourteen : length time ≡ 14
     fourteen = search is.fourteen
+
+    digits : list_all is_ascii_digit time ≡ true
+    digits = search is.digits
+
+    letters : list_all is_ascii_alphanumeric revision ≡ true
+    letters = search is.letters_or_digits
 
     taken : take 14 (time ++ 45 ∷ revision) ≡ time
     taken = subst (λ (n : ℕ). take n (time ++ 45 ∷ revision) ≡ time) fourteen (take-append_seam time (45 ∷ revision))
@@ -211,7 +217,7 @@ stamp_so pre front time revision is = ap₂ (λ (x y : Bool). x && y)
     dropped : drop 14 (time ++ 45 ∷ revision) ≡ 45 ∷ revision
     dropped = subst (λ (n : ℕ). drop n (time ++ 45 ∷ revision) ≡ 45 ∷ revision) fourteen (drop-append_seam time (45 ∷ revision))
 
-joined_so : (front time revision : List ℕ) → ((front ++ time) ++ codes "-") ++ revision ≡ front ++ (time ++ 45 ∷ revision)
+pub joined_so : (front time revision : List ℕ) → ((front ++ time) ++ codes "-") ++ revision ≡ front ++ (time ++ 45 ∷ revision)
 joined_so front time revision = append_assoc (front ++ time) (codes "-") revision ∙ append_assoc front time (45 ∷ revision)
 
 revision_from : (text : List ℕ) → is_revision text ≡ true
@@ -231,11 +237,11 @@ stamp_from pre front rest e h =
       take 14 rest,
       revision,
       record {
-        joined = e ∙ (ap (λ (t : List ℕ). front ++ t) whole ∙ sym (joined_so front (take 14 rest) revision));
+        joined = search (e ∙ ap (λ (t : List ℕ). front ++ t) whole, joined_so front (take 14 rest) revision);
         fourteen = search (eqb-true (length (take 14 rest)) 14 q.0);
-        digits = q.1;
+        digits = search q.1;
         some = some;
-        letters_or_digits = letters;
+        letters_or_digits = search letters;
       },
     )
 
@@ -287,7 +293,7 @@ front_from minor patch front h = elim (or_cases (is_front_one minor patch front)
 
 pub pseudo_so : (version : List ℕ) → IsPseudoVersion version → is_pseudo version ≡ true
 pseudo_so version (form, time, revision, (front, is_in_front, stamp)) =
-    let joined : (parts_in version).3 ≡ front ++ (time ++ 45 ∷ revision) = stamp.joined ∙ joined_so front time revision in
+    let joined : (parts_in version).3 ≡ front ++ (time ++ 45 ∷ revision) = search (stamp.joined, joined_so front time revision) in
     let both : both_parts (parts_in version) front (time ++ 45 ∷ revision) ≡ true = ap₂ (λ (x y : Bool). x && y)
     (front_so form (parts_in version).1 (parts_in version).2 front is_in_front) (stamp_so (parts_in version).3 front time revision stamp) in
     subst (λ (t : List ℕ). some_split (both_parts (parts_in version)) [] t ≡ true) (sym joined)

@@ -6,6 +6,7 @@ use Rattle.std.specs.List.{All, AllByRecursion}
 use Rattle.std.specs.declared.cmp.Ordering.{Ordering}
 use Rattle.std.specs.declared.cmp.Ordering.TheVariants.{Less, Equal, Greater}
 use Rattle.std.proofs.lemmas.Bool.{and_parts, false≢true, or_cases}
+use Rattle.std.proofs.lemmas.List.{append-nil, append_assoc}
 use Rattle.std.proofs.lemmas.List.Kept.{AllPairs-cons}
 use Rattle.page_commands.specs.ModuleVersion.{ModuleVersion, pair_eq}
 
@@ -59,6 +60,9 @@ module _ {T : Type 0} where
   all_of P [] h k d below = absurd (omega (arith, below))
   all_of P (x ∷ xs) h zero d below = h.0
   all_of P (x ∷ xs) h (suc k) d below = all_of P xs h.1 k d (omega (arith, below))
+
+-- a list, however it is put together
+pub ruleset appended = (append-nil, append_assoc)
 
 -- ---- ascending lists
 

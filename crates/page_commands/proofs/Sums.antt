@@ -128,7 +128,7 @@ module _ (path version : List ℕ) where
             λ other is. text_same other hash (every_one (λ (h : List ℕ). pointwise nat_eq h hash) (first ∷ more) all other
             (subst (λ (hs : List (List ℕ)). Contains hs other) e (sum_back other is))) in
             let own = sum_so first (subst (λ (hs : List (List ℕ)). Contains hs first) (sym e) (member_head first more)) in
-            (subst (IsSum text path version) (same first own) own, same)
+            (subst (IsSum text path version) (same first own) own, λ other is. search (same other is))
         by_test false some =
             let (other, there, unlike) = other_in hash (first ∷ more) some in
             (other, sum_so other (subst (λ (hs : List (List ℕ)). Contains hs other) (sym e) there), λ same. unlike (search same))

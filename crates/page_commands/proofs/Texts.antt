@@ -10,7 +10,8 @@ use Rattle.page_commands.specs.Pseudo.{IsStamp}
 use Rattle.page_commands.specs.Types.Major.{Dot, NoSuffix, Slash}
 use Rattle.page_commands.specs.Worlds.Parts.{MajorsAreTold, PartsAreTold}
 use Rattle.page_commands.specs.Worlds.Texts.{HashesAreTold, NamesAreTold, PathsAreTold, VersionsAreTold}
-use Rattle.page_commands.proofs.Listable.{ends_in_none, ends_otherwise, not_gopkg, not_slash}
+use Rattle.page_commands.proofs.Listable.{ends_in_none, ends_otherwise, joined_so, not_gopkg, not_slash}
+use Rattle.page_commands.proofs.Members.{appended}
 use Rattle.page_commands.proofs.OnLiterals.{on_literals}
 
 plain : IsPath (codes "example.com/m")
@@ -128,8 +129,8 @@ not_minor (inr (is, rest, begins), build) = (let wrong : 49 ≡ 48 = ap (λ (t :
 some_build : codes "incompatible" ≡ [] → ⊥
 some_build e = cc e
 
-stamp : (pre front : List ℕ) → pre ≡ front ++ codes "20200101000000" ++ codes "-" ++ codes "a" → IsStamp pre front (codes "20200101000000") (codes "a")
-stamp pre front joined = record { joined = joined; fourteen = refl; digits = refl; some = lit< tt; letters_or_digits = refl }
+stamp : (pre front : List ℕ) → pre ≡ front ++ (codes "20200101000000" ++ 45 ∷ codes "a") → IsStamp pre front (codes "20200101000000") (codes "a")
+stamp pre front joined = record { joined = search (joined, joined_so front (codes "20200101000000") (codes "a")); fourteen = refl; digits = refl; some = lit< tt; letters_or_digits = refl }
 
 pub majors_are_told : MajorsAreTold
 unfolding on_literals
@@ -153,7 +154,7 @@ majors_are_told = record {
   zero = no_zero;
   bare = ends_otherwise (codes "a/v") 118 refl refl;
   unmarked = λ (front, tail, is, some, all). no_v (codes "a/2") front tail refl is;
-  marked = λ (front, is). no_v (codes "a/x2") front (decimal 2) refl (search is);
+  marked = λ (front, is). no_v (codes "a/x2") front (decimal 2) refl (search (appended, is));
   other = λ is. (let wrong : 1 ≡ 2 = is.0 in omega (arith, wrong));
   early_slash = λ is. (let wrong : 0 ≡ 1 = is.0 in omega (arith, wrong));
   build = λ is. some_build is.1;

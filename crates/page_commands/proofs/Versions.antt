@@ -130,11 +130,7 @@ has_none versions = every (λ (other : List ℕ). not (counts true other)) versi
 abbrev is_latest : List (List ℕ) → List ℕ → Bool
 is_latest versions version = is_greatest true versions version || (has_none versions && is_greatest false versions version)
 
-other_side : {A B : Type 0} → A ⊎ B → B ⊎ A
-other_side (inl one) = inr one
-other_side (inr other) = inl other
-
-ruleset either = (inl, inr, other_side)
+ruleset either = (inl, inr)
 
 latest_so : (versions : List (List ℕ)) (version : List ℕ) → is_latest versions version ≡ true → IsLatest versions version
 latest_so versions version h = elim (or_cases (is_greatest true versions version) (has_none versions && is_greatest false versions version) h) [
@@ -147,7 +143,10 @@ latest_so versions version h = elim (or_cases (is_greatest true versions version
 -- the greatest release, or there is none: the cases in either order
 latest_is : (versions : List (List ℕ)) (version : List ℕ) → IsLatest versions version
     → IsGreatest true versions version ⊎ (NoneConsidered true versions × IsGreatest false versions version)
-latest_is versions version is = search either
+latest_is versions version is = elim is [
+  | inl one ↦ search either
+  | inr other ↦ search either
+]
 
 -- ---- how it ends
 
