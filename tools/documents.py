@@ -397,9 +397,12 @@ def keep_alike(tally):
 
 
 def keep_pins(tally):
-    """Whether each text that was read beside others, `<!-- read beside OTHERS: CHECKSUM -->`, is as it was then."""
+    """Whether each block that was read beside others, `<!-- read beside OTHERS: CHECKSUM -->`, is as it was then, and
+    so each page, which has `page read beside` in its last line."""
     for page in ["README.md", *glob.glob("docs/**/*.md", recursive=True)]:
-        for text, others, then in re.findall(r"(?m)((?:^.+\n)+)^<!-- read beside (.+): (\w+) -->$", read(page)):
+        blocks = re.findall(r"(?m)((?:^.+\n)+)^<!-- read beside (.+): (\w+) -->$", read(page))
+        pages = re.findall(r"(?s)\A(.+\n)\n<!-- page read beside ([^\n]+): (\w+) -->\n\Z", read(page))
+        for text, others, then in blocks + pages:
             now = checksum(text)
             tally.tell("texts read beside others", now == then, f"{page}: read this beside {others}, and write {now} "
                        f"below it: {text[:100]}")
