@@ -1,8 +1,8 @@
 -- A fault of the worklist that loading passes on.
 use Rattle.std.proofs.Common.{◌≡◌, Result, Ok, Err, ◌∙◌, sym, refl}
 use Rattle.std.specs.Prelude.{IsErrAnd}
-use Rattle.gm_graph.specs.declared.cache.load_fault.LoadFault.{LoadFault}
-use Rattle.gm_graph.specs.declared.cache.load_fault.LoadFault.TheVariants as load
+use Rattle.gm_graph_cache.specs.declared.cache.load_fault.LoadFault.{LoadFault}
+use Rattle.gm_graph_cache.specs.declared.cache.load_fault.LoadFault.TheVariants as load
 use Rattle.gm_graph.specs.declared.worklist.AddFault.{AddFault}
 use Rattle.gm_graph.specs.declared.worklist.AddFault.TheVariants as add
 use Rattle.gm_graph.specs.WorklistFaults.{load_fault_of}

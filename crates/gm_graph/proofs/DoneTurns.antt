@@ -7,18 +7,19 @@ use Rattle.std.proofs.lemmas.List.Elements.{Contains-append_left, Contains-appen
 use Rattle.gm_name.specs.ModuleVersion.{ModuleVersion}
 use Rattle.gm_file.specs.Fields.{Dependency}
 use Rattle.gm_file.specs.Main.{is_pruned_by, without_excluded}
-use Rattle.gm_graph.specs.declared.cache.class.Class.{Class}
-use Rattle.gm_graph.specs.declared.cache.depth.Turn.{Turn}
-use Rattle.gm_graph.specs.declared.cache.depth.Depth.{Depth}
-use Rattle.gm_graph.specs.declared.cache.depth.Depth.TheVariants.{Top, Deep}
+use Rattle.gm_graph_cache.specs.declared.cache.class.Class.{Class}
+use Rattle.gm_graph_cache.specs.declared.cache.depth.Turn.{Turn}
+use Rattle.gm_graph_cache.specs.declared.cache.depth.Depth.{Depth}
+use Rattle.gm_graph_cache.specs.declared.cache.depth.Depth.TheVariants.{Top, Deep}
 use Rattle.gm_graph.specs.declared.worklist.Worklist.{Worklist}
-use Rattle.gm_graph.specs.Run.{AreTurns, IsDeep, IsOpened, IsTop, Run, Says, TakesTurn, from_deep, from_main, from_top}
-use Rattle.gm_graph.specs.Turns.{same_turn, turn}
-use Rattle.gm_graph.specs.Private.Turns.{AddsAll, HasTurn, depth_by, led_to, leads_on}
+use Rattle.gm_graph.specs.Run.{AreTurns, IsDeep, IsOpened, IsTop, TakesTurn, from_deep, from_main, from_top}
+use Rattle.gm_graph_cache.specs.Sayings.{Run, Says}
+use Rattle.gm_graph_cache.specs.Turns.{same_turn, turn, leads_on}
+use Rattle.gm_graph.specs.Private.Turns.{AddsAll, HasTurn, depth_by, led_to}
 use Rattle.gm_graph.specs.Private.Worklists.{IsWorklist, turn_of, turns_of}
 use Rattle.gm_name_table.specs.Listed.{BeginsWith}
 use Rattle.gm_graph.proofs.Sameness.{same_turn-Decides, turns_equivalence}
-use Rattle.gm_graph.proofs.Sayings.{one_said}
+use Rattle.gm_graph_cache.proofs.Sayings.{one_said}
 use Rattle.gm_graph_select.proofs.RankedLists.{in_mapped}
 
 -- What the file of the turn's vertex says is known, and what a visit leads to by that has turns at full depth.

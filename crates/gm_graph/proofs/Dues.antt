@@ -4,12 +4,13 @@ use Rattle.std.specs.Prelude.{IsErrAnd}
 use Rattle.gm_name.specs.ModuleVersion.{ModuleVersion}
 use Rattle.gm_store.specs.Asked.{Name, Reply, answer_in}
 use Rattle.gm_store_sums.specs.Sums.{Sums}
-use Rattle.gm_graph.specs.declared.cache.load_fault.LoadFault.{LoadFault}
+use Rattle.gm_graph_cache.specs.declared.cache.load_fault.LoadFault.{LoadFault}
 use Rattle.gm_file.specs.Main.{Main}
-use Rattle.gm_graph.specs.Reading.{file_of, is_askable}
-use Rattle.gm_graph.specs.Refusals.{refused_names, refused_in}
-use Rattle.gm_graph.specs.Run.{AskedInTurn, KeepsSayings, nothing, run_of}
-use Rattle.gm_graph.proofs.Sayings.{says_more}
+use Rattle.gm_graph_cache.specs.Reading.{file_of, is_askable}
+use Rattle.gm_graph_cache.specs.Refusals.{refused_names, refused_in}
+use Rattle.gm_graph.specs.Run.{AskedInTurn, nothing}
+use Rattle.gm_graph_cache.specs.Sayings.{KeepsSayings, run_of}
+use Rattle.gm_graph_cache.proofs.Sayings.{says_more}
 
 -- Nothing was asked for.
 pub none_in_turn : (needs : (Name → Option Reply) → Name → Type 0) (pairs : List (Name × Reply)) → pairs ≡ [] → AskedInTurn needs pairs

@@ -7,7 +7,8 @@ use Rattle.gm_graph_select.specs.declared.step.Step.TheVariants.{Of}
 use Rattle.gm_graph_select.specs.Chains.{Leads, along}
 use Rattle.gm_graph_select.specs.Graph.{AreEnds, IsEdgeEnd, among, edge}
 use Rattle.gm_graph_select.specs.Order.{HaveSame}
-use Rattle.gm_graph.specs.Run.{IsEdge, IsOpened, IsVertex, Run}
+use Rattle.gm_graph.specs.Run.{IsEdge, IsOpened, IsVertex}
+use Rattle.gm_graph_cache.specs.Sayings.{Run}
 use Rattle.gm_graph.proofs.Rooted.{opened_reached}
 
 module _ (run : Run) where

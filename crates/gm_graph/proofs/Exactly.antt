@@ -15,15 +15,16 @@ use Rattle.gm_file.specs.Main.{Main}
 use Rattle.gm_store.specs.Asked.{Name, Reply, names_in, same_name}
 use Rattle.gm_store.proofs.NameOrder.{names_equal}
 use Rattle.gm_store_sums.specs.Sums.{Sums}
-use Rattle.gm_graph.specs.declared.cache.class.Class.{Class}
-use Rattle.gm_graph.specs.declared.cache.depth.Turn.{Turn}
-use Rattle.gm_graph.specs.declared.cache.depth.Depth.TheVariants.{Deep}
-use Rattle.gm_graph.specs.Reading.{file_of, is_askable}
-use Rattle.gm_graph.specs.Run.{AreOpened, AreTurns, AskedInTurn, FileSays, IsNeeded, IsOpened, IsRead, IsSettled, LoadingNeeds, Run, Says, answered, faulty, more, nothing, run_of, sound, unaskable, wrong_path}
+use Rattle.gm_graph_cache.specs.declared.cache.class.Class.{Class}
+use Rattle.gm_graph_cache.specs.declared.cache.depth.Turn.{Turn}
+use Rattle.gm_graph_cache.specs.declared.cache.depth.Depth.TheVariants.{Deep}
+use Rattle.gm_graph_cache.specs.Reading.{file_of, is_askable}
+use Rattle.gm_graph.specs.Run.{AreOpened, AreTurns, AskedInTurn, IsNeeded, IsOpened, IsRead, IsSettled, LoadingNeeds, more, nothing}
+use Rattle.gm_graph_cache.specs.Sayings.{FileSays, Run, Says, answered, faulty, run_of, sound, unaskable, wrong_path}
 use Rattle.gm_graph.specs.Private.Turns.{AreTurnsOf}
 use Rattle.gm_graph.proofs.RunLemmas.{answered_any, keeps_agree, names_equivalence, needed as needed_too}
 use Rattle.gm_graph.proofs.DoneTurns.{takes_first}
-use Rattle.gm_graph.proofs.Sayings.{says_more}
+use Rattle.gm_graph_cache.proofs.Sayings.{says_more}
 
 pub names_push : (pairs : List (Name × Reply)) (n : Name) (r : Reply) → names_in (pairs ++ (n, r) ∷ []) ≡ names_in pairs ++ n ∷ []
 names_push pairs n r = map_push (λ (pair : Name × Reply). pair.0) pairs (n, r)

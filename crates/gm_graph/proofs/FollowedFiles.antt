@@ -3,27 +3,25 @@ use Rattle.std.proofs.Common.{◌≡◌, ◌⊎◌, Contains, List, Ok, ℕ, inl
 use Rattle.std.proofs.lemmas.List.Elements.{Contains-append_left}
 use Rattle.gm_name.specs.ModuleVersion.{ModuleVersion}
 use Rattle.gm_name_table.specs.Listed.{BeginsWith}
-use Rattle.gm_graph.specs.declared.cache.Cache.{Cache}
-use Rattle.gm_graph.specs.declared.cache.depth.Depth.{Depth}
-use Rattle.gm_graph.specs.declared.cache.depth.Depth.TheVariants.{Deep}
-use Rattle.gm_graph.specs.declared.cache.depth.Turn.{Turn}
-use Rattle.gm_graph.specs.declared.cache.visit.Required.{Required}
-use Rattle.gm_graph.specs.declared.cache.visit.Visit.TheVariants as visit
-use Rattle.gm_graph.specs.Cached.{IsSound, run_in, table_in}
-use Rattle.gm_graph.specs.Private.Cached.{Follows}
+use Rattle.gm_graph_cache.specs.declared.cache.Cache.{Cache}
+use Rattle.gm_graph_cache.specs.declared.cache.depth.Depth.{Depth}
+use Rattle.gm_graph_cache.specs.declared.cache.depth.Depth.TheVariants.{Deep}
+use Rattle.gm_graph_cache.specs.declared.cache.depth.Turn.{Turn}
+use Rattle.gm_graph_cache.specs.declared.cache.visit.Required.{Required}
+use Rattle.gm_graph_cache.specs.declared.cache.visit.Visit.TheVariants as visit
+use Rattle.gm_graph_cache.specs.Cached.{IsSound, run_in, table_in, Follows}
 use Rattle.gm_store.specs.Asked.{Name, Reply}
-use Rattle.gm_graph.specs.Run.{Requires, Run}
-use Rattle.gm_graph.specs.Turns.{turn}
+use Rattle.gm_graph_cache.specs.Sayings.{Requires, Run}
+use Rattle.gm_graph_cache.specs.Turns.{turn}
 use Rattle.gm_graph.specs.declared.followed.Followed.{Followed}
 use Rattle.gm_graph.specs.declared.worklist.Worklist.{Worklist}
 use Rattle.gm_graph.specs.Private.Worklists.{IsWorklist, turns_of}
 use Rattle.gm_graph.specs.Private.Followed.{followed_at}
-use Rattle.gm_graph.specs.Private.CacheVisits.{IsVisit}
-use Rattle.gm_graph.proofs.Lending.{LendsList}
-use Rattle.gm_graph.specs.Private.Held.{lent_table}
-use Rattle.gm_graph.specs.Lent.{lent_modules}
+use Rattle.gm_graph_cache.specs.Visits.{IsVisit}
+use Rattle.gm_graph_cache.proofs.Lending.{LendsList}
+use Rattle.gm_graph_cache.specs.Lent.{lent_table, lent_modules}
 use Rattle.gm_graph.proofs.Growing.{turns_over}
-use Rattle.gm_graph.proofs.Sayings.{required_of, requires_before}
+use Rattle.gm_graph_cache.proofs.Sayings.{required_of, requires_before}
 
 -- The lists of the files were followed: what a vertex that has such a file requires has turns at full depth.
 abbrev pub AreFollowedIn : Cache → Run → List Turn → Followed → Type 0

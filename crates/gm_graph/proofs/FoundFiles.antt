@@ -3,17 +3,16 @@ use Rattle.std.proofs.Common.{◌≡◌, ◌≢◌, ◌∙◌, ◌<◌, ◌++◌
 use Rattle.std.proofs.lemmas.Bool.{cases_eq, false≢true}
 use Rattle.std.proofs.lemmas.List.Elements.{Contains-append_left, Contains-push, Contains-push_cases}
 use Rattle.std.proofs.lemmas.Option.{same_Some}
-use Rattle.gm_graph.specs.declared.cache.Cache.{Cache}
-use Rattle.gm_graph.specs.declared.cache.class.Class.{Class}
+use Rattle.gm_graph_cache.specs.declared.cache.Cache.{Cache}
+use Rattle.gm_graph_cache.specs.declared.cache.class.Class.{Class}
 use Rattle.gm_graph.specs.declared.findings.Findings.{Findings}
 use Rattle.gm_graph.specs.declared.findings.NumberedFault.{NumberedFault}
-use Rattle.gm_graph.specs.Cached.{IsSound, run_in, table_in}
-use Rattle.gm_graph.specs.Private.Cached.{Follows, module_numbered}
+use Rattle.gm_graph_cache.specs.Cached.{IsSound, run_in, table_in, Follows, module_numbered}
 use Rattle.gm_name_table.specs.Listed.{BeginsWith}
 use Rattle.gm_store.specs.Asked.{Name, Reply}
 use Rattle.gm_graph.specs.Private.Findings.{AreFindings, WasVisited, numbered, place_at}
-use Rattle.gm_graph.specs.Run.{Run, Says}
-use Rattle.gm_graph.proofs.Growing.{number_below, number_stays}
+use Rattle.gm_graph_cache.specs.Sayings.{Run, Says}
+use Rattle.gm_graph_cache.proofs.NumberedModules.{number_below, number_stays}
 
 -- A vertex has its number still.
 pub same_module : (old new : Cache) (number : ℕ) → BeginsWith (table_in old) (table_in new) → number < length (table_in old)

@@ -7,17 +7,18 @@ use Rattle.gm_name_table.specs.Listed.{modules_at, modules_of}
 use Rattle.gm_name_table.proofs.Listed.{part_as}
 use Rattle.gm_file.specs.Fields.{Dependency}
 use Rattle.gm_file.specs.Main.{without_excluded}
-use Rattle.gm_graph.proofs.Ordered.{own_spans}
-use Rattle.gm_graph.specs.declared.cache.Cache.{Cache}
-use Rattle.gm_graph.specs.declared.cache.class.Class.{Class}
-use Rattle.gm_graph.specs.declared.cache.parts.CacheParts.{CacheParts}
+use Rattle.gm_graph_cache.proofs.Ordered.{own_spans}
+use Rattle.gm_graph_cache.specs.declared.cache.Cache.{Cache}
+use Rattle.gm_graph_cache.specs.declared.cache.class.Class.{Class}
+use Rattle.gm_graph_cache.specs.declared.cache.parts.CacheParts.{CacheParts}
 use Rattle.gm_graph.specs.declared.fault.Fault.{Fault}
 use Rattle.gm_graph.specs.declared.findings.Findings.{Findings}
 use Rattle.gm_graph.specs.declared.worklist.Worklist.{Worklist}
-use Rattle.gm_graph.specs.Private.Cached.{ArePartsOf, module_numbered}
+use Rattle.gm_graph_cache.specs.Cached.{ArePartsOf, module_numbered}
 use Rattle.gm_graph.specs.Private.Findings.{WasVisited, place_at}
 use Rattle.gm_graph.specs.Private.Gathering.{AreFaultsOf, AreFilePlaces, HasFaultOf, fault, is_in_places, gathered_sources, steps_by}
-use Rattle.gm_graph.specs.Run.{AreFaults, IsEdge, IsFault, IsOpened, Requires, Run, Says}
+use Rattle.gm_graph.specs.Run.{AreFaults, IsEdge, IsFault, IsOpened}
+use Rattle.gm_graph_cache.specs.Sayings.{Requires, Run, Says}
 use Rattle.gm_graph.specs.Private.Visiting.{IsOpenedIn}
 use Rattle.gm_graph_select.specs.declared.adjacency.Source.{Source}
 use Rattle.gm_graph_select.specs.declared.step.Edge.{Edge}
@@ -27,9 +28,9 @@ use Rattle.gm_graph_select.specs.Adjacency.{StepEdges, edges_of, left_by, list_a
 use Rattle.gm_graph_select.specs.Graph.{edge}
 use Rattle.gm_graph.proofs.Gathered.{each_source, file_source, lists_by, main_source, noted_has, source_there, used_list}
 use Rattle.gm_graph.proofs.RunLemmas.{value_of}
-use Rattle.gm_graph.proofs.SharedLists.{own_there}
+use Rattle.gm_graph_cache.proofs.SharedLists.{own_there}
 use Rattle.gm_graph_select.proofs.RankedLists.{edges_each, edges_only, from_mapped, in_mapped}
-use Rattle.gm_graph.proofs.Sayings.{class_same, file_same, not_both}
+use Rattle.gm_graph_cache.proofs.Sayings.{class_same, file_same, not_both}
 
 -- ---- what was found, by the parts of the cache
 

@@ -11,19 +11,19 @@ use Rattle.std.proofs.lemmas.Map.Keys.{apart_from_distinct}
 use Rattle.std.proofs.lemmas.Option.{same_Some}
 use Rattle.gm_name.specs.ModuleVersion.{ModuleVersion, module_at, pair_eq, pair_ties}
 use Rattle.gm_name_table.specs.Listed.{AreModuleNumbers}
-use Rattle.gm_graph.specs.declared.cache.parts.CacheParts.{CacheParts}
-use Rattle.gm_graph.specs.declared.cache.summary.Kept.{Kept}
-use Rattle.gm_graph.specs.declared.cache.summary.ListSpan.{ListSpan}
+use Rattle.gm_graph_cache.specs.declared.cache.parts.CacheParts.{CacheParts}
+use Rattle.gm_graph_cache.specs.declared.cache.summary.Kept.{Kept}
+use Rattle.gm_graph_cache.specs.declared.cache.summary.ListSpan.{ListSpan}
 use Rattle.gm_graph.specs.Private.Findings.{place_at}
 use Rattle.gm_graph.specs.Private.Gathering.{AreFilePlaces, is_in_places, sources_from, gathered_sources, span_after, spans_from, spans_of, steps_by}
-use Rattle.gm_graph.specs.Private.Summaries.{AreSpansInOrder}
+use Rattle.gm_graph_cache.specs.Private.Summaries.{AreSpansInOrder}
 use Rattle.gm_graph_select.specs.declared.adjacency.Source.{Source}
 use Rattle.gm_graph_select.specs.declared.number_lists.Span.{Span}
 use Rattle.gm_graph_select.specs.Adjacency.{AreUsed, HaveNumbers, IsBelow, IsNumbered, StepEdges, by_step, left_by, list_at, same_step, step_edges}
 use Rattle.gm_graph_select.specs.Spans.{AreSpansApart, lists_at, part_at}
 use Rattle.gm_graph_select.specs.declared.step.Step.TheVariants.{Main, Of}
 use Rattle.gm_graph_select.specs.StepOrder.{step_eq}
-use Rattle.gm_graph.proofs.Ordered.{order_rest, own_spans}
+use Rattle.gm_graph_cache.proofs.Ordered.{own_spans, order_from}
 
 -- ---- the sources
 
@@ -115,6 +115,24 @@ module _ (modules : List ModuleVersion) (distinct : IsDistinct pair_eq modules) 
   sources_once places below = (main_differs 0 places, once_from 0 places (λ k place e. omega (arith, below k place e)))
 
 -- ---- the spans
+
+pub order_ends : (from : ℕ) (spans : List (Option ListSpan)) (to : ℕ) → AreSpansInOrder from spans to → from ≤ to
+order_ends from [] to are = are
+order_ends from (Some span ∷ spans) to are = omega (arith, are.0, are.1, order_ends span.end spans to are.2)
+order_ends from (None ∷ spans) to are = order_ends from spans to are
+
+-- the first span, and those after it
+pub order_first : (from : ℕ) (own : Option ListSpan) (spans : List (Option ListSpan)) (to : ℕ)
+    → AreSpansInOrder from (own ∷ spans) to → AreSpansInOrder from (own ∷ []) to
+order_first from (Some span) spans to are = (are.0, are.1, order_ends span.end spans to are.2)
+order_first from None spans to are = order_ends from spans to are
+
+pub order_rest : (from : ℕ) (used : Bool) (own : Option ListSpan) (spans : List (Option ListSpan)) (to : ℕ)
+    → AreSpansInOrder from (own ∷ spans) to → AreSpansInOrder (span_after from used own).end spans to
+order_rest from true (Some span) spans to are = are.2
+order_rest from false (Some span) spans to are = order_from from span.end spans to (omega (arith, are.0, are.1)) are.2
+order_rest from true None spans to are = are
+order_rest from false None spans to are = are
 
 span_apart : (from : ℕ) (b : Bool) (own : Option ListSpan) (owns : List (Option ListSpan)) (to : ℕ) → AreSpansInOrder from (own ∷ owns) to
     → (from ≤ (span_after from b own).start) × ((span_after from b own).start ≤ (span_after from b own).end)

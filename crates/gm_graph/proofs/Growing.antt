@@ -1,42 +1,26 @@
--- A list of modules that grows at its end: the numbers stand for the same modules.
-use Rattle.std.proofs.Common.{◌≡◌, ◌<◌, ◌++◌, ◌∷◌, ◌∙◌, [], ℕ, All, List, ap, arith, length, length-append, map, refl}
+-- A worklist, as the list of modules grows at its end: the numbers stand for the same modules.
+use Rattle.std.proofs.Common.{◌≡◌, ◌<◌, ◌++◌, ◌∷◌, ◌∙◌, [], ℕ, All, List, ap, length, map, refl}
 use Rattle.std.specs.List.{IsDistinct}
-use Rattle.std.proofs.lemmas.List.{get_or_append_left}
 use Rattle.std.proofs.lemmas.List.Elements.{All-head, All-tail, All-weaker}
-use Rattle.gm_name.specs.ModuleVersion.{ModuleVersion, module_at, pair_eq}
+use Rattle.gm_name.specs.ModuleVersion.{ModuleVersion, pair_eq}
 use Rattle.gm_name_table.specs.Listed.{BeginsWith}
 use Rattle.gm_graph.specs.declared.worklist.Worklist.{Worklist}
 use Rattle.gm_graph.specs.declared.worklist.NumberedTurn.{NumberedTurn}
 use Rattle.gm_graph.specs.Private.Worklists.{IsWorklist, turn_of, turns_of}
+use Rattle.gm_graph_cache.proofs.NumberedModules.{vertex_stays, number_below}
 
 abbrev pub IsOneBelow : ℕ → NumberedTurn → Type 0
 IsOneBelow count one = one.number < count
 
 module _ (modules more : List ModuleVersion) where
-  pub vertex_stays : (number : ℕ) → number < length modules
-      → module_at (modules ++ more) number ≡ module_at modules number
-  vertex_stays number below = get_or_append_left modules more ([], []) number below
-
   turns_stay : (turns : List NumberedTurn) → All (IsOneBelow (length modules)) turns
       → map (turn_of (modules ++ more)) turns ≡ map (turn_of modules) turns
   turns_stay [] h = refl
   turns_stay (one ∷ turns) h =
       rw (
-        vertex_stays one.number (All-head (IsOneBelow (length modules)) one turns h),
+        vertex_stays modules more one.number (All-head (IsOneBelow (length modules)) one turns h),
         turns_stay turns (All-tail (IsOneBelow (length modules)) one turns h),
       ) refl
-
--- A module has its number still, and the number is one of a module.
-pub number_stays : (old new : List ModuleVersion) (number : ℕ) → BeginsWith old new → number < length old
-    → module_at new number ≡ module_at old number
-number_stays old new number begins below =
-    ap (λ (modules : List ModuleVersion). module_at modules number) begins.1 ∙ vertex_stays old begins.0 number below
-
-pub number_below : (old new : List ModuleVersion) (number : ℕ) → BeginsWith old new → number < length old
-    → number < length new
-number_below old new number begins below = omega (arith, below, ap length begins.1, length-append old begins.0)
-
--- ---- the worklist
 
 module _ (old new : List ModuleVersion) (worklist : Worklist) (is : IsWorklist old worklist)
     (begins : BeginsWith old new) where

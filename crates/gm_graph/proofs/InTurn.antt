@@ -8,30 +8,31 @@ use Rattle.gm_store.specs.States.{StoreState}
 use Rattle.gm_store.proofs.Serving.{nothing_served, served_both}
 use Rattle.gm_store_sums.specs.Sums.{Sums}
 use Rattle.gm_file.specs.Main.{Main}
-use Rattle.gm_graph.specs.declared.cache.Cache.{Cache}
-use Rattle.gm_graph.specs.declared.cache.depth.Turn.{Turn}
+use Rattle.gm_graph_cache.specs.declared.cache.Cache.{Cache}
+use Rattle.gm_graph_cache.specs.declared.cache.depth.Turn.{Turn}
 use Rattle.gm_graph.specs.declared.findings.Findings.{Findings}
 use Rattle.gm_graph.specs.declared.followed.Followed.{Followed}
 use Rattle.gm_graph.specs.declared.worklist.Worklist.{Worklist}
 use Rattle.gm_graph.specs.declared.worklist.NumberedTurn.{NumberedTurn}
-use Rattle.gm_graph.specs.Private.Asking.{AsksInTurn, AsksOne, IsAskableFile}
+use Rattle.gm_graph.specs.Private.Asking.{AsksInTurn}
+use Rattle.gm_graph_cache.specs.Asking.{AsksOne, IsAskableFile}
 use Rattle.gm_graph.specs.Private.Worklists.{turn_of, turns_of}
-use Rattle.gm_graph.specs.Cached.{main_in, run_in, sums_in, table_in, turns_in}
-use Rattle.gm_graph.specs.Private.Cached.{module_numbered}
-use Rattle.gm_graph.specs.Reading.{file_of, is_askable}
-use Rattle.gm_graph.specs.Run.{AreTooMany, AskedInTurn, CallsFor, IsDue, IsOpened, IsRead, KeepsSayings, LoadingNeeds, Run, TakesTurn, more, nothing, run_of}
+use Rattle.gm_graph_cache.specs.Cached.{main_in, module_numbered, run_in, sums_in, table_in, turns_in}
+use Rattle.gm_graph_cache.specs.Reading.{file_of, is_askable}
+use Rattle.gm_graph.specs.Run.{AreTooMany, AskedInTurn, CallsFor, IsDue, IsOpened, IsRead, LoadingNeeds, TakesTurn, more, nothing}
+use Rattle.gm_graph_cache.specs.Sayings.{KeepsSayings, Run, run_of}
 use Rattle.gm_graph.specs.Private.TurnVisits.{IsTurnVisited}
-use Rattle.gm_graph.specs.Turns.{turn}
+use Rattle.gm_graph_cache.specs.Turns.{turn}
 use Rattle.gm_graph.specs.Private.Turns.{Visits}
 use Rattle.gm_graph.specs.Private.Visiting.{OverflowsAt}
-use Rattle.gm_graph.proofs.AskedFile.{asks_for, lacks_still}
+use Rattle.gm_graph_cache.proofs.AskedFile.{asks_for, lacks_still}
 use Rattle.gm_graph.proofs.Dues.{AddsFile, says_still}
 use Rattle.gm_graph.proofs.FoundFiles.{same_module}
-use Rattle.gm_graph.proofs.Growing.{number_below, turns_over}
-use Rattle.gm_graph.proofs.Holding.{answers_read}
+use Rattle.gm_graph_cache.proofs.NumberedModules.{number_below}
+use Rattle.gm_graph.proofs.Growing.{turns_over}
 use Rattle.gm_graph.proofs.Queueing.{many_followed, opened_kept, takes_kept, visited_more}
 use Rattle.gm_graph.proofs.DoneTurns.{opened_from}
-use Rattle.gm_graph.proofs.Stepping.{AreFound, IsAt, by_run, number_here}
+use Rattle.gm_graph.proofs.Stepping.{AreFound, IsAt, answers_read, by_run, number_here}
 
 -- Nothing was asked for.
 pub nothing_asked : (main : Main) (sums : Option Sums) (may : Name → Option Reply → Type 0) (state : StoreState) → state.asked ≡ []

@@ -11,9 +11,10 @@ use Rattle.gm_graph_select.proofs.Ascending as ascending
 use Rattle.gm_graph_select.proofs.Lawful as lawful
 use Rattle.gm_graph_select.proofs.Same.{AreSame, same_back, same_build_list}
 use Rattle.gm_graph.specs.declared.fault.Fault.{Fault}
-use Rattle.gm_graph.specs.Run.{IsDeep, IsEdge, IsOpened, IsVertex, Run, from_deep, from_main, from_top}
+use Rattle.gm_graph.specs.Run.{IsDeep, IsEdge, IsOpened, IsVertex, from_deep, from_main, from_top}
+use Rattle.gm_graph_cache.specs.Sayings.{Run}
 use Rattle.gm_graph.specs.Laws.{EarlierSayingsStay, FirstAnswersSaySomething, IsTransitivelyRequired, ModulesSayOneThing, OneAnswer, RowsAreRequired, RowsSatisfyRequirements, UnprunedIsPlain, required, further}
-use Rattle.gm_graph.proofs.Sayings.{answer_stays, one_said, says_more}
+use Rattle.gm_graph_cache.proofs.Sayings.{answer_stays, one_said, says_more}
 
 pub rows_are_required : RowsAreRequired
 rows_are_required run asked loaded is x right there = (lawful.row_selected is.rows x right there).is_end

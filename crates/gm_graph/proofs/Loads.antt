@@ -4,15 +4,15 @@ use Rattle.gm_name.specs.ModuleVersion.{ModuleVersion}
 use Rattle.gm_file.specs.Main.{Main, without_excluded, replacement_in}
 use Rattle.gm_store.specs.Asked.{Name, Reply, names_in}
 use Rattle.gm_store_sums.specs.Sums.{Sums}
-use Rattle.gm_graph.specs.declared.cache.Cache.{Cache}
-use Rattle.gm_graph.specs.declared.cache.parts.CacheParts.{CacheParts}
+use Rattle.gm_graph_cache.specs.declared.cache.Cache.{Cache}
+use Rattle.gm_graph_cache.specs.declared.cache.parts.CacheParts.{CacheParts}
 use Rattle.gm_graph.specs.declared.findings.Findings.{Findings}
 use Rattle.gm_graph.specs.declared.worklist.Worklist.{Worklist}
-use Rattle.gm_graph.specs.Cached.{table_in}
-use Rattle.gm_graph.specs.Private.Cached.{ArePartsOf}
+use Rattle.gm_graph_cache.specs.Cached.{table_in, ArePartsOf}
 use Rattle.gm_graph.specs.Private.Gathering.{AreFaultsOf, steps_by}
 use Rattle.gm_graph.specs.Outcome.{IsLoaded, LoadedGraph}
-use Rattle.gm_graph.specs.Run.{AreTooMany, AskedInTurn, IsEdge, IsRead, LoadingNeeds, Run, run_of}
+use Rattle.gm_graph.specs.Run.{AreTooMany, AskedInTurn, IsEdge, IsRead, LoadingNeeds}
+use Rattle.gm_graph_cache.specs.Sayings.{Run, run_of}
 use Rattle.gm_graph.specs.Private.Turns.{OverflowsWith}
 use Rattle.gm_graph.specs.Private.Visiting.{IsOpenedIn}
 use Rattle.gm_graph.specs.Private.Worklists.{turn_of, turns_of}

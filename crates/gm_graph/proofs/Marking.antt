@@ -6,10 +6,10 @@ use Rattle.std.proofs.lemmas.List.Elements.{All-contains, All-nil, All-push, Con
 use Rattle.std.proofs.lemmas.List.{map-append}
 use Rattle.gm_name.specs.ModuleVersion.{ModuleVersion, module_at, pair_eq}
 use Rattle.gm_graph_select.proofs.RankedLists.{from_mapped, in_mapped}
-use Rattle.gm_graph.specs.declared.cache.depth.Depth.{Depth}
-use Rattle.gm_graph.specs.declared.cache.depth.Depth.TheVariants.{Deep, Top}
-use Rattle.gm_graph.specs.declared.cache.depth.Turn.{Turn}
-use Rattle.gm_graph.specs.Turns.{turn, same_depth}
+use Rattle.gm_graph_cache.specs.declared.cache.depth.Depth.{Depth}
+use Rattle.gm_graph_cache.specs.declared.cache.depth.Depth.TheVariants.{Deep, Top}
+use Rattle.gm_graph_cache.specs.declared.cache.depth.Turn.{Turn}
+use Rattle.gm_graph_cache.specs.Turns.{turn, same_depth}
 use Rattle.gm_graph.specs.Private.Turns.{AddsAll, AreTurnsOf, OverflowsWith}
 use Rattle.gm_graph.specs.declared.worklist.Worklist.{Worklist}
 use Rattle.gm_graph.specs.declared.worklist.NumberedTurn.{NumberedTurn}
@@ -18,7 +18,7 @@ use Rattle.gm_graph.specs.Private.Worklists.{IsWorklist, turn_of, turns_of}
 use Rattle.gm_graph.specs.Private.Marks.{is_marked, no_marks}
 use Rattle.gm_graph.proofs.Adding.{adds_one, more_turn, new_turn, no_turns, only_one, overflow_one}
 use Rattle.gm_graph.proofs.Growing.{IsOneBelow}
-use Rattle.gm_graph.proofs.NumberedModules.{number_same}
+use Rattle.gm_graph_cache.proofs.NumberedModules.{number_same}
 use Rattle.gm_graph.proofs.Sameness.{exact_depth, same_depth-refl}
 
 unmarked : (d : Depth) → is_marked no_marks d ≡ false

@@ -10,7 +10,8 @@ use Rattle.gm_graph_select.specs.Graph.{among, edge, edge_cmp}
 use Rattle.gm_graph_select.specs.Order.{HaveSame, IsAscending}
 use Rattle.gm_graph_select.proofs.Same.{same_back, same_rooted}
 use Rattle.gm_graph.specs.Entries.{Entry}
-use Rattle.gm_graph.specs.Run.{IsDeep, IsEdge, IsOpened, IsTop, Run, from_deep, from_main, from_top}
+use Rattle.gm_graph.specs.Run.{IsDeep, IsEdge, IsOpened, IsTop, from_deep, from_main, from_top}
+use Rattle.gm_graph_cache.specs.Sayings.{Run}
 use Rattle.gm_graph.specs.Outcome.{AreReached}
 use Rattle.gm_graph_select.proofs.RankedLists.{from_mapped}
 

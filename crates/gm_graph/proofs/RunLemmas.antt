@@ -12,11 +12,12 @@ use Rattle.gm_file.specs.Main.{Main, is_pruned_by, replacement_in, without_exclu
 use Rattle.gm_store.specs.Asked.{Name, Reply, answer_in, names_in, same_name}
 use Rattle.gm_store.proofs.NameOrder.{names_equal, same_from_equal}
 use Rattle.gm_store_sums.specs.Sums.{Sums}
-use Rattle.gm_graph.specs.declared.cache.class.Class.{Class}
+use Rattle.gm_graph_cache.specs.declared.cache.class.Class.{Class}
 use Rattle.gm_graph.specs.declared.fault.Fault.{Fault}
-use Rattle.gm_graph.specs.Reading.{IsFileReading, file_named, file_of}
-use Rattle.gm_graph.specs.Run.{AreTooMany, FileSays, IsDeep, IsEdge, IsFault, IsNeeded, IsOpened, IsSettled, IsTop, KeepsSayings, Run, Says, answered, from_deep, from_main, from_top, run_of, unaskable}
-use Rattle.gm_graph.proofs.Sayings.{says_if}
+use Rattle.gm_graph_cache.specs.Reading.{IsFileReading, file_named, file_of}
+use Rattle.gm_graph.specs.Run.{AreTooMany, IsDeep, IsEdge, IsFault, IsNeeded, IsOpened, IsSettled, IsTop, from_deep, from_main, from_top}
+use Rattle.gm_graph_cache.specs.Sayings.{FileSays, KeepsSayings, Run, Says, answered, run_of, unaskable}
+use Rattle.gm_graph_cache.proofs.Sayings.{says_if}
 use Rattle.gm_graph_select.specs.declared.step.Step.{Step}
 use Rattle.gm_graph_select.specs.declared.step.Step.TheVariants.{Main as FromMain, Of}
 use Rattle.gm_graph_select.proofs.Same.{AreSame}

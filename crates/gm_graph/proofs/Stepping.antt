@@ -6,22 +6,25 @@ use Rattle.gm_name.specs.ModuleVersion.{ModuleVersion}
 use Rattle.gm_store.specs.Asked.{Name, Reply}
 use Rattle.gm_store_sums.specs.Sums.{Sums}
 use Rattle.gm_file.specs.Main.{Main}
-use Rattle.gm_graph.specs.declared.cache.Cache.{Cache}
-use Rattle.gm_graph.specs.declared.cache.depth.Turn.{Turn}
+use Rattle.gm_graph_cache.specs.declared.cache.Cache.{Cache}
+use Rattle.gm_graph_cache.specs.declared.cache.depth.Turn.{Turn}
 use Rattle.gm_graph.specs.declared.findings.Findings.{Findings}
 use Rattle.gm_graph.specs.declared.worklist.Worklist.{Worklist}
 use Rattle.gm_graph.specs.declared.worklist.NumberedTurn.{NumberedTurn}
 use Rattle.gm_graph.specs.Private.Worklists.{IsWorklist, turns_of}
-use Rattle.gm_graph.specs.Cached.{Knows, main_in, run_in, sums_in, table_in, turns_in}
-use Rattle.gm_graph.specs.Private.Cached.{module_numbered}
-use Rattle.gm_graph.specs.Run.{IsOpened, Run, run_of}
-use Rattle.gm_graph.specs.Turns.{turn}
+use Rattle.gm_graph_cache.specs.Cached.{Knows, main_in, run_in, sums_in, table_in, turns_in, module_numbered}
+use Rattle.gm_graph.specs.Run.{IsOpened, IsRead}
+use Rattle.gm_graph_cache.specs.Sayings.{Run, run_of}
+use Rattle.gm_graph_cache.specs.Turns.{turn}
 use Rattle.gm_graph.specs.Private.Findings.{AreFindings, WasVisited}
 use Rattle.gm_graph.specs.Private.Visiting.{IsFirstWorklist, IsOpenedIn}
 use Rattle.gm_graph.proofs.Growing.{IsOneBelow}
-use Rattle.gm_graph.proofs.Holding.{answers_read}
-use Rattle.gm_graph.proofs.Lending.{list_is}
+use Rattle.gm_graph_cache.proofs.Lending.{list_is}
 use Rattle.gm_graph.proofs.DoneTurns.{AreVisited, are_turns, first_visited, has_turn_of}
+
+-- Each answer that a cache knows says something.
+pub answers_read : (cache : Cache) (pairs : List (Name × Reply)) → Knows cache pairs → IsRead (run_in cache pairs)
+answers_read cache pairs knows name reply at = let got = knows.kept name reply at in (got.2.said, got.2.reads)
 
 -- The number of a turn is that of a module.
 pub number_here : {modules : List ModuleVersion} {worklist : Worklist} {at : ℕ} (one : NumberedTurn) → IsWorklist modules worklist

@@ -4,34 +4,32 @@ use Rattle.std.specs.Prelude.{OnOk, ℕ}
 use Rattle.std.proofs.lemmas.Result.{on_ok_weaker}
 use Rattle.gm_name.specs.ModuleVersion.{ModuleVersion}
 use Rattle.gm_store.specs.Asked.{Name, Reply}
-use Rattle.gm_graph.specs.declared.cache.Cache.{Cache}
-use Rattle.gm_graph.specs.declared.cache.depth.Depth.{Depth}
-use Rattle.gm_graph.specs.declared.cache.depth.Depth.TheVariants.{Deep}
-use Rattle.gm_graph.specs.declared.cache.load_fault.LoadFault.{LoadFault}
-use Rattle.gm_graph.specs.declared.cache.visit.Required.{Required}
-use Rattle.gm_graph.specs.declared.cache.visit.Visit.{Visit}
-use Rattle.gm_graph.specs.declared.cache.visit.Visit.TheVariants as visit
+use Rattle.gm_graph_cache.specs.declared.cache.Cache.{Cache}
+use Rattle.gm_graph_cache.specs.declared.cache.depth.Depth.{Depth}
+use Rattle.gm_graph_cache.specs.declared.cache.depth.Depth.TheVariants.{Deep}
+use Rattle.gm_graph_cache.specs.declared.cache.load_fault.LoadFault.{LoadFault}
+use Rattle.gm_graph_cache.specs.declared.cache.visit.Required.{Required}
+use Rattle.gm_graph_cache.specs.declared.cache.visit.Visit.{Visit}
+use Rattle.gm_graph_cache.specs.declared.cache.visit.Visit.TheVariants as visit
 use Rattle.gm_graph.specs.declared.findings.Findings.{Findings}
 use Rattle.gm_graph.specs.declared.followed.Followed.{Followed}
 use Rattle.gm_graph.specs.declared.worklist.NumberedTurn.{NumberedTurn}
 use Rattle.gm_graph.specs.declared.worklist.Worklist.{Worklist}
-use Rattle.gm_graph.specs.Cached.{run_in, table_in}
-use Rattle.gm_graph.specs.Private.Cached.{module_numbered}
-use Rattle.gm_graph.specs.Private.CacheVisits.{HasVisited, IsVisit}
-use Rattle.gm_graph.specs.Private.Held.{lent_table}
-use Rattle.gm_graph.specs.Lent.{lent_modules}
+use Rattle.gm_graph_cache.specs.Cached.{run_in, table_in, module_numbered}
+use Rattle.gm_graph_cache.specs.Visits.{HasVisited, IsVisit}
+use Rattle.gm_graph_cache.specs.Lent.{lent_table, lent_modules}
 use Rattle.gm_graph.specs.Private.Followed.{followed_at}
-use Rattle.gm_graph.specs.Run.{Run}
+use Rattle.gm_graph_cache.specs.Sayings.{Run}
 use Rattle.gm_graph.specs.Private.TurnVisits.{AddsTurn, IsReady, IsTurnVisited}
-use Rattle.gm_graph.specs.Turns.{turn}
+use Rattle.gm_graph_cache.specs.Turns.{turn}
 use Rattle.gm_graph.specs.Private.Turns.{AddsAll, OverflowsWith}
 use Rattle.gm_graph.specs.Private.Visiting.{OverflowsAt}
 use Rattle.gm_graph.specs.Private.Worklists.{IsWorklist, turns_of}
 use Rattle.gm_graph.proofs.FollowedFiles.{followed_known}
 use Rattle.gm_graph.proofs.FoundFiles.{findings_known, same_module}
-use Rattle.gm_graph.proofs.Growing.{number_below, turns_over, worklist_over}
-use Rattle.gm_graph.proofs.Holding.{answers_read}
-use Rattle.gm_graph.proofs.Stepping.{by_run}
+use Rattle.gm_graph_cache.proofs.NumberedModules.{number_below}
+use Rattle.gm_graph.proofs.Growing.{turns_over, worklist_over}
+use Rattle.gm_graph.proofs.Stepping.{answers_read, by_run}
 
 -- ---- the cache may have numbered more modules
 

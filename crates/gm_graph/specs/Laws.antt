@@ -7,12 +7,13 @@ use Rattle.gm_file.specs.Directives.{Right}
 use Rattle.gm_file.specs.Fields.{Dependency}
 use Rattle.gm_store.specs.Asked.{Name, Reply}
 use Rattle.gm_store_sums.specs.Sums.{Sums}
-use Rattle.gm_graph.specs.declared.cache.class.Class.{Class}
+use Rattle.gm_graph_cache.specs.declared.cache.class.Class.{Class}
 use Rattle.gm_file.specs.Main.{Main, is_pruned_by}
-use Rattle.gm_graph.specs.Reading.{IsFileReading}
+use Rattle.gm_graph_cache.specs.Reading.{IsFileReading}
 use Rattle.gm_graph_select.specs.declared.step.Step.{Step}
 use Rattle.gm_graph_select.specs.declared.step.Step.TheVariants.{Of}
-use Rattle.gm_graph.specs.Run.{IsEdge, IsOpened, IsRead, IsTop, IsVertex, KeepsSayings, Requires, Run, Says, run_of}
+use Rattle.gm_graph.specs.Run.{IsEdge, IsOpened, IsRead, IsTop, IsVertex}
+use Rattle.gm_graph_cache.specs.Sayings.{KeepsSayings, Requires, Run, Says, run_of}
 use Rattle.gm_graph.specs.Outcome.{IsLoaded, LoadedGraph}
 
 -- ---- what replies say

@@ -1,17 +1,6 @@
 pub mod Private
-pub mod Turns
 pub mod WorklistFaults
 pub mod Outcome
 pub mod Entries
 pub mod Run
 pub mod Laws
-pub mod Reading
-pub mod Asking
-pub mod Summaries
-pub mod Lent
-pub mod Cached
-pub mod Held
-pub mod Refusals
-pub mod ClassWords
-pub mod FileTable
-pub mod Places

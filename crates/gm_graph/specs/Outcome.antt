@@ -1,14 +1,15 @@
 -- The result of loading, as lists.
 use Rattle.std.specs.Prelude.{◌≡◌, ℕ, List, Contains}
 use Rattle.gm_store.specs.Asked.{Name}
-use Rattle.gm_graph.specs.declared.cache.depth.Turn.{Turn}
+use Rattle.gm_graph_cache.specs.declared.cache.depth.Turn.{Turn}
 use Rattle.gm_graph_select.specs.declared.step.Edge.{Edge}
 use Rattle.gm_graph.specs.Entries.{Entry}
 use Rattle.gm_graph_select.specs.Chains.{IsReached}
 use Rattle.gm_graph_select.specs.Graph.{among, edge_cmp}
 use Rattle.gm_graph_select.specs.Order.{IsAscending}
 use Rattle.gm_graph.specs.declared.fault.Fault.{Fault}
-use Rattle.gm_graph.specs.Run.{AreEdges, AreFaults, AreRows, AreTurns, IsSettled, Run}
+use Rattle.gm_graph.specs.Run.{AreEdges, AreFaults, AreRows, AreTurns, IsSettled}
+use Rattle.gm_graph_cache.specs.Sayings.{Run}
 
 -- the main module's path, the faults, the edges, the build list and the turns
 pub record LoadedGraph : Type 0 where

@@ -1,15 +1,9 @@
 -- What only the code's own contracts and proofs say: no public contract reaches it.
 pub mod Asking
-pub mod CacheVisits
-pub mod Cached
-pub mod FileTable
 pub mod Findings
 pub mod Followed
 pub mod Gathering
-pub mod Held
-pub mod KeptLists
 pub mod Marks
-pub mod Summaries
 pub mod TurnVisits
 pub mod Turns
 pub mod Visiting

@@ -1,22 +1,20 @@
--- What a store's answers mean for the module graph of a main module's file: what a file says, what the file of a module
--- says, which modules are opened, and the edges, faults, rows and needed files (Go Modules Reference, "Minimal version
--- selection", "Module graph pruning" and "go.mod files").
-use Rattle.std.specs.Prelude.{◌≡◌, ◌↔◌, ◌⊎◌, ◌<◌, ◌≤◌, ◌++◌, ◌∷◌, true, false, List, [], length, AllPairs, Contains, Option, Some, None, Result, Ok, Err}
+-- What a store's answers mean for the module graph of a main module's file: which modules are opened, and the edges,
+-- faults, rows and needed files (Go Modules Reference, "Minimal version selection" and "Module graph pruning").
+use Rattle.std.specs.Prelude.{◌≡◌, ◌↔◌, ◌⊎◌, ◌<◌, ◌≤◌, ◌++◌, ◌∷◌, true, false, List, [], length, AllPairs, Contains, Option, None, Ok, Err, Result, Some}
 use Rattle.std.specs.List.{IsDistinct}
 use Rattle.std.specs.declared.cmp.Ordering.TheVariants.{Less}
 use Rattle.gm_name.specs.ModuleVersion.{ModuleVersion, pair_cmp, pair_eq}
 use Rattle.gm_file.specs.Fields.{Dependency}
-use Rattle.gm_store.specs.Asked.{Name, Reply, answer_in, same_name}
+use Rattle.gm_store.specs.Asked.{Reply, Name, answer_in, same_name}
 use Rattle.gm_store_sums.specs.Sums.{Sums}
-use Rattle.gm_graph.specs.declared.cache.class.Class.{Class}
-use Rattle.gm_graph.specs.declared.cache.class.Class.TheVariants.{NotFetchable, WrongPath}
-use Rattle.gm_graph.specs.declared.cache.depth.Depth.{Depth}
-use Rattle.gm_graph.specs.declared.cache.depth.Depth.TheVariants.{Top, Deep}
-use Rattle.gm_graph.specs.declared.cache.depth.Turn.{Turn}
+use Rattle.gm_graph_cache.specs.declared.cache.class.Class.{Class}
+use Rattle.gm_graph_cache.specs.declared.cache.depth.Depth.{Depth}
+use Rattle.gm_graph_cache.specs.declared.cache.depth.Depth.TheVariants.{Top, Deep}
+use Rattle.gm_graph_cache.specs.declared.cache.depth.Turn.{Turn}
 use Rattle.gm_graph.specs.declared.fault.Fault.{Fault}
 use Rattle.gm_file.specs.Main.{Main, is_pruned_by, replacement_in, without_excluded}
-use Rattle.gm_graph.specs.Reading.{IsFileReading, file_of, is_askable, is_right_path}
-use Rattle.gm_graph.specs.Turns.{same_turn, turn}
+use Rattle.gm_graph_cache.specs.Reading.{IsFileReading, file_of, is_askable}
+use Rattle.gm_graph_cache.specs.Turns.{same_turn, turn}
 use Rattle.gm_graph_select.specs.declared.step.Edge.{Edge}
 use Rattle.gm_graph_select.specs.declared.step.Step.{Step}
 use Rattle.gm_graph_select.specs.declared.step.Step.TheVariants.{Main as FromMain, Of}
@@ -24,36 +22,7 @@ use Rattle.gm_graph_select.specs.BuildList.{IsBuildList}
 use Rattle.gm_graph.specs.Entries.{Entry}
 use Rattle.gm_graph_select.specs.Graph.{IsEdgeEnd, edge_cmp}
 use Rattle.gm_graph_select.specs.Order.{IsAscending}
-
--- A run: what the main file says, what the go.sum says if there is one, and the answer to each name that the store was
--- asked for.
-pub record Run : Type 0 where
-  pub main : Main
-  pub sums : Option Sums
-  pub answers : Name → Option Reply
-
-abbrev pub run_of : Main → Option Sums → List (Name × Reply) → Run
-run_of main sums asked = record { main = main; sums = sums; answers = answer_in asked }
-
--- ---- what files say
-
--- What the file of a name says, or what is wrong with it. A file that is not answered says nothing.
-pub data FileSays (run : Run) (name : Name) : Result Dependency Class → Type 0 where
-  unaskable : is_askable name ≡ false → FileSays run name (Err NotFetchable)
-  answered : (reply : Reply) {said : Result Dependency Class} → is_askable name ≡ true
-      → run.answers name ≡ Some reply → IsFileReading run.sums name reply said → FileSays run name said
-
--- What the file of a module says, or its fault: that of the file, or that the file declares another path.
-pub data Says (run : Run) (x : ModuleVersion) : Result Dependency Class → Type 0 where
-  faulty : {class : Class} → FileSays run (file_of run.main x) (Err class) → Says run x (Err class)
-  wrong_path : (file : Dependency) → FileSays run (file_of run.main x) (Ok file)
-      → is_right_path x (replacement_in run.main x) file.declared ≡ false → Says run x (Err WrongPath)
-  sound : {file : Dependency} → FileSays run (file_of run.main x) (Ok file)
-      → is_right_path x (replacement_in run.main x) file.declared ≡ true → Says run x (Ok file)
-
--- The module's file requires the other module, which the main file does not exclude.
-abbrev pub Requires : Run → ModuleVersion → ModuleVersion → Type 0
-Requires run x y = (file : Dependency) × Says run x (Ok file) × Contains (without_excluded run.main file.requirements) y
+use Rattle.gm_graph_cache.specs.Sayings.{Requires, Run, Says}
 
 -- ---- what is opened
 
@@ -159,10 +128,3 @@ pub record IsSettled (run : Run) (asked : List Name) : Type 0 where
   pub once : IsDistinct same_name asked
   pub needed : (name : Name) → Contains asked name ↔ IsNeeded run name
   pub few : (xs : List ModuleVersion) → AreOpened run xs → length xs ≤ 65536
-
--- ---- what stays
-
--- Whatever a module's file says by the first run, it says by the second.
-abbrev pub KeepsSayings : Run → Run → Type 0
-KeepsSayings earlier later = (x : ModuleVersion) (said : Result Dependency Class) → Says earlier x said
-    → Says later x said

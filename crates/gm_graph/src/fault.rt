@@ -1,6 +1,6 @@
 //! Faults of opened modules, as the loaded graph lists them.
 
-use crate::cache::class::Class;
+use gm_graph_cache::Class;
 use gm_name::ModVer;
 
 /// An opened vertex, and what is wrong with its file.

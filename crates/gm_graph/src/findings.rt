@@ -2,8 +2,8 @@
 
 ghost use Rattle.std.specs.Prelude.{◌≡◌, ◌≢◌, ◌++◌, ◌∷◌, [], ℕ, None, OnOk, Some};
 
-use crate::cache::class::Class;
 use crate::places::put_at;
+use gm_graph_cache::Class;
 use std::alloc::{AllocError, Global};
 
 /// The fault of the vertex with a number.

@@ -5,17 +5,15 @@
 
 ghost use Rattle.std.specs.Prelude.{◌≡◌, ◌⊎◌, ℕ, Contains, Err, OnOk, true};
 ghost use Rattle.gm_name.specs.ModuleVersion.{ModuleVersion};
-ghost use Rattle.gm_graph.specs.Lent.{lent_modules};
-ghost use Rattle.gm_graph.specs.Private.Held.{lent_table};
-ghost use Rattle.gm_graph.specs.Turns.{turn};
+ghost use Rattle.gm_graph_cache.specs.Lent.{lent_modules, lent_table};
+ghost use Rattle.gm_graph_cache.specs.Turns.{turn};
 ghost use Rattle.gm_graph.specs.Private.Turns.{AddsAll, OverflowsWith};
-ghost use Rattle.gm_graph.specs.declared.cache.depth.Depth.TheVariants.{Deep};
+ghost use Rattle.gm_graph_cache.specs.declared.cache.depth.Depth.TheVariants.{Deep};
 ghost use Rattle.gm_graph.specs.Private.Worklists.{IsWorklist, turns_of};
 
-use crate::cache::depth::Depth;
-use crate::cache::lent::Lent;
 use crate::places::put_at;
 use crate::worklist::{AddFault, Worklist};
+use gm_graph_cache::{Depth, Lent};
 use std::alloc::{AllocError, Global};
 
 /// The files whose lists were followed.

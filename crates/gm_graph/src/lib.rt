@@ -17,7 +17,6 @@
 //! for, each once.
 #![tactic(auto)]
 
-mod cache;
 mod fault;
 mod findings;
 mod followed;
@@ -32,15 +31,9 @@ mod starting;
 mod visiting;
 mod worklist;
 
-pub use crate::cache::Cache;
-pub use crate::cache::by_name::Known;
-pub use crate::cache::class::Class;
-pub use crate::cache::depth::{Depth, Turn};
-pub use crate::cache::lent::Lent;
-pub use crate::cache::load_fault::LoadFault;
-pub use crate::cache::reading::FileReading;
 pub use crate::fault::Fault;
 pub use crate::loaded::Loaded;
 pub use crate::loading::{load, load_module};
 pub use crate::rows::{Row, Rows};
+pub use gm_graph_cache::{Cache, Class, Depth, FileReading, Known, Lent, LoadFault, Turn};
 pub use gm_graph_select::{ChainFault, Edge, EdgeRef, Edges, NotListed, Step};

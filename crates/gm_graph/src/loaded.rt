@@ -8,9 +8,9 @@ ghost use Rattle.gm_graph_select.specs.Graph.{among};
 ghost use Rattle.gm_graph_select.specs.declared.step.Step.{Step};
 ghost use Rattle.gm_graph.specs.Outcome.{AreReached};
 
-use crate::cache::depth::Turn;
 use crate::fault::Fault;
 use crate::rows::{Row, Rows};
+use gm_graph_cache::Turn;
 use gm_graph_select::{ChainFault, Edges, Graph, NotListed, Step};
 use gm_name::ModPath;
 use std::alloc::Global;

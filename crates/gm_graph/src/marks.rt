@@ -2,10 +2,10 @@
 
 ghost use Rattle.std.specs.Prelude.{◌≡◌, ◌||◌};
 ghost use Rattle.gm_graph.specs.Private.Marks.{is_marked, no_marks};
-ghost use Rattle.gm_graph.specs.Turns.{same_depth};
-ghost use Rattle.gm_graph.specs.declared.cache.depth.Depth.{Depth};
+ghost use Rattle.gm_graph_cache.specs.Turns.{same_depth};
+ghost use Rattle.gm_graph_cache.specs.declared.cache.depth.Depth.{Depth};
 
-use crate::cache::depth::Depth;
+use gm_graph_cache::Depth;
 
 /// The depths at which a vertex has a turn.
 #[derive(Clone, Copy)]

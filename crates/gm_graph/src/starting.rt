@@ -1,17 +1,15 @@
 //! The main module's requirements, and the worklist that loading starts with.
 
 ghost use Rattle.std.specs.Prelude.{◌≡◌, [], IfOk, Err};
-ghost use Rattle.gm_graph.specs.Cached.{main_in, run_in, table_in};
+ghost use Rattle.gm_graph_cache.specs.Cached.{main_in, run_in, table_in};
 ghost use Rattle.gm_file.specs.Main.{is_pruned_by, without_excluded};
-ghost use Rattle.gm_graph.specs.Refusals.{refused_in};
+ghost use Rattle.gm_graph_cache.specs.Refusals.{refused_in};
 ghost use Rattle.gm_graph.specs.Private.Turns.{OverflowsWith, depth_by};
 ghost use Rattle.gm_graph.specs.Private.Visiting.{IsFirstWorklist};
 
-use crate::cache::Cache;
-use crate::cache::depth::Depth;
-use crate::cache::load_fault::LoadFault;
 use crate::worklist::Worklist;
 use gm_file::MainModule;
+use gm_graph_cache::{Cache, Depth, LoadFault};
 use std::alloc::Global;
 
 /// The depth at which the requirements of the main file are opened.

@@ -2,32 +2,27 @@
 
 ghost use Rattle.std.specs.Prelude.{◌≡◌, ◌<◌, [], OnOk, Contains, Err, length, true};
 ghost use Rattle.gm_name.specs.ModuleVersion.{ModuleVersion};
-ghost use Rattle.gm_graph.specs.Private.Asking.{AsksOne, IsAskableFile};
-ghost use Rattle.gm_graph.specs.Cached.{Knows, file_count, main_in, run_in, table_in};
-ghost use Rattle.gm_graph.specs.Private.Cached.{module_numbered};
-ghost use Rattle.gm_graph.specs.Lent.{lent_modules};
-ghost use Rattle.gm_graph.specs.Private.CacheVisits.{IsVisit};
-ghost use Rattle.gm_graph.specs.Private.Held.{lent_table};
-ghost use Rattle.gm_graph.specs.Refusals.{refused_in};
+ghost use Rattle.gm_graph_cache.specs.Asking.{AsksOne, IsAskableFile};
+ghost use Rattle.gm_graph_cache.specs.Cached.{Knows, file_count, main_in, run_in, table_in, module_numbered};
+ghost use Rattle.gm_graph_cache.specs.Lent.{lent_modules, lent_table};
+ghost use Rattle.gm_graph_cache.specs.Visits.{IsVisit};
+ghost use Rattle.gm_graph_cache.specs.Refusals.{refused_in};
 ghost use Rattle.gm_graph.specs.Private.Worklists.{IsWorklist, turns_of};
 ghost use Rattle.gm_graph.specs.Private.Followed.{followed_at};
-ghost use Rattle.gm_graph.specs.Places.{place_limit};
-ghost use Rattle.gm_graph.specs.Run.{Run, Says};
-ghost use Rattle.gm_graph.specs.Turns.{turn};
+ghost use Rattle.gm_graph_cache.specs.Places.{place_limit};
+ghost use Rattle.gm_graph_cache.specs.Sayings.{Run, Says};
+ghost use Rattle.gm_graph_cache.specs.Turns.{turn};
 ghost use Rattle.gm_graph.specs.Private.Turns.{OverflowsWith};
 ghost use Rattle.gm_graph.specs.Private.TurnVisits.{AddsTurn, IsReady, IsTurnVisited};
 ghost use Rattle.gm_graph.specs.Private.Visiting.{OverflowsAt};
-ghost use Rattle.gm_graph.specs.declared.cache.depth.Depth.TheVariants.{Deep};
+ghost use Rattle.gm_graph_cache.specs.declared.cache.depth.Depth.TheVariants.{Deep};
 ghost use Rattle.gm_graph.specs.declared.followed.Followed.{Followed};
 ghost use Rattle.gm_graph.specs.declared.worklist.Worklist.{Worklist};
 
-use crate::cache::Cache;
-use crate::cache::class::Class;
-use crate::cache::load_fault::LoadFault;
-use crate::cache::visit::{Required, Visit};
 use crate::findings::Findings;
 use crate::followed::Followed;
 use crate::worklist::{NumberedTurn, Worklist};
+use gm_graph_cache::{Cache, Class, LoadFault, Required, Visit};
 use gm_store::Asks;
 
 /// Notes the fault of a vertex.

@@ -6,18 +6,15 @@
 ghost use Rattle.std.specs.Prelude.{◌≡◌, ◌<◌, ◌≤◌, ◌+◌, ◌||◌, ◌++◌, ◌∷◌, [], Err, IfOk, List, OnOk, get_or, if◌then◌else◌, length};
 ghost use Rattle.std.specs.List.{IsDistinct};
 ghost use Rattle.gm_name.specs.ModuleVersion.{ModuleVersion, module_at, pair_eq};
-ghost use Rattle.gm_graph.specs.Lent.{lent_modules};
-ghost use Rattle.gm_graph.specs.Private.Held.{lent_table};
+ghost use Rattle.gm_graph_cache.specs.Lent.{lent_modules, lent_table};
 ghost use Rattle.gm_graph.specs.Private.Marks.{no_marks};
 ghost use Rattle.gm_graph.specs.Private.Turns.{AddsAll, OverflowsWith};
 ghost use Rattle.gm_graph.specs.WorklistFaults.{load_fault_of};
 ghost use Rattle.gm_graph.specs.declared.worklist.AddFault.TheVariants as add;
 
-use crate::cache::depth::Depth;
-use crate::cache::lent::Lent;
-use crate::cache::load_fault::LoadFault;
 use crate::marks::Marks;
 use crate::places::put_at;
+use gm_graph_cache::{Depth, Lent, LoadFault};
 use std::alloc::{AllocError, Global};
 
 /// The most vertices that are opened. Loading a larger graph is refused with `TooMany`.

@@ -1,12 +1,11 @@
 -- What visits found of vertices, by the numbers of modules.
 use Rattle.std.specs.Prelude.{◌≡◌, ◌⊎◌, ◌<◌, ℕ, Contains, Err, IsSome, List, None, Option, Some, length, slice_index_or}
-use Rattle.gm_graph.specs.declared.cache.Cache.{Cache}
-use Rattle.gm_graph.specs.declared.cache.class.Class.{Class}
+use Rattle.gm_graph_cache.specs.declared.cache.Cache.{Cache}
+use Rattle.gm_graph_cache.specs.declared.cache.class.Class.{Class}
 use Rattle.gm_graph.specs.declared.findings.Findings.{Findings}
 use Rattle.gm_graph.specs.declared.findings.NumberedFault.{NumberedFault}
-use Rattle.gm_graph.specs.Cached.{IsSound, table_in}
-use Rattle.gm_graph.specs.Private.Cached.{module_numbered}
-use Rattle.gm_graph.specs.Run.{Run, Says}
+use Rattle.gm_graph_cache.specs.Cached.{IsSound, table_in, module_numbered}
+use Rattle.gm_graph_cache.specs.Sayings.{Run, Says}
 
 -- the place of the file that has the list of the vertex with a number, if that was visited and has no fault
 abbrev pub place_at : List (Option ℕ) → ℕ → Option ℕ

@@ -2,20 +2,19 @@
 use Rattle.std.specs.Prelude.{◌≡◌, ◌↔◌, ◌⊎◌, ℕ, Contains, List, true}
 use Rattle.gm_name.specs.ModuleVersion.{ModuleVersion}
 use Rattle.gm_store.specs.Asked.{Name, Reply}
-use Rattle.gm_graph.specs.declared.cache.Cache.{Cache}
-use Rattle.gm_graph.specs.declared.cache.depth.Depth.TheVariants.{Deep}
-use Rattle.gm_graph.specs.declared.cache.visit.Visit.{Visit}
+use Rattle.gm_graph_cache.specs.declared.cache.Cache.{Cache}
+use Rattle.gm_graph_cache.specs.declared.cache.depth.Depth.TheVariants.{Deep}
+use Rattle.gm_graph_cache.specs.declared.cache.visit.Visit.{Visit}
 use Rattle.gm_graph.specs.declared.findings.Findings.{Findings}
 use Rattle.gm_graph.specs.declared.followed.Followed.{Followed}
 use Rattle.gm_graph.specs.declared.worklist.NumberedTurn.{NumberedTurn}
 use Rattle.gm_graph.specs.declared.worklist.Worklist.{Worklist}
-use Rattle.gm_graph.specs.Cached.{IsSound, run_in, table_in}
-use Rattle.gm_graph.specs.Private.Cached.{module_numbered}
-use Rattle.gm_graph.specs.Private.CacheVisits.{HasVisited}
+use Rattle.gm_graph_cache.specs.Cached.{IsSound, run_in, table_in, module_numbered}
+use Rattle.gm_graph_cache.specs.Visits.{HasVisited}
 use Rattle.gm_graph.specs.Private.Findings.{AreFindings, WasVisited}
 use Rattle.gm_graph.specs.Private.Followed.{followed_at}
-use Rattle.gm_graph.specs.Run.{Requires, Run}
-use Rattle.gm_graph.specs.Turns.{turn}
+use Rattle.gm_graph_cache.specs.Sayings.{Requires, Run}
+use Rattle.gm_graph_cache.specs.Turns.{turn}
 use Rattle.gm_graph.specs.Private.Turns.{Visits}
 use Rattle.gm_graph.specs.Private.Worklists.{IsWorklist, turns_of}
 

@@ -1,8 +1,8 @@
 use mathlib.Core.Path.{fun_ext}
 use Rattle.std.proofs.Common.{◌∙◌, ap, arith, length}
 use Rattle.gm_graph.specs.Private.Gathering.{spans_of}
-use Rattle.gm_graph.proofs.Ordered.{order_longer, own_spans}
-use Rattle.gm_graph.specs.Places.{place_limit}
+use Rattle.gm_graph_cache.proofs.Ordered.{order_longer, own_spans}
+use Rattle.gm_graph_cache.specs.Places.{place_limit}
 use Rattle.gm_graph.proofs.gathering.lists_of.Goals as goal
 
 pub span_list-requires-clause-order : goal.span_list-requires-clause-order

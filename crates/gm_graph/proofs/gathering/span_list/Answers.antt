@@ -1,9 +1,9 @@
 use Rattle.std.proofs.Common.{◌+◌, ℕ, Bool, arith, drop, false}
 use Rattle.std.specs.Prelude.{slice_index_or}
-use Rattle.gm_graph.specs.Summaries.{own_span}
-use Rattle.gm_graph.proofs.Gathered.{from_place, span_more}
-use Rattle.gm_graph.proofs.Ordered.{order_ends, order_first, order_rest, own_spans}
-use Rattle.gm_graph.specs.Places.{place_limit}
+use Rattle.gm_graph_cache.specs.Summaries.{own_span}
+use Rattle.gm_graph.proofs.Gathered.{from_place, span_more, order_ends, order_first, order_rest}
+use Rattle.gm_graph_cache.proofs.Ordered.{own_spans}
+use Rattle.gm_graph_cache.specs.Places.{place_limit}
 use Rattle.gm_graph.proofs.gathering.span_list.Goals as goal
 
 pub overflow_cast-end : goal.overflow_cast-end

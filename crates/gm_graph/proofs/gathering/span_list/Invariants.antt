@@ -1,9 +1,9 @@
 use Rattle.std.proofs.Common.{◌≡◌, ◌++◌, drop, false}
 use Rattle.std.specs.Prelude.{slice_index_or}
-use Rattle.gm_graph.proofs.Ordered.{own_spans}
+use Rattle.gm_graph_cache.proofs.Ordered.{own_spans}
 use Rattle.gm_graph.specs.Private.Gathering.{spans_from, spans_of}
-use Rattle.gm_graph.specs.Private.Summaries.{AreListsInOrder}
-use Rattle.gm_graph.specs.Places.{place_limit}
+use Rattle.gm_graph_cache.specs.Private.Summaries.{AreListsInOrder}
+use Rattle.gm_graph_cache.specs.Places.{place_limit}
 use Rattle.gm_graph.proofs.gathering.span_list.Given as goal
 
 abbrev pub invariant-loop-kept : goal.invariant-loop-kept

@@ -2,10 +2,10 @@ use Rattle.std.proofs.Common.{◌∙◌, Err, append-nil, refl, sym, ap}
 use Rattle.std.specs.Option.{option_copied}
 use Rattle.gm_store.specs.Asked.{name_of}
 use Rattle.gm_store.proofs.Serving.{nothing_served}
-use Rattle.gm_graph.specs.Refusals.{refused_names}
+use Rattle.gm_graph_cache.specs.Refusals.{refused_names}
 use Rattle.gm_graph.specs.Run.{nothing}
 use Rattle.gm_graph.proofs.Dues.{refused_same}
-use Rattle.gm_graph.proofs.Keeping.{none_refused}
+use Rattle.gm_graph_cache.proofs.Keeping.{none_refused}
 use Rattle.gm_graph.proofs.FoundGraph.{found_faults, found_places}
 use Rattle.gm_graph.proofs.Loads.{found_ends, found_rooted, loads}
 use Rattle.gm_graph.proofs.loading.load_module.Goals as goal

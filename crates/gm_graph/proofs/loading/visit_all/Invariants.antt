@@ -1,6 +1,6 @@
 use Rattle.std.proofs.Common.{◌≤◌, ◌-◌, []}
 use Rattle.gm_graph.specs.Private.Asking.{AsksInTurn}
-use Rattle.gm_graph.specs.Cached.{file_count, main_in, run_in, sums_in}
+use Rattle.gm_graph_cache.specs.Cached.{file_count, main_in, run_in, sums_in}
 use Rattle.gm_graph.specs.Private.TurnVisits.{IsReady}
 use Rattle.gm_graph.proofs.Stepping.{IsAt}
 use Rattle.gm_graph.proofs.loading.visit_all.Given as goal

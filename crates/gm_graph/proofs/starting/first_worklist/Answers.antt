@@ -1,9 +1,9 @@
 use Rattle.std.proofs.Common.{◌∙◌, [], Err, ap, refl, subst, sym}
-use Rattle.gm_graph.specs.Private.Held.{lent_table}
+use Rattle.gm_graph_cache.specs.Lent.{lent_table}
 use Rattle.gm_file.specs.Main.{Main, is_pruned_by, without_excluded}
 use Rattle.gm_graph.specs.Private.Turns.{OverflowsWith, depth_by}
 use Rattle.gm_graph.proofs.AddFaults.{add_too_many}
-use Rattle.gm_graph.proofs.Keeping.{none_refused}
+use Rattle.gm_graph_cache.proofs.Keeping.{none_refused}
 use Rattle.gm_graph.proofs.starting.first_worklist.Goals as goal
 
 pub add_all-requires : goal.add_all-requires

@@ -1,9 +1,9 @@
 use Rattle.std.proofs.Common.{Err, Ok, ap, inl}
 use Rattle.gm_graph.proofs.AddFaults.{add_too_many}
 use Rattle.gm_graph.proofs.FoundFiles.{file_finds, file_noted}
-use Rattle.gm_graph.specs.Private.Held.{lent_table}
+use Rattle.gm_graph_cache.specs.Lent.{lent_table}
 use Rattle.gm_graph.proofs.Adding.{adds_none}
-use Rattle.gm_graph.specs.Cached.{table_in}
+use Rattle.gm_graph_cache.specs.Cached.{table_in}
 use Rattle.gm_graph.proofs.FollowedFiles.{followed_more}
 use Rattle.gm_graph.proofs.TurnEnds.{LeadsOn}
 use Rattle.gm_graph.proofs.visiting.add_requirements.Goals as goal

@@ -1,12 +1,12 @@
 use Rattle.std.proofs.Common.{sym}
-use Rattle.gm_graph.specs.declared.cache.visit.Visit.{Visit}
-use Rattle.gm_graph.specs.Cached.{run_in, table_in}
-use Rattle.gm_graph.specs.Private.Held.{lent_table}
-use Rattle.gm_graph.proofs.AskedFile.{asks_by, has_some, refused_failed}
+use Rattle.gm_graph_cache.specs.declared.cache.visit.Visit.{Visit}
+use Rattle.gm_graph_cache.specs.Cached.{run_in, table_in}
+use Rattle.gm_graph_cache.specs.Lent.{lent_table}
+use Rattle.gm_graph_cache.proofs.AskedFile.{asks_by, has_some, refused_failed}
 use Rattle.gm_graph.proofs.FollowedFiles.{has_its_turns}
 use Rattle.gm_graph.proofs.Growing.{worklist_over}
-use Rattle.gm_graph.proofs.Keeping.{never_many}
-use Rattle.gm_graph.proofs.Lending.{lends_file}
+use Rattle.gm_graph_cache.proofs.Keeping.{never_many}
+use Rattle.gm_graph_cache.proofs.Lending.{lends_file}
 use Rattle.gm_graph.proofs.TurnEnds.{overflows_at, turn_visited}
 use Rattle.gm_graph.proofs.visiting.visit.Goals as goal
 

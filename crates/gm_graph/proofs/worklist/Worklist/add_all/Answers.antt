@@ -1,5 +1,5 @@
 use Rattle.std.proofs.Common.{Err, ap, arith, sym}
-use Rattle.gm_graph.specs.Private.Held.{lent_table}
+use Rattle.gm_graph_cache.specs.Lent.{lent_table}
 use Rattle.gm_graph.proofs.Adding.{adds_none}
 use Rattle.gm_graph.proofs.AddingAll.{adds_number, overflow_at}
 use Rattle.gm_graph.proofs.worklist.Worklist.add_all.Goals as goal

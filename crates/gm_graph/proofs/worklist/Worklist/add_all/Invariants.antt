@@ -1,6 +1,6 @@
 use Rattle.std.proofs.Common.{take}
 use Rattle.gm_name_table.specs.Listed.{modules_at}
-use Rattle.gm_graph.specs.Private.Held.{lent_table}
+use Rattle.gm_graph_cache.specs.Lent.{lent_table}
 use Rattle.gm_graph.specs.Private.Worklists.{IsWorklist, turns_of}
 use Rattle.gm_graph.specs.Private.Turns.{AddsAll}
 use Rattle.gm_graph.proofs.worklist.Worklist.add_all.Given as goal

@@ -1,6 +1,0 @@
-use Rattle.std.proofs.Common.{refl}
-use Rattle.gm_graph.proofs.Keeping.{holds_beside}
-use Rattle.gm_graph.proofs.cache.Cache.load_fault.Goals as goal
-
-pub returns-clause-holds : goal.returns-clause-holds
-returns-clause-holds c = holds_beside c.args.self.now _ refl refl refl refl

@@ -1,0 +1,7 @@
+-- What only the code's own contracts and proofs say: no public contract reaches it.
+pub mod CacheVisits
+pub mod Cached
+pub mod FileTable
+pub mod Held
+pub mod KeptLists
+pub mod Summaries

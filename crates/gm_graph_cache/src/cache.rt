@@ -1,0 +1,440 @@
+//! What modules' files say, or their faults, and the cache that reads them. The modules in the folder have its parts.
+//!
+//! A vertex of the module graph is a module path at a version. Which file a vertex has depends on the main module's
+//! file: a `replace` may put a folder or another module in its place. That file is asked of a store, checked
+//! against a go.sum if there is one, and read as a dependency's file. The result is either a fault of one of the
+//! classes of `Class`, or the file's requirements less those that the main file excludes.
+//!
+//! For example, with `replace example.com/a v1.2.0 => ../a` in the main file, the vertex `example.com/a v1.2.0` is
+//! read from the folder `../a`, and no go.sum applies to it. Without the `replace` its file is the one that a proxy
+//! has for that version; if the proxy has none, the vertex's fault is `Missing`.
+//!
+//! The cache exists so that each file is asked for and parsed once, however many vertices and turns need it. The test of
+//! the declared path depends on the vertex, not on the file alone, and is therefore repeated for each vertex.
+
+pub(crate) mod by_name;
+pub(crate) mod class;
+pub(crate) mod depth;
+pub(crate) mod file_table;
+pub(crate) mod lent;
+pub(crate) mod list_index;
+pub(crate) mod load_fault;
+pub(crate) mod naming;
+pub(crate) mod parts;
+pub(crate) mod paths;
+pub(crate) mod place_history;
+pub(crate) mod reading;
+pub(crate) mod summary;
+pub(crate) mod turn_history;
+pub(crate) mod visit;
+
+ghost use Rattle.std.specs.Prelude.{◌≡◌, ◌≤◌, ◌<◌, ◌+◌, ◌++◌, ◌∷◌, [], List, IfOk, IfSome, OnErr, OnOk, IsSome, MatchResult, None, Err, Ok, drop, length, slice_get, take};
+ghost use Rattle.std.proofs.Props.{props};
+ghost use Rattle.std.specs.Option.{option_and_then, option_copied};
+ghost use Rattle.gm_name_table.specs.Listed.{modules_of};
+ghost use Rattle.gm_store.specs.Asked.{Name, Reply, answer_in, name_of};
+ghost use Rattle.gm_store.specs.Requests.{refused_for};
+ghost use Rattle.gm_store.specs.States.{AddsAnswer};
+ghost use Rattle.gm_store.specs.declared.files.FileName.{FileName};
+ghost use Rattle.gm_file.specs.Listed.{Head};
+ghost use Rattle.gm_file.specs.Main.{without_excluded};
+ghost use Rattle.gm_graph_cache.specs.Asking.{AsksOne, IsAskableFile, IsLoadFaultOf};
+ghost use Rattle.gm_graph_cache.specs.Held.{IsKeptReading};
+ghost use Rattle.gm_graph_cache.specs.Reading.{file_of};
+ghost use Rattle.gm_graph_cache.specs.Places.{place_limit};
+ghost use Rattle.gm_graph_cache.specs.Private.Held.{IsConsistent};
+ghost use Rattle.gm_graph_cache.specs.KeptLists.{AreKeptOnce, own_lists};
+ghost use Rattle.gm_graph_cache.specs.Private.KeptLists.{NotesAll};
+ghost use Rattle.gm_graph_cache.specs.Lent.{lent_modules};
+ghost use Rattle.gm_graph_cache.specs.Summaries.{at_span, kept_reading, span_unless, summary_reading};
+ghost use Rattle.gm_graph_cache.specs.Private.Summaries.{AreKeptIn, AreListsInOrder, AreSpansInOrder, GrowsFrom, IsKeptIn, IsListIn, kept_with, listed_reading, order_is_fact, span_found};
+
+use crate::cache::class::Class;
+use crate::cache::depth::Depth;
+use crate::cache::file_table::FileTable;
+use crate::cache::lent::Lent;
+use crate::cache::list_index::ListIndex;
+use crate::cache::load_fault::LoadFault;
+use crate::cache::naming::{file_name, is_askable};
+use crate::cache::parts::CacheParts;
+use crate::cache::paths::is_right_path;
+use crate::cache::reading::{ListedReading, read_answer};
+use crate::cache::summary::{Kept, KeptList, ListSpan, Summary, leave_out};
+use crate::cache::turn_history::TurnHistory;
+use crate::cache::visit::{Verdict, Visit};
+use gm_file::{ListedFile, MainModule};
+use gm_name::NoMemory;
+use gm_name_table::{KnownNames, ModuleList};
+use gm_store::{Answer, AskFault, Asks, FileName};
+use gm_store_sums::SumTable;
+use std::alloc::Global;
+
+/// What was read of the files that a store was asked for, and the turns whose requirements were requested. Only the
+/// cache reads a store's answers, and it reads each of them once, at the time of asking. The test of the declared
+/// path is made for each vertex.
+#[derive(Drop)]
+pub struct Cache<'a> {
+    /// The allocator of all that the cache holds.
+    alloc: Global,
+    /// The main module's file.
+    main: &'a MainModule,
+    /// The go.sum, if there is one.
+    sums: Option<&'a SumTable<'a>>,
+    /// The paths and versions that the files share.
+    names: KnownNames,
+    /// The requirements of the main file and of all that were read, one file after another. All modules have numbers.
+    modules: ModuleList,
+    /// How many modules at the front of the list are requirements of the main file, without the excluded ones.
+    first: usize,
+    /// What was read of each file, or what is wrong with it.
+    files: FileTable,
+    /// The lists of these files, so that equal ones are kept once.
+    lists: ListIndex,
+    /// The turns whose requirements were requested, in order.
+    turns: TurnHistory,
+    /// The name of the file of the last request that was refused.
+    failed: Option<FileName>,
+    ghost consistent: { IsConsistent main.now (option_copied sums) first modules files } by { Prim.hlevel (props, order_is_fact) },
+    ghost notes: { NotesAll lists (own_lists modules.numbers files.files.items) } by { Prim.hlevel props },
+}
+
+/// Appends the modules that the main file requires, without the excluded ones, and learns the paths that it requires.
+fn add_first(
+    main: &MainModule,
+    names: &mut KnownNames,
+    modules: &mut ModuleList,
+) -> Result<(), NoMemory>
+    ensures { OnOk result (modules_of modules.new
+        ≡ modules_of modules.old ++ without_excluded main.now main.now.requirements) }
+{
+    for y in main.requirements() {
+        names.learn(y.path())?;
+        if !main.excluded(y) {
+            modules.push(y)?;
+        }
+    }
+    Ok(())
+}
+
+/// Where the list of the next file is, whose requirements are those of the list of modules from this place on. The
+/// excluded ones are taken out. If an earlier file has the same list, these are cut off again.
+fn kept_list(
+    alloc: Global,
+    lists: &mut ListIndex,
+    modules: &mut ModuleList,
+    main: &MainModule,
+    files: &[Kept],
+    start: usize,
+) -> Result<KeptList, NoMemory>
+    requires few { length files.now < place_limit }
+    requires start { start ≤ length modules.old.numbers }
+    requires listed { AreKeptIn (take start (modules_of modules.old)) files.now }
+    requires notes { NotesAll lists.old (own_lists modules.old.numbers files.now) }
+    ensures has { IfOk result (λ list. at_span (modules_of modules.new) list.span
+        ≡ without_excluded main.now (drop start (modules_of modules.old))) }
+    ensures listed { IfOk result (IsListIn (modules_of modules.new) files.now) }
+    ensures order { IfOk result (λ list.
+        AreSpansInOrder start (span_unless list.same_as list.span ∷ []) (length modules.new.numbers)) }
+    ensures cut { IfOk result (λ list. IsSome list.same_as → length modules.new.numbers ≤ start) }
+    ensures notes { NotesAll lists.new (own_lists modules.new.numbers files.now) }
+    ensures next { IfOk result (λ list. (file : Head)
+        → NotesAll lists.new (own_lists modules.new.numbers (files.now ++ kept_with file list ∷ []))) }
+    ensures grows { GrowsFrom start modules.old modules.new }
+{
+    leave_out(alloc, modules, main, start)?;
+    if let Some(same) = lists.find(modules, files, start)? {
+        modules.truncate(start);
+        return Ok(same);
+    }
+    let end = modules.len();
+    Ok(KeptList {
+        span: ListSpan { start, end },
+        same_as: None,
+    })
+}
+
+/// What is kept of a file that was read. The requirements of a valid one are those of the list from this place on.
+fn kept_of(
+    alloc: Global,
+    lists: &mut ListIndex,
+    modules: &mut ModuleList,
+    main: &MainModule,
+    files: &[Kept],
+    read: ListedReading,
+    start: usize,
+) -> Result<Kept, NoMemory>
+    requires few { length files.now < place_limit }
+    requires start { start ≤ length modules.old.numbers }
+    requires listed { AreKeptIn (take start (modules_of modules.old)) files.now }
+    requires notes { NotesAll lists.old (own_lists modules.old.numbers files.now) }
+    ensures reading { IfOk result (λ kept. summary_reading (modules_of modules.new) kept
+        ≡ kept_reading main.now (listed_reading (drop start (modules_of modules.old)) read)) }
+    ensures listed { IfOk result (IsKeptIn (modules_of modules.new) files.now) }
+    ensures order { IfOk result (λ kept. AreListsInOrder start (kept ∷ []) (length modules.new.numbers)) }
+    ensures notes { NotesAll lists.new (own_lists modules.new.numbers files.now) }
+    ensures next { IfOk result (λ kept. NotesAll lists.new (own_lists modules.new.numbers (files.now ++ kept ∷ []))) }
+    ensures grows { GrowsFrom start modules.old modules.new }
+{
+    match read {
+        ListedReading::Valid(file) => {
+            let list = kept_list(alloc, lists, modules, main, files, start)?;
+            Ok(Kept::Valid(Summary { file, list }))
+        }
+        ListedReading::Faulty(class) => Ok(Kept::Faulty(class)),
+    }
+}
+
+impl<'a> Cache<'a> {
+    ghost use Rattle.std.specs.Borrow.{sem};
+    ghost use Rattle.std.specs.List.{IsDistinct};
+    ghost use Rattle.gm_name.specs.ModuleVersion.{pair_eq};
+    ghost use Rattle.gm_graph_cache.specs.Cached.{HasMoreTurns, HoldsSame, Knows, LentSame, file_count, main_in, run_in, sums_in, table_in, turns_in, ArePartsOf, Follows, HasFailedOn, HoldsAfterBorrow, module_numbered};
+    ghost use Rattle.gm_graph_cache.specs.Private.Cached.{IsPlaceFor};
+    ghost use Rattle.gm_graph_cache.specs.Lent.{lent_table};
+    ghost use Rattle.gm_graph_cache.specs.declared.cache.Cache.{Cache};
+    ghost use Rattle.gm_graph_cache.specs.Visits.{HasVisited, IsVisit};
+    ghost use Rattle.gm_graph_cache.specs.Private.CacheVisits.{IsVerdict};
+
+    /// A cache for a main file, without files. If there is a go.sum, the files that come from proxies are checked
+    /// against it. The only refusal is `NoMemory`.
+    ///
+    /// The paths that the main file requires are known from the start, since many files name them.
+    pub fn new(
+        alloc: Global,
+        main: &'a MainModule,
+        sums: Option<&'a SumTable<'a>>,
+    ) -> Result<Cache<'a>, NoMemory>
+        ensures main { IfOk result (λ cache. main_in cache ≡ main.entry.now) }
+        ensures sums { IfOk result (λ cache. sums_in cache ≡ option_copied sums.entry) }
+        ensures knows { IfOk result (λ cache. Knows cache []) }
+        ensures turns { IfOk result (λ cache. turns_in cache ≡ []) }
+        ensures files { IfOk result (λ cache. file_count cache ≡ 0) }
+    {
+        let files = FileTable::new(alloc, main)?;
+        let mut names = KnownNames::new(alloc, usize::MAX);
+        let mut modules = ModuleList::new(alloc);
+        add_first(main, &mut names, &mut modules)?;
+        let first = modules.len();
+        Ok(Cache {
+            alloc,
+            main,
+            sums,
+            names,
+            modules,
+            first,
+            files,
+            lists: ListIndex::new(alloc),
+            turns: TurnHistory::new(),
+            failed: None,
+        })
+    }
+
+    /// Asks for the file of a name that was not asked for, and reads it. The cache holds the same in any case; more modules
+    /// may have numbers.
+    fn read_file<F: Asks>(&mut self, files: &mut F, name: &FileName) -> Result<Kept, AskFault>
+        requires fresh { answer_in (F.state files.old).asked (name_of name.now) ≡ None }
+        requires few { file_count self.old < place_limit }
+        ensures reading { IfOk result (λ kept. (reply : Reply)
+            × AddsAnswer (F.state files.old) (F.state files.new) (name_of name.now) reply
+            × IsKeptReading (main_in self.old) (sums_in self.old) (name_of name.now) reply
+            (summary_reading (modules_of self.new.modules) kept)) }
+        ensures listed { IfOk result (IsKeptIn (modules_of self.new.modules) self.old.files.files.items) }
+        ensures order { IfOk result (λ kept. AreListsInOrder self.new.first (self.new.files.files.items ++ kept ∷ [])
+            (length self.new.modules.numbers)) }
+        ensures next { IfOk result (λ kept. NotesAll self.new.lists (own_lists self.new.modules.numbers
+            (self.old.files.files.items ++ kept ∷ []))) }
+        ensures holds { HoldsSame self.old self.new }
+        ensures lent { LentSame self.old self.new }
+        ensures files { self.new.files ≡ self.old.files }
+        ensures asks { AsksOne (λ n. n ≡ name_of name.now) (F.may_answer files.old) (F.may_answer files.new)
+            (F.state files.old) (F.state files.new) (refused_for (name_of name.now) result) }
+    {
+        files.ask(name)?;
+        let start = self.modules.len();
+        let read = read_answer(
+            self.alloc,
+            &mut self.names,
+            &mut self.modules,
+            self.sums,
+            name,
+            files.last(),
+        )?;
+        let kept = kept_of(
+            self.alloc,
+            &mut self.lists,
+            &mut self.modules,
+            self.main,
+            self.files.files(),
+            read,
+            start,
+        )?;
+        Ok(kept)
+    }
+
+    /// The requirements of the main file, without the excluded ones.
+    pub fn first_requirements(&self) -> Lent<'_>
+        ensures modules { lent_modules result
+            ≡ without_excluded (main_in self.now) (main_in self.now).requirements }
+        ensures table { lent_table result ≡ table_in self.now }
+    {
+        let span = ListSpan {
+            start: 0,
+            end: self.first,
+        };
+        Lent::at(&self.modules, span)
+    }
+
+    /// Makes the file of the vertex with a number known, and returns its place, or `None` if it comes from a proxy and
+    /// its path isn't fetchable. The store is asked for the file unless it is known already.
+    ///
+    /// `NoMemory` is returned if memory runs out; the store may then hold an answer that the cache doesn't.
+    /// `Device` is returned exactly if the store's device fails in this request; the cache then has the file's name.
+    /// After any refusal the cache holds the same; more modules may have numbers.
+    fn known_at<F: Asks>(&mut self, files: &mut F, number: u32) -> Result<Option<u32>, AskFault>
+        requires knows { Knows self.old (F.state files.old).asked }
+        requires vertex { number < length (table_in self.old) }
+        requires few { file_count self.old < place_limit }
+        ensures count { file_count self.new ≤ file_count self.old + 1 }
+        ensures known { IfOk result (λ place.
+            Follows self.old (F.state files.old).asked self.new (F.state files.new).asked
+            × IsPlaceFor self.new (module_numbered self.old number) place) }
+        ensures lent { LentSame self.old self.new }
+        ensures err { OnErr result (HoldsSame self.old self.new) }
+        ensures asks { AsksOne (IsAskableFile (main_in self.old) (module_numbered self.old number))
+            (F.may_answer files.old) (F.may_answer files.new) (F.state files.old) (F.state files.new)
+            (refused_for (file_of (main_in self.old) (module_numbered self.old number)) result) }
+        ensures failed { result ≡ Err AskFault.Device
+            → HasFailedOn self.new (file_of (main_in self.old) (module_numbered self.old number)) }
+    {
+        if let Some(place) = self.files.noted_place(number) {
+            return Ok(Some(place));
+        }
+        let name = file_name(self.alloc, self.main, self.modules.module(number))?;
+        if !is_askable(&name) {
+            return Ok(None);
+        }
+        if let Some(place) = self.files.replacing_place(&name) {
+            self.files.note(number, place)?;
+            return Ok(Some(place));
+        }
+        match self.read_file(files, &name) {
+            Ok(kept) => Ok(Some(self.files.add(&name, number, kept)?)),
+            Err(fault) => {
+                self.failed = Some(name);
+                Err(fault)
+            }
+        }
+    }
+
+    /// What the cache says of the vertex with a number, whose file is kept at this place, at this depth. There is no place
+    /// if the file comes from a proxy and its path isn't fetchable.
+    fn verdict(&self, number: u32, depth: Depth, place: Option<u32>) -> Verdict
+        requires vertex { number < length (table_in self.now) }
+        requires place { IsPlaceFor self.now (module_numbered self.now number) place }
+        ensures { (pairs : List (Name × Reply)) → Knows self.now pairs
+            → IsVerdict self.now (run_in self.now pairs) (module_numbered self.now number) depth result }
+    {
+        let Some(file) = place else {
+            return Verdict::Fault(Class::NotFetchable);
+        };
+        match self.files.at(file) {
+            Kept::Faulty(class) => Verdict::Fault(*class),
+            Kept::Valid(summary) => {
+                if is_right_path(self.main, self.modules.module(number), &summary.file) {
+                    Verdict::Sound {
+                        file: self.files.list_place(file),
+                        leads: summary.leads_on(depth),
+                    }
+                } else {
+                    Verdict::Fault(Class::WrongPath)
+                }
+            }
+        }
+    }
+
+    /// Lends what the file at a place requires, without the excluded ones, and appends a turn. For a vertex with a fault
+    /// there is no place, and nothing is required.
+    ///
+    /// All that is lent of a vertex is lent here, and a turn is appended here alone. The call takes the number of a place,
+    /// since a vertex itself may have none.
+    pub(crate) fn lend_at(&mut self, place: Option<u32>, turn: TurnHistory) -> Lent<'_>
+        requires place { IfSome place (λ place. place < file_count self.old) }
+        ensures modules { lent_modules result ≡ at_span (modules_of self.old.modules)
+            (span_found (option_and_then (slice_get self.old.files.files.items) place)) }
+        ensures table { lent_table result ≡ table_in self.old }
+        ensures* after { sem 𝓛 (HoldsAfterBorrow self.entry (λ end. HasMoreTurns self.entry.now end turn.items)) }
+    {
+        let span = self.files.span_of(place);
+        self.turns = self.turns.and(&turn);
+        Lent::at(&self.modules, span)
+    }
+
+    /// Visits the vertex with a number: makes its file known, appends the vertex and the depth to the list of turns, and
+    /// returns the vertex's fault or what it requires. The store is asked for the file unless it is known already, or
+    /// comes from a proxy and its path isn't fetchable.
+    ///
+    /// `NoMemory` is returned if memory runs out; the store may then hold an answer that the cache doesn't.
+    /// `Device` is returned exactly if the store's device fails in this request; `load_fault` then gives the file's
+    /// name. After any refusal the list of turns is the same.
+    pub fn visit<F: Asks>(
+        &mut self,
+        files: &mut F,
+        number: u32,
+        depth: Depth,
+    ) -> Result<Visit<'_>, AskFault>
+        requires knows { Knows self.old (F.state files.old).asked }
+        requires vertex { number < length (table_in self.old) }
+        requires few { file_count self.old < place_limit }
+        ensures lends { IfOk result (λ visit. (mid : Cache)
+            × Follows self.old (F.state files.old).asked mid (F.state files.new).asked × IsDistinct pair_eq (table_in mid)
+            × IsVisit mid (run_in mid (F.state files.new).asked) (module_numbered mid number) depth visit) }
+        ensures asks { AsksOne (IsAskableFile (main_in self.old) (module_numbered self.old number))
+            (F.may_answer files.old) (F.may_answer files.new) (F.state files.old) (F.state files.new)
+            (refused_for (file_of (main_in self.old) (module_numbered self.old number)) result) }
+        ensures* after { sem 𝓛 (HoldsAfterBorrow self.entry (λ end. MatchResult result
+            (λ visit. HasVisited self.entry.now (F.state files.old).asked end (F.state files.new).asked number depth
+            visit)
+            (λ fault. (turns_in end ≡ turns_in self.entry.now)
+            × (fault ≡ AskFault.Device
+            → HasFailedOn end (file_of (main_in self.entry.now) (module_numbered self.entry.now number)))))) }
+    {
+        let place = self.known_at(files, number)?;
+        // This is read first, since a reference that one branch alone borrows is not covered by the borrow checker.
+        let verdict = self.verdict(number, depth, place);
+        let turn = TurnHistory::of(self.modules.module(number), &depth);
+        let list = self.lend_at(verdict.file(), turn);
+        Ok(Visit::of(verdict, list))
+    }
+
+    /// Why loading stops after this fault of a request. The name of the file is given once.
+    pub fn load_fault(&mut self, fault: AskFault) -> LoadFault
+        requires { fault ≡ AskFault.Device → IsSome self.old.failed }
+        ensures fault { IsLoadFaultOf fault self.old.failed result }
+        ensures holds { HoldsSame self.old self.new }
+        ensures lent { LentSame self.old self.new }
+        ensures count { file_count self.new ≡ file_count self.old }
+    {
+        let failed = self.failed.take();
+        LoadFault::of_request(fault, failed)
+    }
+
+    /// The modules that have numbers, and the lists of requirements. The rest of the cache is dropped.
+    pub fn into_parts(self) -> CacheParts
+        ensures parts { ArePartsOf self.entry result }
+        ensures once { AreKeptOnce (own_lists result.numbers.items result.files.items) }
+    {
+        let Cache {
+            modules,
+            first,
+            files,
+            ..
+        } = self;
+        let (modules, numbers) = modules.into_parts();
+        CacheParts {
+            modules,
+            numbers,
+            first,
+            files: files.into_files(),
+        }
+    }
+}

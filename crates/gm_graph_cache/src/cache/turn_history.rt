@@ -1,0 +1,46 @@
+//! The history of a cache's turns, which only proofs read.
+
+ghost use Rattle.std.specs.Prelude.{◌≡◌, List, [], ◌∷◌, ◌++◌};
+ghost use Rattle.std.specs.Borrow.{ftrue};
+ghost use Rattle.gm_graph_cache.specs.Turns.{turn};
+ghost use Rattle.gm_graph_cache.specs.declared.cache.depth.Turn.{Turn};
+
+use crate::cache::depth::Depth;
+use gm_name::ModVer;
+use std::marker::Model;
+
+/// The turns that a cache was asked for. It takes no memory, and its calls do nothing when they run: while a graph is
+/// loaded, the worklist alone is a list of turns. `visit_all` ensures that these turns are those of the worklist.
+#[derive(Drop)]
+pub(crate) struct TurnHistory {
+    // The turns, in order.
+    ghost items: { List Turn },
+}
+
+impl Model for TurnHistory {
+    // A history owns nothing.
+    ghost also_owns = { λ _. ftrue };
+}
+
+impl TurnHistory {
+    /// No turns.
+    pub(crate) fn new() -> TurnHistory
+        ensures { result.items ≡ [] }
+    {
+        TurnHistory {}
+    }
+
+    /// One turn.
+    pub(crate) fn of(vertex: &ModVer, depth: &Depth) -> TurnHistory
+        ensures { result.items ≡ turn vertex.now depth.now ∷ [] }
+    {
+        TurnHistory {}
+    }
+
+    /// These turns, and others after them.
+    pub(crate) fn and(&self, more: &TurnHistory) -> TurnHistory
+        ensures { result.items ≡ self.now.items ++ more.now.items }
+    {
+        TurnHistory {}
+    }
+}
