@@ -7,7 +7,8 @@ use Rattle.gm_file.specs.Main.{Main, replacement_in}
 use Rattle.gm_graph_select.specs.declared.step.Step.{Step}
 use Rattle.gm_graph.specs.Entries.{Entry}
 use Rattle.gm_graph_select.proofs.Lawful.{row_selected, selected_row}
-use Rattle.gm_graph.specs.Run.{AreRows, IsEdge, IsOpened, IsTop, Run, run_of}
+use Rattle.gm_graph.specs.Run.{AreRows, IsEdge, IsOpened, IsTop}
+use Rattle.gm_graph_cache.specs.Sayings.{Run, run_of}
 use Rattle.gomod_run.specs.GraphQuery.{PrintsGraph}
 use Rattle.gomod_run.specs.ListQuery.{PrintsList}
 use Rattle.gm_graph.proofs.RunLemmas.{RequiresToo, SaysToo, edge_too, opened_too}

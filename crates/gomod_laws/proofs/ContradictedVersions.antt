@@ -9,8 +9,8 @@ use Rattle.gm_file.specs.Directives.{VersionInterval, pair}
 use Rattle.gm_file.specs.Shown.{is_at_most, is_retracted, shown_of}
 use Rattle.gm_store.specs.Asked.{Name, Reply, bytes}
 use Rattle.gm_store.specs.Listed.{IsListed}
-use Rattle.gm_graph.specs.Reading.{AreRetractedBy}
-use Rattle.gm_graph.proofs.OneReading.{one_retracted}
+use Rattle.gm_graph_cache.specs.Reading.{AreRetractedBy}
+use Rattle.gm_graph_cache.proofs.OneReading.{one_retracted}
 use Rattle.gm_graph_select.proofs.Ascending.{member_cases, member_head, no_member}
 use Rattle.gomod_run.specs.Outcome.{Outcome, text_outcome}
 use Rattle.gomod_run.specs.Versions.{versions_line}

@@ -11,7 +11,8 @@ use Rattle.gm_name.specs.ModuleVersion.{ModuleVersion}
 use Rattle.gm_file.specs.Main.{Main, without_excluded, IsMainFile, replacement_in}
 use Rattle.gm_store_sums.specs.Sums.{Sums}
 use Rattle.gm_file.specs.Directives.{Right}
-use Rattle.gm_graph.specs.Run.{AreRows, IsDeep, IsOpened, IsTop, IsVertex, Run, from_deep, from_main, from_top, run_of}
+use Rattle.gm_graph.specs.Run.{AreRows, IsDeep, IsOpened, IsTop, IsVertex, from_deep, from_main, from_top}
+use Rattle.gm_graph_cache.specs.Sayings.{Run, run_of}
 use Rattle.gm_graph_select.specs.declared.step.Step.TheVariants.{Main as FromMain, Of}
 use Rattle.gm_graph_select.specs.BuildList.{entry_of, main_entry, path_of}
 use Rattle.gm_graph.specs.Entries.{Entry}

@@ -11,11 +11,12 @@ use Rattle.gm_file.specs.Fields.{Dependency}
 use Rattle.gm_file.specs.Main.{without_excluded}
 use Rattle.gm_store.specs.Asked.{Name, bytes, folder_file, list_file, mod_file, same_name}
 use Rattle.gm_store.proofs.NameOrder.{names_equal}
-use Rattle.gm_graph.specs.declared.cache.class.Class.{Class}
-use Rattle.gm_graph.specs.Reading.{file_of}
-use Rattle.gm_graph.specs.Run.{AreEdges, FileSays, IsEdge, IsOpened, IsTop, Requires, Run, Says, answered, faulty, from_deep, from_main, from_top, sound, unaskable, wrong_path}
+use Rattle.gm_graph_cache.specs.declared.cache.class.Class.{Class}
+use Rattle.gm_graph_cache.specs.Reading.{file_of}
+use Rattle.gm_graph.specs.Run.{AreEdges, IsEdge, IsOpened, IsTop, from_deep, from_main, from_top}
+use Rattle.gm_graph_cache.specs.Sayings.{FileSays, Requires, Run, Says, answered, faulty, sound, unaskable, wrong_path}
 use Rattle.gm_graph.proofs.LawProofs.{modules_say_one_thing}
-use Rattle.gm_graph.proofs.Sayings.{same_file}
+use Rattle.gm_graph_cache.proofs.Sayings.{same_file}
 use Rattle.gm_graph_select.specs.declared.step.Edge.{Edge}
 use Rattle.gm_graph_select.specs.declared.step.Step.{Step}
 use Rattle.gm_graph_select.specs.declared.step.Step.TheVariants.{Main as FromMain, Of}

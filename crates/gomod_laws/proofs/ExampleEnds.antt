@@ -15,14 +15,15 @@ use Rattle.gm_file.specs.Fields.{Dependency}
 use Rattle.gm_store.specs.Asked.{Name, Reply, mod_file, folder_file, list_file, absent, names_in, same_name}
 use Rattle.gm_store_sums.specs.Sums.{Sums}
 use Rattle.gm_file.specs.Main.{Main}
-use Rattle.gm_graph.specs.Reading.{IsFileReading, file_of}
-use Rattle.gm_graph.specs.declared.cache.class.Class.{Class}
-use Rattle.gm_graph.specs.declared.cache.class.Class.TheVariants.{Missing}
+use Rattle.gm_graph_cache.specs.Reading.{IsFileReading, file_of}
+use Rattle.gm_graph_cache.specs.declared.cache.class.Class.{Class}
+use Rattle.gm_graph_cache.specs.declared.cache.class.Class.TheVariants.{Missing}
 use Rattle.gm_file.specs.declared.misreading.Misreading.TheVariants as misreading
 use Rattle.gm_graph_select.specs.declared.step.Step.TheVariants.{Main as FromMain, Of}
 use Rattle.gm_graph_select.specs.BuildList.{main_entry, path_cmp}
 use Rattle.gm_graph_select.proofs.Ascending.{member_cases, member_head, no_member}
-use Rattle.gm_graph.specs.Run.{AreFaults, AreOpened, AreRows, AreTooMany, FileSays, IsDue, IsFault, IsNeeded, IsOpened, IsSettled, IsTop, IsVertex, Run, Says, answered, faulty as says_fault, from_deep, from_main, from_top, run_of, sound, unaskable, wrong_path}
+use Rattle.gm_graph.specs.Run.{AreFaults, AreOpened, AreRows, AreTooMany, IsDue, IsFault, IsNeeded, IsOpened, IsSettled, IsTop, IsVertex, from_deep, from_main, from_top}
+use Rattle.gm_graph_cache.specs.Sayings.{FileSays, Run, Says, answered, faulty as says_fault, run_of, sound, unaskable, wrong_path}
 use Rattle.gm_graph.specs.declared.fault.Fault.{Fault}
 use Rattle.gm_graph.proofs.LawProofs.{modules_say_one_thing}
 use Rattle.gomod_run.specs.Queries.{AreFound, FilesReadAs, bad_main, bad_sums, device, faulty, no_fault, too_many}

@@ -5,14 +5,16 @@ use Rattle.std.proofs.lemmas.List.Elements.{Contains-push_cases}
 use Rattle.gm_file.specs.Fields.{Dependency}
 use Rattle.gm_store.specs.Asked.{Name, Reply, absent, answer_in, bytes, list_file, mod_file, names_in, too_long}
 use Rattle.gm_store_sums.specs.Sums.{Sums}
-use Rattle.gm_graph.specs.declared.cache.class.Class.{Class}
+use Rattle.gm_graph_cache.specs.declared.cache.class.Class.{Class}
 use Rattle.gm_file.specs.Main.{Main}
-use Rattle.gm_graph.specs.Reading.{IsFileReading}
-use Rattle.gm_graph.proofs.Sayings.{answer_stays}
+use Rattle.gm_graph_cache.specs.Reading.{IsFileReading}
+use Rattle.gm_graph_cache.proofs.Sayings.{answer_stays}
 use Rattle.gm_graph_select.proofs.Ascending.{no_member}
 use Rattle.gm_graph.specs.declared.fault.Fault.{Fault}
 use Rattle.gm_graph.specs.Run as graph
-use Rattle.gm_graph.specs.Run.{AskedInTurn, FileSays, IsNeeded, run_of}
+use Rattle.gm_graph.specs.Run.{AskedInTurn, IsNeeded}
+use Rattle.gm_graph_cache.specs.Sayings as sayings
+use Rattle.gm_graph_cache.specs.Sayings.{FileSays, run_of}
 use Rattle.gm_graph.proofs.Exactly.{names_push}
 use Rattle.gm_graph.proofs.RunLemmas.{needed}
 use Rattle.gomod_run.specs.QueryLaws.{AnswerAlike}
@@ -151,7 +153,7 @@ module _ (file : List ℕ) (sums : Option (List ℕ)) (asked : Pairs) (main : Ma
       let fault : Fault = record { vertex = x; class = class } in
       no_member fault ((found.faults_are.each fault).1 (
         opens,
-        graph.faulty (subst (λ (n : Name). FileSays (run_of main table asked) n (Err class)) (sym is) says),
+        sayings.faulty (subst (λ (n : Name). FileSays (run_of main table asked) n (Err class)) (sym is) says),
       ))
 
   -- what was asked for was read
@@ -166,7 +168,7 @@ module _ (file : List ℕ) (sums : Option (List ℕ)) (asked : Pairs) (main : Ma
 
       by : (r : Result Dependency Class) → IsFileReading table name reply r → IsFile reply
       by (Ok file) is = read_is_file table name reply file is
-      by (Err class) is = absurd (no_fault name class need (graph.answered reply need.3 e is))
+      by (Err class) is = absurd (no_fault name class need (sayings.answered reply need.3 e is))
 
 -- runs over answers that are alike ask for the same files
 names_into : (file : List ℕ) (sums : Option (List ℕ)) (asked told : Pairs) (main again : Main) (t u : Option Sums) → AnswerAlike asked told

@@ -4,7 +4,8 @@ use Rattle.gm_store.specs.Asked.{Name}
 use Rattle.gm_store_sums.specs.Sums.{Sums}
 use Rattle.gm_file.specs.Main.{Main, IsMainFile}
 use Rattle.gm_graph.specs.declared.fault.Fault.{Fault}
-use Rattle.gm_graph.specs.Run.{AreTooMany, IsDue, Run, run_of}
+use Rattle.gm_graph.specs.Run.{AreTooMany, IsDue}
+use Rattle.gm_graph_cache.specs.Sayings.{Run, run_of}
 use Rattle.gomod_run.specs.Queries.{Answers, AreFound, FilesReadAs, bad_main, bad_sums, device, faulty, given_of, no_fault, too_many}
 use Rattle.gomod_run.specs.Outcome.{Outcome}
 use Rattle.gomod_run.specs.Private.ByCommand.{PrintsOf}

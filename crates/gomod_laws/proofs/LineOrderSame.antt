@@ -7,7 +7,7 @@ use Rattle.std.specs.Prelude.{◌||◌}
 use Rattle.gm_name.specs.ModuleVersion.{ModuleVersion, pair_eq}
 use Rattle.gm_name.proofs.NameTests.{same-bool}
 use Rattle.gm_file.specs.Main.{Main, is_excluded, is_pruned_by, replacement_in, without_excluded}
-use Rattle.gm_graph.specs.Reading.{file_named, file_of}
+use Rattle.gm_graph_cache.specs.Reading.{file_named, file_of}
 use Rattle.gm_graph_select.proofs.Ascending.{member_cases, member_head, member_tail, no_member}
 
 -- Two main files say the same, wherever and however often.

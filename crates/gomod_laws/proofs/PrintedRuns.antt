@@ -3,7 +3,7 @@ use Rattle.std.proofs.Common.{◌≡◌, ℕ, List, [], Option, subst, true}
 use Rattle.gm_store.specs.Asked.{Name, Reply}
 use Rattle.gm_store_sums.specs.Sums.{Sums}
 use Rattle.gm_file.specs.Main.{Main, IsMainFile}
-use Rattle.gm_graph.specs.Run.{run_of}
+use Rattle.gm_graph_cache.specs.Sayings.{run_of}
 use Rattle.gomod_run.specs.Queries.{AreFound, Given, Prints, QueryEnds}
 use Rattle.gomod_run.specs.Outcome.{Outcome}
 use Rattle.gomod_run.proofs.OneRead.{one_main}

@@ -15,7 +15,8 @@ use Rattle.gm_graph_select.proofs.Lawful.{one_chain, same_build_lists}
 use Rattle.gm_graph_select.proofs.RestRows.{entry_listed, one_at, one_entry}
 use Rattle.gm_graph_select.proofs.Same.{same_back, same_chain}
 use Rattle.gm_graph.specs.Entries.{Entry}
-use Rattle.gm_graph.specs.Run.{AreEdges, IsEdge, Run}
+use Rattle.gm_graph.specs.Run.{AreEdges, IsEdge}
+use Rattle.gm_graph_cache.specs.Sayings.{Run}
 use Rattle.gomod_words.specs.declared.usage.Command.{Command}
 use Rattle.gomod_words.specs.declared.usage.Command.TheVariants.{Graph, List as Rows, Chain}
 use Rattle.gomod_run.specs.ChainQuery.{ShowsChain, chain_text}

@@ -7,10 +7,11 @@ use Rattle.gm_file.specs.Fields.{Dependency}
 use Rattle.gm_file.specs.Main.{Main, is_pruned_by, replacement_in}
 use Rattle.gm_store.specs.Asked.{Name, Reply, names_in}
 use Rattle.gm_store_sums.specs.Sums.{Sums}
-use Rattle.gm_graph.specs.declared.cache.class.Class.{Class}
+use Rattle.gm_graph_cache.specs.declared.cache.class.Class.{Class}
 use Rattle.gm_graph.specs.declared.fault.Fault.{Fault}
-use Rattle.gm_graph.specs.Reading.{IsFileReading, file_of, is_askable, is_right_path}
-use Rattle.gm_graph.specs.Run.{AreEdges, AreFaults, AreRows, AreTooMany, FileSays, IsDue, IsEdge, IsNeeded, IsOpened, IsRead, IsSettled, IsTop, Run, Says, answered, faulty, run_of, sound, unaskable, wrong_path}
+use Rattle.gm_graph_cache.specs.Reading.{IsFileReading, file_of, is_askable, is_right_path}
+use Rattle.gm_graph.specs.Run.{AreEdges, AreFaults, AreRows, AreTooMany, IsDue, IsEdge, IsNeeded, IsOpened, IsRead, IsSettled, IsTop}
+use Rattle.gm_graph_cache.specs.Sayings.{FileSays, Run, Says, answered, faulty, run_of, sound, unaskable, wrong_path}
 use Rattle.gm_graph.proofs.RunLemmas.{RequiresToo, edge_too, many_too, opened_too}
 use Rattle.gm_graph_select.specs.declared.step.Edge.{Edge}
 use Rattle.gm_graph_select.specs.declared.step.Step.TheVariants.{Of}

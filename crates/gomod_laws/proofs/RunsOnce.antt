@@ -11,7 +11,8 @@ use Rattle.gm_graph_select.specs.Graph.{Edges, among, edge}
 use Rattle.gm_graph_select.specs.declared.step.Edge.{Edge}
 use Rattle.gm_graph.specs.Entries.{Entry}
 use Rattle.gm_graph.specs.declared.fault.Fault.{Fault}
-use Rattle.gm_graph.specs.Run.{AreFaults, AreTooMany, IsEdge, Run, run_of}
+use Rattle.gm_graph.specs.Run.{AreFaults, AreTooMany, IsEdge}
+use Rattle.gm_graph_cache.specs.Sayings.{Run, run_of}
 use Rattle.gm_graph.proofs.LawProofs.{faults_total}
 use Rattle.gm_graph.proofs.RunLemmas.{Agrees, fault, same_edges, too_many as many_stay}
 use Rattle.gomod_words.specs.Usage.{texts_in}

@@ -5,12 +5,13 @@ use Rattle.gm_store.specs.Asked.{Name, Reply, absent, answer_in, bytes, folder_f
 use Rattle.gm_store_sums.specs.Hash.{file_hash}
 use Rattle.gm_store_sums.specs.Sums.{ReadsAs, SaysOfHash as SaysOfHash, Sums, check_in}
 use Rattle.gm_store_sums.specs.declared.sum_table.Sum.TheVariants.{Good}
-use Rattle.gm_graph.specs.declared.cache.class.Class.{Class}
+use Rattle.gm_graph_cache.specs.declared.cache.class.Class.{Class}
 use Rattle.gm_graph.specs.declared.fault.Fault.{Fault}
 use Rattle.gm_file.specs.Main.{Main}
-use Rattle.gm_graph.specs.Reading.{IsContentReading, IsFileReading, IsReadUnless, class_of_sum, sum_fault}
-use Rattle.gm_graph.specs.Run.{AreFaults, FileSays, IsNeeded, IsRead, IsSettled, Run, answered as file_answered, faulty, run_of}
-use Rattle.gm_graph.proofs.OneReading.{one_reading}
+use Rattle.gm_graph_cache.specs.Reading.{IsContentReading, IsFileReading, IsReadUnless, class_of_sum, sum_fault}
+use Rattle.gm_graph.specs.Run.{AreFaults, IsNeeded, IsRead, IsSettled}
+use Rattle.gm_graph_cache.specs.Sayings.{FileSays, Run, answered as file_answered, faulty, run_of}
+use Rattle.gm_graph_cache.proofs.OneReading.{one_reading}
 use Rattle.gm_graph_select.proofs.Ascending.{no_member}
 use Rattle.gomod_run.proofs.OneRead.{one_says}
 use Rattle.gomod_laws.proofs.FolderRuns.{answered_name}

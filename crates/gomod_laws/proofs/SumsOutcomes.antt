@@ -4,7 +4,8 @@ use Rattle.gm_store.specs.Asked.{Name, Reply, answer_in, bytes, folder_file, lis
 use Rattle.gm_store_sums.specs.Sums.{HasValidLines, Sums}
 use Rattle.gm_file.specs.Main.{Main, IsMainFile}
 use Rattle.gm_graph.specs.declared.fault.Fault.{Fault}
-use Rattle.gm_graph.specs.Run.{IsRead, Run, run_of}
+use Rattle.gm_graph_cache.specs.Sayings.{Run, run_of}
+use Rattle.gm_graph.specs.Run.{IsRead}
 use Rattle.gomod_run.specs.QueryLaws.{AnswerAlike}
 use Rattle.gomod_run.specs.Queries.{AreFound, AreSums, FilesReadAs, QueryEnds, answers_of, bad_main, bad_sums, device, faulty, longest, no_fault, too_many}
 use Rattle.gomod_run.specs.Needs.{GraphNeeds}

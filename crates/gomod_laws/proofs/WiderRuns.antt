@@ -3,12 +3,13 @@ use Rattle.std.proofs.Common.{◌≡◌, ◌∙◌, ◌≤◌, ◌∷◌, ℕ, L
 use Rattle.gm_name.specs.ModuleVersion.{ModuleVersion}
 use Rattle.gm_store.specs.Asked.{Reply}
 use Rattle.gm_store_sums.specs.Sums.{Sums}
-use Rattle.gm_graph.specs.Reading.{IsFileReading}
+use Rattle.gm_graph_cache.specs.Reading.{IsFileReading}
 use Rattle.gm_graph.proofs.RunLemmas.{ReplaceAlike, SayAlike, SaysToo, says_too, settled_answers}
 use Rattle.gm_file.specs.Main.{Main, IsMainFile}
 use Rattle.gm_graph_select.proofs.Ascending.{member_head, no_member}
 use Rattle.gm_graph.specs.declared.fault.Fault.{Fault}
-use Rattle.gm_graph.specs.Run.{AreTooMany, IsFault, IsOpened, Run, run_of}
+use Rattle.gm_graph.specs.Run.{AreTooMany, IsFault, IsOpened}
+use Rattle.gm_graph_cache.specs.Sayings.{Run, run_of}
 use Rattle.gomod_run.specs.QueryLaws.{AnswerAlike}
 use Rattle.gomod_run.specs.Queries.{AreFound, AreInvalidSums, AreSums, Given, Prints, QueryEnds, bad_main, bad_sums, device, faulty, no_fault, too_many}
 use Rattle.gomod_run.specs.Outcome.{Outcome}

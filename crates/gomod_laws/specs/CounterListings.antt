@@ -2,7 +2,8 @@
 use Rattle.std.specs.Prelude.{◌≡◌, ℕ, List, [], Option, None, Some, codes}
 use Rattle.gm_name.specs.ModuleVersion.{ModuleVersion}
 use Rattle.gm_file.specs.Main.{Main, IsMainFile}
-use Rattle.gm_graph.specs.Run.{IsTop, run_of}
+use Rattle.gm_graph.specs.Run.{IsTop}
+use Rattle.gm_graph_cache.specs.Sayings.{run_of}
 use Rattle.gomod_run.specs.QueryLaws.{JoinsPages, ShowsBuildList, ShowsShortestWalk}
 use Rattle.gomod_run.specs.Queries.{Given}
 use Rattle.gomod_run.specs.ListQuery.{ListEnds}

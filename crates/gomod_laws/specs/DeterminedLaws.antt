@@ -7,7 +7,8 @@ use Rattle.gm_graph_select.specs.declared.step.Edge.{Edge}
 use Rattle.gm_graph_select.specs.BuildList.{IsBuildList}
 use Rattle.gm_graph.specs.Entries.{Entry}
 use Rattle.gm_graph_select.specs.Graph.{among}
-use Rattle.gm_graph.specs.Run.{AreEdges, AreRows, run_of}
+use Rattle.gm_graph.specs.Run.{AreEdges, AreRows}
+use Rattle.gm_graph_cache.specs.Sayings.{run_of}
 use Rattle.gomod_words.specs.declared.usage.Command.{Command}
 use Rattle.gomod_run.specs.declared.reports.status.Status.TheVariants.{Done}
 use Rattle.gomod_run.specs.ChainQuery.{ChainEnds, ShowsChain}

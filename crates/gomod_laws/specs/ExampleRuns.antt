@@ -6,8 +6,9 @@ use Rattle.gm_name.specs.Version.{version_cmp}
 use Rattle.gm_store.specs.Asked.{Name, Reply, mod_file, absent, bytes}
 use Rattle.gm_file.specs.Fields.{Dependency}
 use Rattle.gm_file.specs.Main.{Main, IsMainFile}
-use Rattle.gm_graph.specs.Reading.{IsFileReading}
-use Rattle.gm_graph.specs.Run.{AreEdges, IsEdge, Requires, Run, run_of}
+use Rattle.gm_graph_cache.specs.Reading.{IsFileReading}
+use Rattle.gm_graph.specs.Run.{AreEdges, IsEdge}
+use Rattle.gm_graph_cache.specs.Sayings.{Requires, Run, run_of}
 use Rattle.gm_graph_select.specs.declared.step.Edge.{Edge}
 use Rattle.gm_graph_select.specs.declared.step.Step.TheVariants.{Main as FromMain, Of}
 use Rattle.gm_graph_select.specs.Graph.{edge, edge_cmp}

@@ -5,7 +5,7 @@ use Rattle.gm_store.specs.Asked.{Name, Reply, absent, answer_in, bytes, list_fil
 use Rattle.gm_store_sums.specs.Sums.{Sums}
 use Rattle.gm_file.specs.Main.{Main}
 use Rattle.gm_graph.specs.declared.fault.Fault.{Fault}
-use Rattle.gm_graph.specs.Run.{Run, run_of}
+use Rattle.gm_graph_cache.specs.Sayings.{Run, run_of}
 use Rattle.gm_graph.proofs.RunLemmas.{Agrees, needed, settled_answers}
 use Rattle.gomod_run.specs.Queries.{AreFound, Given, Prints, QueryEnds}
 use Rattle.gomod_run.specs.Private.ByCommand.{PrintsOf}

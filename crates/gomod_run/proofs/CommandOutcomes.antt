@@ -12,13 +12,14 @@ use Rattle.gm_file.specs.declared.misreading.BytesFault.{BytesFault}
 use Rattle.gm_file.specs.Directives.{Strict}
 use Rattle.gm_file.specs.Main.{Main, IsMainFile}
 use Rattle.gm_file.specs.Misreading.{IsBytesFault}
-use Rattle.gm_graph.specs.Refusals.{refused_in, refused_names}
-use Rattle.gm_graph.specs.declared.cache.load_fault.LoadFault.{LoadFault}
-use Rattle.gm_graph.specs.declared.cache.load_fault.LoadFault.TheVariants as load
+use Rattle.gm_graph_cache.specs.Refusals.{refused_in, refused_names}
+use Rattle.gm_graph_cache.specs.declared.cache.load_fault.LoadFault.{LoadFault}
+use Rattle.gm_graph_cache.specs.declared.cache.load_fault.LoadFault.TheVariants as load
 use Rattle.gm_graph_select.specs.Graph.{among, edge}
 use Rattle.gm_graph_select.proofs.Same.{same_chain}
 use Rattle.gm_graph.specs.declared.fault.Fault.{Fault}
-use Rattle.gm_graph.specs.Run.{AreTooMany, AskedInTurn, IsDue, IsEdge, IsRead, LoadingNeeds, Run, run_of}
+use Rattle.gm_graph.specs.Run.{AreTooMany, AskedInTurn, IsDue, IsEdge, IsRead, LoadingNeeds}
+use Rattle.gm_graph_cache.specs.Sayings.{Run, run_of}
 use Rattle.gm_graph.specs.Outcome.{IsLoaded, LoadedGraph as Loaded}
 use Rattle.gomod_run.specs.FromFaults.{report_by_bytes, report_by_load}
 use Rattle.gomod_run.specs.Outcome.{OrNoMemory, Outcome, failure_outcome, refusal_outcome, report_outcome}

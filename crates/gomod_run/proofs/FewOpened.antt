@@ -12,8 +12,9 @@ use Rattle.gm_graph_select.specs.declared.step.Step.TheVariants.{Main as FromMai
 use Rattle.gm_graph_select.specs.Graph.{among, edge}
 use Rattle.gm_graph_select.proofs.Ascending.{member_cases, member_head, member_tail, no_member}
 use Rattle.gm_graph_select.proofs.Same.{AreSame}
-use Rattle.gm_graph.specs.Run.{AreOpened, IsEdge, IsOpened, IsTop, Requires, Run}
-use Rattle.gm_graph.proofs.Sayings.{required_of}
+use Rattle.gm_graph.specs.Run.{AreOpened, IsEdge, IsOpened, IsTop}
+use Rattle.gm_graph_cache.specs.Sayings.{Requires, Run}
+use Rattle.gm_graph_cache.proofs.Sayings.{required_of}
 use Rattle.gm_graph_select.proofs.RankedLists.{from_mapped, in_mapped}
 use Rattle.gm_name_table.proofs.Lists.{no_pairs}
 

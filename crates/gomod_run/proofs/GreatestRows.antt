@@ -7,7 +7,8 @@ use Rattle.gm_file.specs.Main.{replacement_in}
 use Rattle.gm_graph_select.specs.BuildList.{IsBuildList, IsSelected, entry_of, main_entry, path_cmp}
 use Rattle.gm_graph_select.specs.Order.{IsAscending}
 use Rattle.gm_graph_select.proofs.Ascending.{less_itself, member_cases, no_member, pairs_head, pairs_tail}
-use Rattle.gm_graph.specs.Run.{IsEdge, Run, run_of}
+use Rattle.gm_graph.specs.Run.{IsEdge}
+use Rattle.gm_graph_cache.specs.Sayings.{Run, run_of}
 use Rattle.gomod_run.specs.QueryLaws.{AreGreatest, BuildListIsListed}
 use Rattle.gomod_run.specs.Queries.{no_fault}
 use Rattle.gomod_run.specs.ListQuery.{no_path}

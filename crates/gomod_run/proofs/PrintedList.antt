@@ -21,7 +21,8 @@ use Rattle.gm_graph_select.specs.Laws.{ArePages as AreRowPages, entries_of_pages
 use Rattle.gm_graph_select.proofs.Ascending.{member_cases, member_head, member_tail, no_member}
 use Rattle.gm_graph_select.proofs.Lawful.{pages_exist, pages_join as rows_join, row_selected, rows_satisfy}
 use Rattle.gm_graph_select.proofs.Same.{AreSame, same_back, same_build_list}
-use Rattle.gm_graph.specs.Run.{AreRows, IsEdge, IsVertex, Run, run_of}
+use Rattle.gm_graph.specs.Run.{AreRows, IsEdge, IsVertex}
+use Rattle.gm_graph_cache.specs.Sayings.{Run, run_of}
 use Rattle.gm_graph_select.proofs.RankedLists.{from_mapped, in_mapped}
 use Rattle.gomod_run.specs.QueryLaws.{AreGreatest, ArePrintedPages, ListIsBuildList, PrintedPagesJoin, no_row, one_page}
 use Rattle.gomod_run.specs.Queries.{AreFound, Given, Prints, QueryEnds, bad_main, bad_sums, device, faulty, no_fault, too_many}

@@ -5,7 +5,8 @@ use Rattle.gm_store.specs.Asked.{Name}
 use Rattle.gm_store_sums.specs.Sums.{Sums}
 use Rattle.gm_file.specs.Main.{Main}
 use Rattle.gm_graph.specs.declared.fault.Fault.{Fault}
-use Rattle.gm_graph.specs.Run.{AreTooMany, IsDue, IsRead, run_of}
+use Rattle.gm_graph.specs.Run.{AreTooMany, IsDue, IsRead}
+use Rattle.gm_graph_cache.specs.Sayings.{run_of}
 use Rattle.gomod_run.specs.Private.Found.{ReportsFaultsOr}
 use Rattle.gomod_run.specs.Queries.{AreFound, FilesReadAs, Given, IsUnasked, Prints, QueryEnds, bad_main, bad_sums, device, faulty, no_fault, too_many}
 use Rattle.gomod_run.specs.Outcome.{Outcome, failure_outcome, refusal_outcome}

@@ -5,7 +5,8 @@ use Rattle.gm_graph_select.specs.declared.step.Step.TheVariants.{Of}
 use Rattle.gm_graph_select.specs.Chains.{IsChain, Leads, along, at_main, begins, goes_on}
 use Rattle.gm_graph_select.specs.Graph.{Edges}
 use Rattle.gm_graph_select.proofs.Lawful.{shortest}
-use Rattle.gm_graph.specs.Run.{IsEdge, run_of}
+use Rattle.gm_graph.specs.Run.{IsEdge}
+use Rattle.gm_graph_cache.specs.Sayings.{run_of}
 use Rattle.gomod_run.specs.QueryLaws.{PrintedChainIsShortest, IsWalk, further, here}
 use Rattle.gomod_run.specs.ChainQuery.{PrintsChain}
 use Rattle.gomod_run.proofs.PrintedList.{not_refused, printed_run}

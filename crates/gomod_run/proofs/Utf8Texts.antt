@@ -20,7 +20,8 @@ use Rattle.gm_file.specs.declared.replace.Right as declared
 use Rattle.gm_file.specs.declared.replace.Right.TheVariants as right
 use Rattle.gm_file.specs.declared.replace.Replace.{Replace}
 use Rattle.gm_graph.specs.Entries.{Entry}
-use Rattle.gm_graph.specs.Run.{AreRows, Run, run_of}
+use Rattle.gm_graph.specs.Run.{AreRows}
+use Rattle.gm_graph_cache.specs.Sayings.{Run, run_of}
 use Rattle.gm_graph_select.proofs.Ascending.{member_cases}
 use Rattle.gm_graph_select.proofs.RankedLists.{from_mapped}
 use Rattle.gm_graph_select.specs.BuildList.{entry_of, main_entry}

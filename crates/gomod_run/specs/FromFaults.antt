@@ -3,8 +3,8 @@ use Rattle.gm_file.specs.declared.misreading.BytesFault.{BytesFault}
 use Rattle.gm_file.specs.declared.misreading.BytesFault.TheVariants as bytes
 use Rattle.gm_store_sums.specs.declared.sum_table.SumFault.{SumFault}
 use Rattle.gm_store_sums.specs.declared.sum_table.SumFault.TheVariants as sums
-use Rattle.gm_graph.specs.declared.cache.load_fault.LoadFault.{LoadFault}
-use Rattle.gm_graph.specs.declared.cache.load_fault.LoadFault.TheVariants as load
+use Rattle.gm_graph_cache.specs.declared.cache.load_fault.LoadFault.{LoadFault}
+use Rattle.gm_graph_cache.specs.declared.cache.load_fault.LoadFault.TheVariants as load
 use Rattle.gomod_run.specs.declared.reports.report.Report.{Report}
 use Rattle.gomod_run.specs.declared.reports.report.Report.TheVariants as report
 

@@ -9,7 +9,8 @@ use Rattle.gm_file.specs.Misreading.{IsMisread}
 use Rattle.gm_graph_select.specs.BuildList.{HasEntryFor}
 use Rattle.gm_graph.specs.Entries.{Entry}
 use Rattle.gm_graph.specs.declared.fault.Fault.{Fault}
-use Rattle.gm_graph.specs.Run.{AreFaults, AreTooMany, IsDue, IsRead, IsSettled, Run, run_of}
+use Rattle.gm_graph.specs.Run.{AreFaults, AreTooMany, IsDue, IsRead, IsSettled}
+use Rattle.gm_graph_cache.specs.Sayings.{Run, run_of}
 use Rattle.gomod_run.specs.Outcome.{Outcome, failure_outcome, refusal_outcome}
 use Rattle.gomod_run.specs.Reports.{FaultPlace, bad_sum_line, device_line, faults_text, long_sums_line, main_line, not_listed_line, too_many_line}
 

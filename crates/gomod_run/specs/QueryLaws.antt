@@ -16,7 +16,8 @@ use Rattle.gm_graph.specs.Entries.{Entry}
 use Rattle.gm_graph_select.specs.Graph.{Edges}
 use Rattle.gm_graph_select.specs.Laws.{entries_of_pages}
 use Rattle.gm_graph_select.specs.Order.{IsAscending}
-use Rattle.gm_graph.specs.Run.{AreRows, IsEdge, IsVertex, Run, run_of}
+use Rattle.gm_graph.specs.Run.{AreRows, IsEdge, IsVertex}
+use Rattle.gm_graph_cache.specs.Sayings.{Run, run_of}
 use Rattle.gomod_run.specs.declared.reports.status.Status.TheVariants.{Done}
 use Rattle.gomod_run.specs.ChainQuery.{chain_text, ChainEnds}
 use Rattle.gomod_run.specs.ListQuery.{list_text, ListEnds}
