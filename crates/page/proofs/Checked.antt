@@ -21,7 +21,8 @@ use Rattle.page.specs.Outcome.{Outcome, refusal_outcome, text_outcome}
 use Rattle.page.specs.Queries.{AreFound, faulty as some_faulty, no_fault}
 use Rattle.page.specs.Reading.{IsContentReading, IsFileReading, IsReadUnless, file_of, is_askable, is_right_path}
 use Rattle.page.specs.Reports.{faults_text, not_listed_line}
-use Rattle.page.specs.Run.{FileSays, IsRead, Run, Says, answered, faulty, run_of, sound, unaskable, wrong_path}
+use Rattle.page.specs.Run.{IsRead}
+use Rattle.page.specs.Sayings.{FileSays, Run, Says, answered, faulty, run_of, sound, unaskable, wrong_path}
 use Rattle.page.specs.Types.{AreSums, BadVersion, Class, Fault, Misreading, Missing, NoModule, Sums, TooLong, TooMany, Unknown, WrongArguments, WrongPath}
 use Rattle.page.specs.Worlds.{given_with}
 use Rattle.page.proofs.Ending.{IsReadable, all_read}

@@ -7,7 +7,8 @@ use Rattle.page.specs.Files.RowFiles.{most_opened}
 use Rattle.page.specs.Main.{Main}
 use Rattle.page.specs.ModuleVersion.{ModuleVersion}
 use Rattle.page.specs.Reading.{IsFileReading, file_of, is_askable}
-use Rattle.page.specs.Run.{IsNeeded, IsOpened, IsRead, IsSettled, Run, run_of}
+use Rattle.page.specs.Run.{IsNeeded, IsOpened, IsRead, IsSettled}
+use Rattle.page.specs.Sayings.{Run, run_of}
 use Rattle.page.specs.Types.{Class, Sums}
 use Rattle.page.proofs.Forms.{answer_is}
 use Rattle.page.proofs.Members.{each_member, few_members}

@@ -15,7 +15,8 @@ use Rattle.page.specs.Files.RowFiles.{at, corp_file, first_of, full_file, many_f
 use Rattle.page.specs.Main.{Main, without_excluded}
 use Rattle.page.specs.ModuleVersion.{ModuleVersion, pair_eq}
 use Rattle.page.specs.Queries.{bad_sums, too_many}
-use Rattle.page.specs.Run.{AreTooMany, IsDeep, IsOpened, IsTop, Requires, Run, answered, from_deep, from_main, from_top, run_of, sound}
+use Rattle.page.specs.Run.{AreTooMany, IsDeep, IsOpened, IsTop, from_deep, from_main, from_top}
+use Rattle.page.specs.Sayings.{Requires, Run, answered, run_of, sound}
 use Rattle.page.specs.Path.{is_fetchable}
 use Rattle.page.specs.Types.{Class, Misreading, Missing, Unknown}
 use Rattle.page.specs.Worlds.Rows.{TooManyAreReported, all_absent, wide_answers}

@@ -10,7 +10,8 @@ use Rattle.page.specs.Main.{Main, without_excluded}
 use Rattle.page.specs.ModuleVersion.{ModuleVersion}
 use Rattle.page.specs.Queries.{AreFound, Given, IsUnasked, bad_main, bad_sums, device, faulty, no_fault, too_many}
 use Rattle.page.specs.Path.{is_fetchable}
-use Rattle.page.specs.Run.{AreTooMany, IsDeep, IsDue, IsNeeded, IsOpened, IsTop, Requires, Run, from_deep, from_main, from_top, run_of}
+use Rattle.page.specs.Run.{AreTooMany, IsDeep, IsDue, IsNeeded, IsOpened, IsTop, from_deep, from_main, from_top}
+use Rattle.page.specs.Sayings.{Requires, Run, run_of}
 use Rattle.page.specs.Types.{AreSums, Fault, Misreading, Sums}
 use Rattle.page.specs.Worlds.{HasNoOutcome, failing, given_by}
 use Rattle.page.specs.Worlds.Rows.{OthersHaveNone, a_bare, a_name}

@@ -17,7 +17,8 @@ use Rattle.page.specs.Order.{IsAscending}
 use Rattle.page.specs.Outcome.{Outcome, failure_outcome, refusal_outcome, text_outcome}
 use Rattle.page.specs.Queries.{AreFound, FilesReadAs, Given, bad_main, bad_sums, device, faulty, no_fault, too_many}
 use Rattle.page.specs.Reports.{FaultPlace, device_line, faults_text, main_line, not_listed_line, too_many_line}
-use Rattle.page.specs.Run.{AreFaults, AreRows, AreTooMany, Run, run_of}
+use Rattle.page.specs.Run.{AreFaults, AreRows, AreTooMany}
+use Rattle.page.specs.Sayings.{Run, run_of}
 use Rattle.page.specs.Types.{AreInvalidSums, AreSums, Fault, Parts, Sums, parts_in, pre_cmp, pre_rank}
 use Rattle.page.specs.Version.{precedence, version_cmp}
 use Rattle.page.specs.Worlds.{OneOutcome}

@@ -17,7 +17,8 @@ use Rattle.page.specs.Outcome.{Outcome}
 use Rattle.page.specs.ListQuery.{PrintsRows, no_path, path_listed, path_unlisted}
 use Rattle.page.specs.Path.{is_fetchable}
 use Rattle.page.specs.Reading.{IsFileReading}
-use Rattle.page.specs.Run.{FileSays, IsDeep, IsEdge, IsNeeded, IsOpened, IsRead, IsTop, Requires, Says, answered, from_deep, from_main, from_top, run_of, sound, unaskable}
+use Rattle.page.specs.Run.{IsDeep, IsEdge, IsNeeded, IsOpened, IsRead, IsTop, from_deep, from_main, from_top}
+use Rattle.page.specs.Sayings.{FileSays, Requires, Says, answered, run_of, sound, unaskable}
 use Rattle.page.specs.Types.{Class, Malformed, NotFetchable, Of, TooMany, WrongPath}
 use Rattle.page.specs.Version.{version_cmp}
 use Rattle.page.specs.Worlds.{printing, pruned_answers, wrong_answers}

@@ -12,7 +12,8 @@ use Rattle.page.specs.Graph.{IsEdgeEnd}
 use Rattle.page.specs.ModuleVersion.{ModuleVersion}
 use Rattle.page.specs.Path.{is_fetchable}
 use Rattle.page.specs.Reading.{IsFileReading}
-use Rattle.page.specs.Run.{IsDeep, IsOpened, IsRead, Says, answered, faulty, from_deep, from_main, from_top, run_of, sound, wrong_path}
+use Rattle.page.specs.Run.{IsDeep, IsOpened, IsRead, from_deep, from_main, from_top}
+use Rattle.page.specs.Sayings.{Says, answered, faulty, run_of, sound, wrong_path}
 use Rattle.page.specs.Types.{Class, Main, Malformed, NoSum, Of, WrongArguments}
 use Rattle.page.specs.Version.{version_cmp}
 use Rattle.page.specs.Worlds.Parts.{PartsAreShown, huge_answers, pruned_run, two_paths, two_versions}

@@ -8,7 +8,8 @@ use Rattle.page.specs.Main.{Main}
 use Rattle.page.specs.Queries.{bad_main, bad_sums, device, faulty, no_fault, too_many}
 use Rattle.page.specs.Path.{is_fetchable}
 use Rattle.page.specs.Fields.{Dependency}
-use Rattle.page.specs.Run.{IsDue, answered, from_top, run_of, sound}
+use Rattle.page.specs.Run.{IsDue, from_top}
+use Rattle.page.specs.Sayings.{answered, run_of, sound}
 use Rattle.page.specs.Types.{Misreading, Missing, NoModule, Sums, first_table, first_text, fork_table, fork_text, Unknown, sums_table, sums_text, twice_table, twice_text}
 use Rattle.page.specs.Worlds.{DeviceIsReported, FaultsAreReported, HasNoOutcome, asked_mid, failing, printing, reporting, wrong_answers}
 use Rattle.page.specs.Worlds.Rows.{EmptyMainIsReported, FolderDeviceIsReported, ForkIsReported, HostsAreReported, MalformedIsReported, OneFileIsReported, SumsAreReported, TwoFaultsAreReported, UnfetchableIsReported, a_bare, a_name, answer, first_answers, folder_answers, fork_answers, fork_name, lower_answers, malformed_answers, malformed_report, name_at, nine_answers, sums_answers, two_long, two_missing, wrong_fork_answers}

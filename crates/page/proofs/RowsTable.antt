@@ -15,7 +15,8 @@ use Rattle.page.specs.Main.{Main, is_pruned_by, without_excluded, replacement_in
 use Rattle.page.specs.ModuleVersion.{ModuleVersion, pair_cmp, pair_eq}
 use Rattle.page.specs.Queries.{AreFound}
 use Rattle.page.specs.Reading.{file_of, is_askable}
-use Rattle.page.specs.Run.{AreFaults, AreRows, IsDeep, IsEdge, IsFault, IsNeeded, IsOpened, IsTop, Requires, Run, Says, from_deep, from_main, from_top, run_of}
+use Rattle.page.specs.Run.{AreFaults, AreRows, IsDeep, IsEdge, IsFault, IsNeeded, IsOpened, IsTop, from_deep, from_main, from_top}
+use Rattle.page.specs.Sayings.{Requires, Run, Says, run_of}
 use Rattle.page.specs.Types.{AreSums, Class, Fault, Main as FromMain, Of, Step, Sums}
 use Rattle.page.specs.Version.{version_cmp}
 use Rattle.page.specs.Worlds.{given_with}

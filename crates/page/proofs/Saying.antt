@@ -9,7 +9,7 @@ use Rattle.page.specs.Files.{said_in, sum_fault}
 use Rattle.page.specs.Main.{Main, replacement_in, without_excluded}
 use Rattle.page.specs.ModuleVersion.{ModuleVersion}
 use Rattle.page.specs.Reading.{IsContentReading, IsFileReading, IsReadUnless, file_of, is_askable, is_right_path}
-use Rattle.page.specs.Run.{FileSays, Requires, Run, Says, answered, faulty, run_of, sound, unaskable, wrong_path}
+use Rattle.page.specs.Sayings.{FileSays, Requires, Run, Says, answered, faulty, run_of, sound, unaskable, wrong_path}
 use Rattle.page.specs.Types.{BadVersion, Class, Malformed, Misreading, Missing, NoModule, NotFetchable, NoSum, SumDiffers, Sums, TooLong, TooMany, Unknown, WrongArguments, WrongPath}
 
 -- ---- replies

@@ -18,6 +18,7 @@ pub mod Queries
 pub mod Reading
 pub mod Reports
 pub mod Run
+pub mod Sayings
 pub mod Types
 pub mod Version
 pub mod Worlds

@@ -7,7 +7,8 @@ use Rattle.page.specs.Files.{IsMainFile, IsMisread}
 use Rattle.page.specs.Main.{Main}
 use Rattle.page.specs.BuildList.{HasEntryFor}
 use Rattle.page.specs.Entries.{Entry}
-use Rattle.page.specs.Run.{AreFaults, AreTooMany, IsDue, IsRead, IsSettled, Run, run_of}
+use Rattle.page.specs.Run.{AreFaults, AreTooMany, IsDue, IsRead, IsSettled}
+use Rattle.page.specs.Sayings.{Run, run_of}
 use Rattle.page.specs.Outcome.{Outcome, failure_outcome, refusal_outcome}
 use Rattle.page.specs.Reports.{FaultPlace, device_line, faults_text, main_line, not_listed_line, too_many_line}
 

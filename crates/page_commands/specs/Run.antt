@@ -3,7 +3,7 @@ use Rattle.std.specs.Prelude.{◌↔◌, List, Contains}
 use Rattle.page_commands.specs.Types.Edge.{Edge}
 use Rattle.page_commands.specs.Graph.{edge_cmp}
 use Rattle.page_commands.specs.Order.{IsAscending}
-use Rattle.page_commands.specs.Runs.{IsEdge, Run}
+use Rattle.page_commands.specs.Runs.{Run, IsEdge}
 
 -- Each edge, in strictly ascending order.
 pub record AreEdges (run : Run) (edges : List Edge) : Type 0 where

@@ -13,7 +13,8 @@ use Rattle.page.specs.Main.{without_excluded}
 use Rattle.page.specs.ModuleVersion.{ModuleVersion}
 use Rattle.page.specs.Outcome.{Outcome}
 use Rattle.page.specs.Reading.{IsContentReading, IsFileReading, IsReadUnless}
-use Rattle.page.specs.Run.{FileSays, IsDeep, IsEdge, IsFault, IsNeeded, IsOpened, IsRead, IsTop, Requires, Run, Says, run_of}
+use Rattle.page.specs.Run.{IsDeep, IsEdge, IsFault, IsNeeded, IsOpened, IsRead, IsTop}
+use Rattle.page.specs.Sayings.{FileSays, Requires, Run, Says, run_of}
 use Rattle.page.specs.Reports.{class_text}
 use Rattle.page.specs.Types.{BadVersion, Class, Malformed, Missing, NoSum, NotFetchable, Of, TooLong, WrongArguments, WrongPath, sums_table}
 use Rattle.page.specs.Version.{precedence, version_cmp}

@@ -5,7 +5,8 @@ use Rattle.page.specs.Files.RowFiles.{alone_text, both_text, corp_file, ends_tex
 use Rattle.page.specs.ListQuery.{ListEnds}
 use Rattle.page.specs.ModuleVersion.{ModuleVersion}
 use Rattle.page.specs.Reading.{declares}
-use Rattle.page.specs.Run.{AreTooMany, run_of}
+use Rattle.page.specs.Run.{AreTooMany}
+use Rattle.page.specs.Sayings.{run_of}
 use Rattle.page.specs.Types.{first_text, fork_text, sums_text, twice_text}
 use Rattle.page.specs.Worlds.{HasNoOutcome, failing, failing_with, given_by, given_with, printing, reporting}
 
