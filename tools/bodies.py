@@ -10,7 +10,8 @@ contract. So a row of tools/bodies.txt, each with its reason, stands for
               its body, and of the constants of its file that it names
     size      a size that room is asked for, unless it is a length, a small number or both, with what its names are; a
               function that asks for as much as it is told to is looked at where it is called
-    alone     a function of gm_graph that lends what a vertex requires, or appends its turn
+    alone     a function of gm_graph_cache that lends what a vertex requires, or appends its turn; one of gm_graph that
+              asks the cache by name, of which there is none
     loop      a `while`, a `loop` or a `for` over a range without a length, with the calls in it that may refuse
 
 Any other call of std that may refuse is told, as are another name for such a value, an endless iterator, a width in a
@@ -47,8 +48,11 @@ TOLD = re.compile(r"\b(?:cycle|repeat\w*|from_fn|successors)\(|(?:(?!\w+::MAX\b)
                   r"|\.(?:extend|collect)\(")
 WIDTH = re.compile(r"\b(?:format|write|writeln)!\((?:[^\"]*)\"[^\"]*\{\w*:[^}\"]*(?:\$|\*|\d\d)")
 LOOP = re.compile(r"\b(?:while|loop)\b[^{;]*\{|\bfor [^{;]*\.\.(?![^{;]*len\(\))[^{;]*\{")
-ALONE = {"makes-a-Lent": r"\bLent(?:::at\(| \{)", "appends-a-turn": r"(?:\.|TurnHistory::)and\(",
-         "lends": r"\blend_at\("}
+ALONE = {
+    "gm_graph_cache": {"makes-a-Lent": r"\bLent(?:::at\(| \{)", "appends-a-turn": r"(?:\.|TurnHistory::)and\(",
+                       "lends": r"\blend_at\("},
+    "gm_graph": {"asks-by-name": r"\b(?:known|lend)\("},
+}
 SMALL = r"\d{1,3}"
 LENGTH = rf"(?:[\w.]+\.(?:len|count|\w+_count)\(\))(?: \+ {SMALL})?|{SMALL}"
 
@@ -226,7 +230,7 @@ def rows():
     for body in bodies:
         for kind, what in [*memory_rows(body), *foreign_rows(body, own)]:
             yield kind, body.file, body.name, what
-        for what, pattern in ALONE.items() if body.crate == "gm_graph" else ():
+        for what, pattern in ALONE.get(body.crate, {}).items():
             yield from (("alone", body.file, body.name, what) for _ in re.findall(pattern, body.text))
     for body, kind, what in size_rows(bodies):
         yield kind, body.file, body.name, what
