@@ -49,7 +49,7 @@ TOLD = re.compile(r"\b(?:cycle|repeat\w*|from_fn|successors)\(|(?:(?!\w+::MAX\b)
 WIDTH = re.compile(r"\b(?:format|write|writeln)!\((?:[^\"]*)\"[^\"]*\{\w*:[^}\"]*(?:\$|\*|\d\d)")
 LOOP = re.compile(r"\b(?:while|loop)\b[^{;]*\{|\bfor [^{;]*\.\.(?![^{;]*len\(\))[^{;]*\{")
 ALONE = {
-    "gm_graph_cache": {"makes-a-Lent": r"\bLent(?:::at\(| \{)", "appends-a-turn": r"(?:\.|TurnHistory::)and\(",
+    "gm_graph_cache": {"makes-a-Lent": r"\bLent(?:::at\(| \{)", "appends-a-turn": r"\bturns\.with\(",
                        "lends": r"\blend_at\("},
     "gm_graph": {"asks-by-name": r"\b(?:known|lend)\("},
 }

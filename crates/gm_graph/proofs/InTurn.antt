@@ -15,7 +15,7 @@ use Rattle.gm_graph.specs.declared.followed.Followed.{Followed}
 use Rattle.gm_graph.specs.declared.worklist.Worklist.{Worklist}
 use Rattle.gm_graph.specs.declared.worklist.NumberedTurn.{NumberedTurn}
 use Rattle.gm_graph.specs.Private.Asking.{AsksInTurn}
-use Rattle.gm_graph_cache.specs.Asking.{AsksOne, IsAskableFile}
+use Rattle.gm_graph_cache.specs.Asking.{AsksFor, AsksOne, IsAskableFile}
 use Rattle.gm_graph.specs.Private.Worklists.{turn_of, turns_of}
 use Rattle.gm_graph_cache.specs.Cached.{main_in, module_numbered, run_in, sums_in, table_in, turns_in}
 use Rattle.gm_graph_cache.specs.Reading.{file_of, is_askable}
@@ -26,7 +26,7 @@ use Rattle.gm_graph_cache.specs.Turns.{turn}
 use Rattle.gm_graph.specs.Private.Turns.{Visits}
 use Rattle.gm_graph.specs.Private.Visiting.{OverflowsAt}
 use Rattle.gm_graph_cache.proofs.AskedFile.{asks_for, lacks_still}
-use Rattle.gm_graph.proofs.Dues.{AddsFile, says_still}
+use Rattle.gm_graph_cache.proofs.Sayings.{says_asked}
 use Rattle.gm_graph.proofs.FoundFiles.{same_module}
 use Rattle.gm_graph_cache.proofs.NumberedModules.{number_below}
 use Rattle.gm_graph.proofs.Growing.{turns_over}
@@ -84,11 +84,11 @@ module _ {main : Main} {sums : Option Sums} {cache : Cache} {worklist : Worklist
     needed = (vertex, opened_from earlier vertex one.depth takes, is, askable);
   }
 
-  adds_file : AddsFile main old.asked new.asked vertex
+  adds_file : AsksFor main old new vertex
   adds_file = rw⁻¹ state.main_is (asks_for (main_in cache) vertex asks)
 
   keeps : KeepsSayings earlier later
-  keeps = says_still main sums old.asked new.asked vertex adds_file
+  keeps = says_asked main sums old new vertex adds_file
 
   still_takes : TakesTurn later vertex one.depth
   still_takes = takes_kept old.asked new.asked keeps vertex one.depth takes

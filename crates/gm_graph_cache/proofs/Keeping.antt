@@ -1,5 +1,5 @@
 -- What stays when more is asked for, and when a cache returns requirements.
-use Rattle.std.proofs.Common.{◌≡◌, ◌∙◌, List, [], ◌∷◌, ◌++◌, Option, Some, None, Result, Ok, Err, append-nil, arith, inl, inr, length, length-append, sym, ap, refl}
+use Rattle.std.proofs.Common.{◌≡◌, ◌∙◌, List, [], ◌++◌, Option, Some, None, Result, Ok, Err, append-nil, arith, length, length-append, sym, ap, refl}
 use Rattle.std.specs.Prelude.{IsErrAnd, OnErr}
 use Rattle.std.specs.Option.{option_and_then}
 use Rattle.gm_store.specs.Asked.{Name, Reply}
@@ -26,7 +26,7 @@ use Rattle.gm_graph_cache.specs.Refusals.{refused_in, refused_names}
 use Rattle.gm_graph_cache.specs.declared.cache.load_fault.LoadFault.{LoadFault}
 use Rattle.gm_graph_cache.specs.declared.cache.load_fault.LoadFault.TheVariants as load
 use Rattle.gm_graph_cache.proofs.PuttingPlaces.{same_files}
-use Rattle.gm_graph_cache.proofs.Sayings.{says_more}
+use Rattle.gm_graph_cache.proofs.Sayings.{says_asked, says_more}
 use Rattle.gm_graph_cache.proofs.SharedLists.{own_still}
 use Rattle.gm_graph_cache.proofs.HeldFiles.{grown_held}
 
@@ -46,10 +46,8 @@ says_later old new pairs more all main sums asked x said says =
 -- So it does after the file of a vertex was asked for, or nothing.
 pub says_still : (old new : Cache) (before after : StoreState) (x : ModuleVersion) → LentSame old new → AsksFor (main_in old) before after x
     → KeepsSayings (run_in old before.asked) (run_in new after.asked)
-says_still old new before after x lent (inl same) =
-    says_later old new before.asked [] after.asked lent.main lent.sums (same ∙ sym (append-nil before.asked))
-says_still old new before after x lent (inr asked) =
-    says_later old new before.asked ((file_of (main_in old) x, asked.2.0) ∷ []) after.asked lent.main lent.sums asked.2.1
+says_still old new before after x lent asks y said says =
+    rw (lent.main, lent.sums) (says_asked (main_in old) (sums_in old) before after x asks y said says)
 
 -- ---- places stay
 

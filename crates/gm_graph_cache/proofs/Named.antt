@@ -9,7 +9,7 @@ use Rattle.gm_graph_cache.specs.declared.cache.Cache.{Cache}
 use Rattle.gm_graph_cache.specs.declared.cache.by_name.Known.{Known}
 use Rattle.gm_graph_cache.specs.declared.cache.by_name.Known.TheVariants as known
 use Rattle.gm_graph_cache.specs.declared.cache.depth.Turn.{Turn}
-use Rattle.gm_graph_cache.specs.Cached.{HasMoreTurns, HasSoundFile, IsKnownAs, IsLenderNamed, IsSound, Knows, KnowsLender, file_known, held_of, main_in, run_in, summary_at}
+use Rattle.gm_graph_cache.specs.Cached.{HasMoreTurns, HasTurns, HasSoundFile, IsKnownAs, IsLenderNamed, IsSound, Knows, KnowsLender, file_known, held_of, main_in, run_in, summary_at}
 use Rattle.gm_graph_cache.specs.declared.cache.summary.Kept.{Kept}
 use Rattle.gm_graph_cache.specs.declared.cache.summary.Kept.TheVariants.{Valid, Faulty}
 use Rattle.gm_graph_cache.specs.FileTable.{place_of}
@@ -60,7 +60,7 @@ named_known run x (known.Sound name) is = is
 
 -- ---- what stays
 
-lender_by : {old new : Cache} {more : List Turn} (x : ModuleVersion) (name : Option Name) → HasMoreTurns old new more → KnowsLender old x name
+lender_by : {old new : Cache} {all : List Turn} (x : ModuleVersion) (name : Option Name) → HasTurns old new all → KnowsLender old x name
     → KnowsLender new x name
 lender_by {old} {new} x name has lender pairs knows =
     let run : run_in new pairs ≡ run_in old pairs = same_run old new pairs has.holds.main has.holds.sums in

@@ -1,5 +1,5 @@
 -- What modules' files say: one thing, which stays when more is asked for.
-use Rattle.std.proofs.Common.{◌≡◌, ◌↔◌, ◌∙◌, ◌++◌, ◌∷◌, [], cond, true, false, List, Option, Some, Result, Ok, Err, Contains, ap, if◌then◌else◌, refl, sym}
+use Rattle.std.proofs.Common.{◌≡◌, ◌↔◌, ◌∙◌, ◌++◌, ◌∷◌, [], cond, true, false, List, Option, Some, Result, Ok, Err, Contains, ap, if◌then◌else◌, refl, sym, inl, inr}
 use Rattle.std.specs.Option.{option_or}
 use Rattle.std.proofs.lemmas.Bool.{false≢true}
 use Rattle.std.proofs.lemmas.Option.{same_Some}
@@ -8,9 +8,11 @@ use Rattle.gm_file.specs.Directives.{Right}
 use Rattle.gm_file.specs.Fields.{Dependency}
 use Rattle.gm_file.specs.Main.{Main, replacement_in, without_excluded}
 use Rattle.gm_store.specs.Asked.{Name, Reply, answer_in, same_name}
+use Rattle.gm_store.specs.States.{StoreState}
 use Rattle.gm_store_sums.specs.Sums.{Sums}
 use Rattle.gm_graph_cache.specs.declared.cache.class.Class.{Class}
 use Rattle.gm_graph_cache.specs.declared.cache.class.Class.TheVariants.{WrongPath}
+use Rattle.gm_graph_cache.specs.Asking.{AsksFor}
 use Rattle.gm_graph_cache.specs.Reading.{file_of, is_right_path}
 use Rattle.gm_graph_cache.specs.Sayings.{FileSays, KeepsSayings, Requires, Run, Says, answered, faulty, run_of, sound, unaskable, wrong_path}
 use Rattle.gm_graph_cache.proofs.OneReading.{one_reading}
@@ -99,6 +101,12 @@ module _ (main : Main) (sums : Option Sums) (pairs more : List (Name × Reply)) 
 
   pub says_more : KeepsSayings (run_of main sums pairs) (run_of main sums (pairs ++ more))
   says_more x said says = says_if refl (λ read is. file_still is) says
+
+-- So it does after the file of a module was asked for, or nothing.
+pub says_asked : (main : Main) (sums : Option Sums) (old new : StoreState) (x : ModuleVersion) → AsksFor main old new x
+    → KeepsSayings (run_of main sums old.asked) (run_of main sums new.asked)
+says_asked main sums old new x (inl same) = λ y said says. rw same says
+says_asked main sums old new x (inr asked) = rw asked.2.1 (says_more main sums old.asked ((file_of main x, asked.2.0) ∷ []))
 
 -- ---- what is known stays
 

@@ -126,12 +126,16 @@ pub record LentSame (old new : Cache) : Type 0 where
   pub sums : sums_in new ≡ sums_in old
   pub turns : turns_in new ≡ turns_in old
 
--- The list has these turns more at its end, and nothing else is new: no more modules have numbers.
-pub record HasMoreTurns (old new : Cache) (more : List Turn) : Type 0 where
-  pub turns : turns_in new ≡ turns_in old ++ more
+-- These are the turns, and nothing else is new: no more modules have numbers.
+pub record HasTurns (old new : Cache) (all : List Turn) : Type 0 where
+  pub turns : turns_in new ≡ all
   pub holds : HoldsSame old new
   pub modules : new.modules ≡ old.modules
   pub files : new.files ≡ old.files
+
+-- The list has these turns more at its end, and nothing else is new.
+abbrev pub HasMoreTurns : Cache → Cache → List Turn → Type 0
+HasMoreTurns old new more = HasTurns old new (turns_in old ++ more)
 
 -- Once the borrow of the requirements ends, the cache has one more turn. If the call was refused, it has the same.
 abbrev pub LendsNamed : {T E : Type 0} → MutBor Cache → Turn → Result T E → Fml

@@ -188,7 +188,7 @@ impl<'a> Cache<'a> {
     ghost use Rattle.std.specs.Borrow.{sem};
     ghost use Rattle.std.specs.List.{IsDistinct};
     ghost use Rattle.gm_name.specs.ModuleVersion.{pair_eq};
-    ghost use Rattle.gm_graph_cache.specs.Cached.{HasMoreTurns, HoldsSame, Knows, LentSame, file_count, main_in, run_in, sums_in, table_in, turns_in, ArePartsOf, Follows, HasFailedOn, HoldsAfterBorrow, module_numbered};
+    ghost use Rattle.gm_graph_cache.specs.Cached.{HasTurns, HoldsSame, Knows, LentSame, file_count, main_in, run_in, sums_in, table_in, turns_in, ArePartsOf, Follows, HasFailedOn, HoldsAfterBorrow, module_numbered};
     ghost use Rattle.gm_graph_cache.specs.Private.Cached.{IsPlaceFor};
     ghost use Rattle.gm_graph_cache.specs.Lent.{lent_table};
     ghost use Rattle.gm_graph_cache.specs.declared.cache.Cache.{Cache};
@@ -352,20 +352,20 @@ impl<'a> Cache<'a> {
         }
     }
 
-    /// Lends what the file at a place requires, without the excluded ones, and appends a turn. For a vertex with a fault
-    /// there is no place, and nothing is required.
+    /// Lends what the file at a place requires, without the excluded ones, and takes this list of turns. For a vertex with
+    /// a fault there is no place, and nothing is required.
     ///
-    /// All that is lent of a vertex is lent here, and a turn is appended here alone. The call takes the number of a place,
-    /// since a vertex itself may have none.
-    pub(crate) fn lend_at(&mut self, place: Option<u32>, turn: TurnHistory) -> Lent<'_>
+    /// All that is lent of a vertex is lent here, and no other call changes the list of turns. The call takes the number of
+    /// a place, since a vertex itself may have none.
+    pub(crate) fn lend_at(&mut self, place: Option<u32>, turns: TurnHistory) -> Lent<'_>
         requires place { IfSome place (λ place. place < file_count self.old) }
         ensures modules { lent_modules result ≡ at_span (modules_of self.old.modules)
             (span_found (option_and_then (slice_get self.old.files.files.items) place)) }
         ensures table { lent_table result ≡ table_in self.old }
-        ensures* after { sem 𝓛 (HoldsAfterBorrow self.entry (λ end. HasMoreTurns self.entry.now end turn.items)) }
+        ensures* after { sem 𝓛 (HoldsAfterBorrow self.entry (λ end. HasTurns self.entry.now end turns.items)) }
     {
         let span = self.files.span_of(place);
-        self.turns = self.turns.and(&turn);
+        self.turns = turns;
         Lent::at(&self.modules, span)
     }
 
@@ -401,8 +401,8 @@ impl<'a> Cache<'a> {
         let place = self.known_at(files, number)?;
         // This is read first, since a reference that one branch alone borrows is not covered by the borrow checker.
         let verdict = self.verdict(number, depth, place);
-        let turn = TurnHistory::of(self.modules.module(number), &depth);
-        let list = self.lend_at(verdict.file(), turn);
+        let turns = self.turns.with(self.modules.module(number), &depth);
+        let list = self.lend_at(verdict.file(), turns);
         Ok(Visit::of(verdict, list))
     }
 

@@ -20,7 +20,6 @@ use crate::cache::depth::Depth;
 use crate::cache::lent::Lent;
 use crate::cache::load_fault::LoadFault;
 use crate::cache::naming::file_name;
-use crate::cache::turn_history::TurnHistory;
 use crate::cache::visit::Verdict;
 use gm_name::{ModVer, NoMemory};
 use gm_store::{Asks, FileName};
@@ -130,7 +129,7 @@ impl<'a> Cache<'a> {
         ensures* after { sem 𝓛 (LendsNamed self.entry (turn vertex.now depth) result) }
     {
         let place = self.lender(vertex, name);
-        let turn = TurnHistory::of(vertex, &depth);
-        Ok(self.lend_at(place, turn))
+        let turns = self.turns.with(vertex, &depth);
+        Ok(self.lend_at(place, turns))
     }
 }

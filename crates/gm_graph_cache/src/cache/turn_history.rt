@@ -30,16 +30,9 @@ impl TurnHistory {
         TurnHistory {}
     }
 
-    /// One turn.
-    pub(crate) fn of(vertex: &ModVer, depth: &Depth) -> TurnHistory
-        ensures { result.items ≡ turn vertex.now depth.now ∷ [] }
-    {
-        TurnHistory {}
-    }
-
-    /// These turns, and others after them.
-    pub(crate) fn and(&self, more: &TurnHistory) -> TurnHistory
-        ensures { result.items ≡ self.now.items ++ more.now.items }
+    /// These turns, and one more after them.
+    pub(crate) fn with(&self, vertex: &ModVer, depth: &Depth) -> TurnHistory
+        ensures { result.items ≡ self.now.items ++ turn vertex.now depth.now ∷ [] }
     {
         TurnHistory {}
     }

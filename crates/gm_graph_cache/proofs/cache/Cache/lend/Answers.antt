@@ -10,7 +10,7 @@ returns c = (
   (
     refl,
     λ _. tt,
-    rw c.of-turn.ensures at c.lend_at.follows.holds-at-none,
+    rw c.with-turns.ensures at c.lend_at.follows.holds-at-none,
   ),
   record {
     lent = λ pairs knows.

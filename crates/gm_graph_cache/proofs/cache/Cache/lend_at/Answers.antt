@@ -13,7 +13,7 @@ returns c =
         refl,
         λ _. tt,
         record {
-          turns = c.and-self.ensures;
+          turns = refl;
           holds = holds_beside cache _ refl refl refl refl;
           modules = refl;
           files = refl;

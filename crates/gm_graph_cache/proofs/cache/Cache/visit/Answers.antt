@@ -1,9 +1,8 @@
-use Rattle.std.proofs.Common.{◌∙◌, ◌++◌, ◌∷◌, [], ℕ, List, Option, ap, length, refl}
+use Rattle.std.proofs.Common.{◌∙◌, ◌++◌, ◌∷◌, [], ℕ, Option, ap, length, refl}
 use Rattle.gm_name.specs.ModuleVersion.{ModuleVersion}
 use Rattle.gm_name_table.specs.Listed.{NumberedList, modules_of}
-use Rattle.gm_graph_cache.specs.declared.cache.depth.Turn.{Turn}
 use Rattle.gm_graph_cache.specs.declared.cache.file_table.FileTable.{FileTable}
-use Rattle.gm_graph_cache.specs.Cached.{run_in, module_numbered}
+use Rattle.gm_graph_cache.specs.Cached.{HoldsSame, module_numbered, run_in}
 use Rattle.gm_graph_cache.specs.Visits.{IsVisit}
 use Rattle.gm_graph_cache.specs.Summaries.{at_span}
 use Rattle.gm_graph_cache.specs.Turns.{turn}
@@ -36,13 +35,21 @@ returns g c =
     rw c.of.ensures (visit_got mid after number d c.verdict-verdict.result c.lend_at-list.result made.knows (c.verdict-verdict.ensures after made.knows)
     (c.lend_at-list.ensures.modules ∙ ap (λ (p : Option ℕ). at_span (modules_of mid.modules) (span_at mid p)) c.file.ensures)
     c.lend_at-list.ensures.table) in
-    let table = ap (λ (list : NumberedList). list.modules) has.modules in (
+    let table = ap (λ (list : NumberedList). list.modules) has.modules in
+    let holds : HoldsSame mid end = record {
+      main = has.holds.main;
+      sums = has.holds.sums;
+      held = has.holds.held;
+      numbered = has.holds.numbered;
+      sound = λ run x place at. has.holds.sound run x place
+          (record { within = at.within; span = at.span; own = at.own; listed = at.listed; file = at.file; says = at.says });
+    } in (
       (
         refl,
         λ _. tt,
-        has_visited old mid end before after made has.holds table number d c.of.result c.requires.vertex
+        has_visited old mid end before after made holds table number d c.of.result c.requires.vertex
             known.count (ap (λ (files : FileTable). length files.files.items) has.files) known.lent.turns
-            (has.turns ∙ ap (λ (ts : List Turn). mid.turns.items ++ ts) (c.of-turn.ensures ∙ ap (λ (x : ModuleVersion). turn x d ∷ []) c.module.ensures.module))
+            (has.turns ∙ c.with-turns.ensures ∙ ap (λ (x : ModuleVersion). mid.turns.items ++ turn x d ∷ []) c.module.ensures.module)
             (rw table c.module.ensures.distinct) got,
       ),
       record {
