@@ -28,7 +28,7 @@ import completions
 import script
 from script import checksum, read
 
-MAN, HINTS, MANUAL = "share/man/gomod.1", "crates/gomod_words/src/hints.rt", "docs/use/COMMANDS.md"
+MAN, HINTS, MANUAL = "share/man/gomod.1", "crates/gomod_hints/src/hints.rt", "docs/use/COMMANDS.md"
 # what these and all help say, when they were last read beside one another: who changes one reads them again
 READ = "ovqsmptl"
 BASH, ZSH, FISH = (f"share/completions/{it}" for it in ("gomod.bash", "_gomod", "gomod.fish"))

@@ -2,7 +2,7 @@
 in one of specs/, over all crates. A string is a name with or without its dashes or its `=`; longer texts, such as help,
 aren't looked at, but for help's list of operations, which has those that there are.
 
-Each row of the tables of hints (src/hints.rt of gomod_words) has a command in tips.txt or words.txt: with one of its
+Each row of the tables of hints (src/hints.rt of gomod_hints) has a command in tips.txt or words.txt: with one of its
 names, or with any word for a form (`*.mod`), and with its text as the tip. Each command of gomod that a tip shows, up
 to a `|` or `>`, prints in one of them, with some word in the place of PATH and the like.
 """
@@ -24,7 +24,7 @@ TABLES = {
         "gm_operation/specs/Operations.antt": r'\(codes "(\w+)", op\.',
     },
 }
-HELP, HINTS = "gomod_words/src/help.rt", "gomod_words/src/hints.rt"
+HELP, HINTS = "gomod_words/src/help.rt", "gomod_hints/src/hints.rt"
 # what stands for a word in the command that a tip shows
 PLACE = r"\b(PATH|VERSION|FOLDER|FILE|DIR|OP)\b"
 # files in which these words are something else: directives of a go.mod file, and the option that a message is about

@@ -4,6 +4,5 @@ mod EntriesFaults
 mod Exclusion
 mod Faults
 pub mod GivenWords
-mod HintWords
 mod Limits
 mod UsageLines

@@ -5,13 +5,13 @@ use Rattle.std.specs.Str.Pattern.{FindsText, SplitsAroundMatch}
 use Rattle.std.specs.Prelude.{String}
 use Rattle.std.specs.Global.{Global}
 use Rattle.clap.specs.Walk.{Row, Text}
-use Rattle.gomod_words.specs.Hints.{texts_of}
+use Rattle.gomod_hints.specs.Hints.{texts_of}
 use Rattle.gomod_words.specs.Usage.{HasHintOf, HasNoTip, IsInAWord, IsLineOn, ShowsLine, ShowsUsage, is_line_or_memory, usage_of, usage_text}
 use Rattle.gomod_words.specs.Private.Usage.{IsEntriesFault, IsLineOf}
 use Rattle.gomod_words.specs.declared.table.CommandName.{CommandName}
 use Rattle.gomod_words.specs.declared.usage.UsageFault.{UsageFault}
 use Rattle.gomod_words.specs.declared.usage.UsageFault.TheVariants.{NoMemory, Help, Version, Line, BadPath, BadProxy}
-use Rattle.gomod_words.proofs.HintWords.{map_at}
+use Rattle.gomod_hints.proofs.HintWords.{map_at}
 
 -- a usage error of words with a message that has no tip shows what it must
 pub line_shows : (words : List Text) (message : List ℕ) (fault : UsageFault) → IsLineOn words message fault → HasNoTip words message → ShowsLine words fault

@@ -6,13 +6,9 @@ use Rattle.std.specs.Str.{bytes_eq}
 use Rattle.clap.specs.Lexer.{without_minus}
 use Rattle.clap.specs.Walk.{Text}
 use Rattle.gm_operation.specs.Operations.{operation_named, split_at_byte}
+use Rattle.gomod_hints.specs.Hints.{begins_with_dash}
 use Rattle.gomod_words.specs.Table.{name_in}
 use Rattle.gomod_words.specs.declared.table.CommandName.TheVariants.{Edit}
-
--- the word begins with a dash (45) and is more than that
-abbrev pub begins_with_dash : Text → Bool
-begins_with_dash (first ∷ second ∷ rest) = first == 45
-begins_with_dash _ = false
 
 -- the text is the name of an operation, `=` (61) and what follows
 abbrev pub is_operation : Text → Bool

@@ -1,5 +1,4 @@
 -- What only the code's own contracts and proofs say: no public contract reaches it.
 pub mod Given
-pub mod Hints
 pub mod Made
 pub mod Usage

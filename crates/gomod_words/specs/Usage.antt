@@ -18,7 +18,7 @@ use Rattle.gm_name.specs.Path.{IsPath}
 use Rattle.gm_store.specs.Proxies.{folders_in, folders_of, is_folder, marks_in, marks_of}
 use Rattle.gm_store.specs.declared.fallback.proxy_list.ProxyList.{ProxyList}
 use Rattle.gomod_words.specs.Dashed.{dashed_in}
-use Rattle.gomod_words.specs.Hints.{IsHintOf}
+use Rattle.gomod_hints.specs.Hints.{IsHintOf}
 use Rattle.gomod_words.specs.Limits.{limit_of}
 use Rattle.gomod_words.specs.Table.{command_named, gomod_app, argument_name, usage_for}
 use Rattle.gomod_words.specs.declared.table.CommandName.{CommandName}

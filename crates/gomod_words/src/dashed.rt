@@ -4,26 +4,12 @@
 ghost use Rattle.std.specs.Prelude.{◌≡◌, is_some, map};
 ghost use Rattle.std.specs.List.{find};
 ghost use Rattle.std.specs.Option.{option_copied};
-ghost use Rattle.clap.specs.Lexer.{without_minus};
-ghost use Rattle.gomod_words.specs.Hints.{texts_of};
-ghost use Rattle.gomod_words.specs.Dashed.{begins_with_dash, dashed_in, is_operation, operation_in};
+ghost use Rattle.gomod_hints.specs.Hints.{begins_with_dash, texts_of};
+ghost use Rattle.gomod_words.specs.Dashed.{dashed_in, is_operation, operation_in};
 
 use crate::table::EDIT;
 use gm_operation::OperationKind;
-
-/// Whether a word begins with a dash and is more than that.
-pub(crate) fn begins_with_dash(word: &str) -> bool
-    ensures { result ≡ begins_with_dash word.now }
-{
-    matches!(word.as_bytes(), [b'-', _, ..])
-}
-
-/// The word without a first dash.
-pub(crate) fn without_dash(word: &str) -> &str
-    ensures { result.now ≡ without_minus word.now }
-{
-    word.strip_prefix('-').unwrap_or(word)
-}
+use gomod_hints::{begins_with_dash, without_dash};
 
 /// Whether a text begins with the name of an operation and `=`.
 fn is_operation(text: &str) -> bool

@@ -13,7 +13,6 @@ mod command;
 mod dashed;
 mod given;
 mod help;
-mod hints;
 pub mod laws;
 mod query;
 mod refusal;

@@ -2,13 +2,13 @@
 //! text has words in it, as they were typed.
 
 ghost use Rattle.std.specs.Prelude.{◌≡◌, true};
-ghost use Rattle.std.specs.Str.Iter.{HasSubslice};
-ghost use Rattle.gomod_words.specs.Hints.{texts_of};
+ghost use Rattle.gomod_hints.specs.Hints.{texts_of};
 ghost use Rattle.gomod_words.specs.Usage.{IsInAWord};
 
 use crate::help::TRY_HELP;
 use crate::table::{command_in, command_row, usage_of};
 use clap::error::ErrorKind;
+use gomod_hints::has_text;
 
 /// What stands between a message and its tips.
 pub(crate) const TIP: &str = "\n\n  tip: ";
@@ -97,11 +97,4 @@ pub(crate) fn is_within(text: &str, words: &[&str]) -> bool
         }
     }
     false
-}
-
-/// Whether a word has this text in it.
-pub(crate) fn has_text(word: &str, text: &str) -> bool
-    ensures { result ≡ true → HasSubslice word.now text.now }
-{
-    word.contains(text)
 }

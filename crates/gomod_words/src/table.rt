@@ -2,7 +2,7 @@
 //! Operations are named in the crate gm_operation.
 
 ghost use Rattle.std.specs.Prelude.{◌≡◌};
-ghost use Rattle.gomod_words.specs.Hints.{texts_of};
+ghost use Rattle.gomod_hints.specs.Hints.{texts_of};
 ghost use Rattle.gomod_words.specs.Private.Made.{rule_in};
 ghost use Rattle.gomod_words.specs.Table.{arguments_in, command_named, name_in, rule_for, usage_for};
 ghost use Rattle.gomod_words.specs.Usage.{usage_line, usage_of};
@@ -76,6 +76,11 @@ pub(crate) fn command_in(words: &[&str]) -> Option<CommandName> {
         [_, name, ..] => command_named(name),
         _ => None,
     }
+}
+
+/// Whether operations may stand in these words: after `edit`, and in the place of a command.
+pub(crate) fn takes_operations(words: &[&str]) -> bool {
+    matches!(command_in(words), None | Some(CommandName::Edit))
 }
 
 /// An argument of a command.

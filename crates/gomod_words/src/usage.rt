@@ -6,19 +6,19 @@ ghost use Rattle.clap.specs.Words.{all_of, found_of};
 ghost use Rattle.std.specs.Char.Escape.{escape_ascii};
 ghost use Rattle.std.specs.String.{string_bytes};
 ghost use Rattle.gomod_words.specs.Usage.{HasHintOf, HasNoTip, IsBadPath, IsBadProxy, IsLineOn, IsOneFile, IsProxy, IsVersionLine, ShowsLine, dashed_message, given, has_value, is_line_or_memory, shown_bytes, texts_in, unreadable_text, usage_text};
-ghost use Rattle.gomod_words.specs.Hints.{texts_of};
+ghost use Rattle.gomod_hints.specs.Hints.{texts_of};
 ghost use Rattle.gomod_words.specs.Private.Usage.{IsFaultIn, IsFaultWith, IsLineOf, IsReadOf, entries, none};
 ghost use Rattle.gomod_words.specs.Table.{argument_name};
 ghost use Rattle.gm_name.specs.Path.{IsPath};
 ghost use Rattle.gomod_words.specs.declared.usage.UsageFault.TheVariants.{NoMemory};
 
 use crate::help::{GOMOD_USAGE, TRY_HELP, VERSION};
-use crate::hints::hint_for;
 use crate::refusal::{TIP, is_within};
-use crate::table::{Argument, CommandName, argument_row, usage_of};
+use crate::table::{Argument, CommandName, argument_row, takes_operations, usage_of};
 use clap::ArgMatches;
 use gm_name::{ModPath, PathFault};
 use gm_store::{ProxyFault, ProxyList};
+use gomod_hints::hint_for;
 use std::alloc::{AllocError, Global};
 use thiserror::Error;
 
@@ -359,7 +359,7 @@ fn with_hint(
 ) -> Result<String, AllocError>
     ensures { IfOk result (λ text. HasHintOf (texts_of words.now) message.now (string_bytes text)) }
 {
-    let hint = hint_for(alloc, about, words)?;
+    let hint = hint_for(alloc, takes_operations(words), about, words)?;
     match hint {
         Some(hint) => {
             let text = format!(in alloc; "{message}{TIP}{hint}")?;

@@ -3,7 +3,7 @@
 
 ghost use Rattle.std.specs.Prelude.{◌≡◌, IfErr, IfOk, true};
 ghost use Rattle.clap.specs.Words.{subcommand_rows_of};
-ghost use Rattle.gomod_words.specs.Hints.{texts_of};
+ghost use Rattle.gomod_hints.specs.Hints.{texts_of};
 ghost use Rattle.gomod_words.specs.Private.Usage.{IsEntriesFault, IsFaultIn, IsParserFault, IsReadOf};
 ghost use Rattle.gomod_words.specs.Usage.{AskFor, IsFaultOf, IsMeant, ShowsLine, ShowsUsage, entered};
 

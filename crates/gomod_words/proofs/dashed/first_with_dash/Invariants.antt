@@ -1,6 +1,6 @@
 use Rattle.std.proofs.Common.{◌≡◌, drop, map}
 use Rattle.std.specs.List.{find}
-use Rattle.gomod_words.specs.Dashed.{begins_with_dash}
+use Rattle.gomod_hints.specs.Hints.{begins_with_dash}
 use Rattle.gomod_words.proofs.dashed.first_with_dash.Given as goal
 
 -- the word is among those that are left

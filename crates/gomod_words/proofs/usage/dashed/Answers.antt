@@ -1,5 +1,5 @@
 use Rattle.std.proofs.Common.{◌∙◌, ℕ, List, subst}
-use Rattle.gomod_words.specs.Hints.{texts_of}
+use Rattle.gomod_hints.specs.Hints.{texts_of}
 use Rattle.gomod_words.specs.Usage.{IsLineOn}
 use Rattle.gomod_words.proofs.usage.dashed.Goals as goal
 

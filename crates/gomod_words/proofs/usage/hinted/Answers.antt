@@ -1,4 +1,4 @@
-use Rattle.gomod_words.specs.Hints.{texts_of}
+use Rattle.gomod_hints.specs.Hints.{texts_of}
 use Rattle.gomod_words.proofs.UsageLines.{line_on}
 use Rattle.gomod_words.proofs.usage.hinted.Goals as goal
 

@@ -1,0 +1,9 @@
+-- What a look-up has and says.
+use Rattle.std.specs.Prelude.{List, map}
+use Rattle.std.specs.Borrow.{Bor}
+use Rattle.clap.specs.Walk.{Text}
+use Rattle.gomod_hints.specs.Hints.{Rows}
+
+-- the rows of a table, as texts
+abbrev pub rows_in : List (Bor (List (Bor Text)) × Bor Text) → Rows
+rows_in rows = map (λ row. (map (λ name. name.now) row.0.now, row.1.now)) rows

@@ -1,8 +1,0 @@
-use Rattle.gomod_words.specs.Hints.{IsHintFor, IsHintOf, texts_of}
-use Rattle.gomod_words.proofs.HintWords.{says_too}
-use Rattle.gomod_words.proofs.hints.hint_for.Goals as goal
-
-pub returns-in-Some : goal.returns-in-Some
-returns-in-Some c =
-    let word = c.in-Some.word.now in
-    says_too (IsHintFor word) (IsHintOf (texts_of c.args.words.now)) (λ text said. (word, rw c.in-Some.is at c.word_about.ensures, said)) c.hint_on.result c.hint_on.ensures

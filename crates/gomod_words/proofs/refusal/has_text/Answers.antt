@@ -1,5 +1,0 @@
-use Rattle.std.proofs.lemmas.Str.Pattern.{contains_text}
-use Rattle.gomod_words.proofs.refusal.has_text.Goals as goal
-
-pub returns : goal.returns
-returns c = (contains_text c.contains.result c.args.text.now c.args.word.now c.contains.ensures.cases).0
