@@ -39,7 +39,7 @@ fn arguments<'a>(alloc: Global, arguments: &[Argument]) -> Result<Vec<Arg<'a>>, 
 {
     let mut made = Vec::new(alloc);
     for each in arguments {
-        made.push(argument(alloc, &argument_row(*each)))?;
+        made.push(argument(alloc, argument_row(*each)))?;
     }
     Ok(made)
 }

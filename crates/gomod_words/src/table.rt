@@ -168,23 +168,26 @@ macro_rules! row {
     };
 }
 
+/// What the parser is told of each argument, in the order of `Argument`.
+static ARGUMENT_ROWS: [ArgumentRow; 11] = [
+    row!("file", Form::Operand, true, "FILE", help::FMT_FILE),
+    row!("file", Form::Operand, true, "FILE", help::EDIT_FILE),
+    row!("op", Form::Operands, true, "OP", help::OPERATION),
+    row!("path", Form::Operand, true, "PATH", help::PATH),
+    row!("proxy", Form::Option, false, "DIR", help::PROXY),
+    row!("proxy", Form::Option, true, "DIR", help::PROXY),
+    row!("mod", Form::Default("go.mod"), false, "FILE", help::MOD),
+    row!("sum", Form::Option, false, "FILE", help::SUM),
+    row!("after", Form::Option, false, "PATH", help::AFTER),
+    row!("limit", Form::Option, false, "N", help::LIMIT),
+    row!("retracted", Form::Flag, false, "", help::RETRACTED),
+];
+
 /// What the parser is told of an argument.
-pub(crate) fn argument_row(argument: Argument) -> ArgumentRow
-    ensures { rule_in result ≡ rule_for argument }
+pub(crate) fn argument_row(argument: Argument) -> &'static ArgumentRow
+    ensures { rule_in result.now ≡ rule_for argument }
 {
-    match argument {
-        Argument::FmtFile => row!("file", Form::Operand, true, "FILE", help::FMT_FILE),
-        Argument::EditFile => row!("file", Form::Operand, true, "FILE", help::EDIT_FILE),
-        Argument::Operations => row!("op", Form::Operands, true, "OP", help::OPERATION),
-        Argument::Path => row!("path", Form::Operand, true, "PATH", help::PATH),
-        Argument::Proxy => row!("proxy", Form::Option, false, "DIR", help::PROXY),
-        Argument::RequiredProxy => row!("proxy", Form::Option, true, "DIR", help::PROXY),
-        Argument::Mod => row!("mod", Form::Default("go.mod"), false, "FILE", help::MOD),
-        Argument::Sum => row!("sum", Form::Option, false, "FILE", help::SUM),
-        Argument::After => row!("after", Form::Option, false, "PATH", help::AFTER),
-        Argument::Limit => row!("limit", Form::Option, false, "N", help::LIMIT),
-        Argument::Retracted => row!("retracted", Form::Flag, false, "", help::RETRACTED),
-    }
+    &ARGUMENT_ROWS[argument as usize]
 }
 
 /// The row of a command.

@@ -7,6 +7,6 @@ use Rattle.gomod_words.proofs.usage.value_of.Goals as goal
 
 pub returns : goal.returns
 returns c =
-    let name = c.argument_row.result.name.now in
+    let name = c.argument_row.result.now.name.now in
     c.get_str.ensures ∙ first_value-rows (found_of c.args.found.now) name
-    ∙ ap (λ (n : Text). first_of n (rows_of (found_of c.args.found.now))) (row_name c.argument_row.result _ c.argument_row.ensures)
+    ∙ ap (λ (n : Text). first_of n (rows_of (found_of c.args.found.now))) (row_name c.argument_row.result.now _ c.argument_row.ensures)
