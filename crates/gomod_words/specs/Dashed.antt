@@ -1,5 +1,5 @@
 -- Operations of `edit` that are written with a dash in front, as after `go mod edit`.
-use Rattle.std.specs.Prelude.{◌==◌, ◌∷◌, if◌then◌else◌, Bool, false, List, Option, Some, None, is_some}
+use Rattle.std.specs.Prelude.{◌∷◌, if◌then◌else◌, Bool, false, List, Option, Some, None, is_some}
 use Rattle.std.specs.List.{find}
 use Rattle.std.specs.Option.{option_and_then, option_map_or}
 use Rattle.std.specs.Str.{bytes_eq}
