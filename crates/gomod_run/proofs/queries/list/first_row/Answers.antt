@@ -1,5 +1,6 @@
-use Rattle.std.proofs.Common.{refl}
-use Rattle.gomod_run.specs.ListQuery.{path_unlisted}
+use Rattle.std.proofs.Common.{ap, refl}
+use Rattle.std.specs.Option.{option_copied}
+use Rattle.gomod_run.specs.ListQuery.{no_path, path_unlisted}
 use Rattle.gomod_run.proofs.PartOfRows.{rest_shown}
 use Rattle.gomod_run.proofs.queries.list.first_row.Goals as goal
 
@@ -11,3 +12,6 @@ returns-in-Ok-clause-printed c = λ limit.
 pub returns-in-Err-clause-told : goal.returns-in-Err-clause-told
 returns-in-Err-clause-told c = λ limit.
     rw c.in-Some.is (path_unlisted c.in-Some.path.now refl (rw c.requires.main at c.in-Err.ensures.not_listed, refl))
+
+pub returns-in_default-clause-printed : goal.returns-in_default-clause-printed
+returns-in_default-clause-printed c = λ limit. no_path (ap option_copied c.in_default.is) refl
