@@ -43,7 +43,7 @@ still_passes : (a b : Bool) → (b ≡ true → a ≡ true) → not a ≡ true �
 still_passes a true more e = absurd (false≢true (subst (λ (c : Bool). not c ≡ true) (more refl) e))
 still_passes a false more e = refl
 
-excluded_more : (first second : Main) → ((x : ModuleVersion) → Contains second.excludes x → Contains first.excludes x)
+pub excluded_more : (first second : Main) → ((x : ModuleVersion) → Contains second.excludes x → Contains first.excludes x)
     → (x : ModuleVersion) → is_excluded second x ≡ true → is_excluded first x ≡ true
 excluded_more first second excludes x is =
     (contains-tells x first.excludes (is_excluded first x) refl).1

@@ -29,7 +29,7 @@ module _ (file other : List ℕ) (sums : Option (List ℕ)) (m n : Main) (is : I
     alike = record {
       mains = subst (λ (main : Main). SayTheSame main n) (sym (one_main file again m read.main_file is)) same;
       answers = λ name. refl;
-      read = λ name reply said need at. (λ reads. reads, λ reads. reads);
+      read = λ name reply said need needs at. (λ reads. reads, λ reads. reads);
     }
 
     also_read : FilesReadAs other sums n table
@@ -38,23 +38,14 @@ module _ (file other : List ℕ) (sums : Option (List ℕ)) (m n : Main) (is : I
     same_found : (faults : List Fault) → AreFound (given_of file sums told) again table faults → AreFound (given_of other sums told) n table faults
     same_found faults found = found_to file other sums sums told again n table table alike found.settled.read also_read faults found
 
-    same_due : (name : Name) → IsDue one name → IsDue two name
-    same_due name due = due_to one two alike due.calls.read name due
-
-    same_many : AreTooMany one → AreTooMany two
-    same_many many = many_to one two alike many
-
-    same_printed : (command : Command) (outcome : Outcome) → PrintsOf command one outcome → PrintsOf command two outcome
-    same_printed command outcome shows = prints_to one two alike command outcome shows
-
   pub queries_move : QueriesMove file other sums
   queries_move command told outcome (bad_main place misread none says) = absurd (misread_or_main file place m misread is)
   queries_move command told outcome (bad_sums again report read invalid none says) = bad_sums n report also invalid none says
   queries_move command told outcome (device again table name read due failed says) =
-      device n table name (also_read told again table read) (same_due told again table read name due) failed says
+      device n table name (also_read told again table read) (due_to _ _ (alike told again table read) due.calls.read name due) failed says
   queries_move command told outcome (too_many again table read all many none says) =
-      too_many n table (also_read told again table read) all (same_many told again table read many) none says
+      too_many n table (also_read told again table read) all (many_to _ _ (alike told again table read) many) none says
   queries_move command told outcome (faulty again table first others found says) =
       faulty n table first others (same_found told again table found.read (first ∷ others) found) says
   queries_move command told outcome (no_fault again table found shows) =
-      no_fault n table (same_found told again table found.read [] found) (same_printed told again table found.read command outcome shows)
+      no_fault n table (same_found told again table found.read [] found) (prints_to _ _ (alike told again table found.read) command outcome shows)

@@ -1,14 +1,11 @@
 -- Main files that say the same name the same files, and leave the same requirements.
-use Rattle.std.proofs.Common.{◌≡◌, ◌↔◌, ◌∙◌, ◌⊎◌, Bool, true, false, not, List, [], ◌∷◌, filter, Contains, ap, refl, inl, inr}
-use Rattle.std.proofs.lemmas.Bool.{or_cases}
+use Rattle.std.proofs.Common.{◌≡◌, ◌↔◌, Bool, not, List, filter, Contains, ap, refl, sym}
 use mathlib.Core.Path.{fun_ext}
-use Rattle.std.specs.List.{list_any}
-use Rattle.std.specs.Prelude.{◌||◌}
-use Rattle.gm_name.specs.ModuleVersion.{ModuleVersion, pair_eq}
+use Rattle.gm_name.specs.ModuleVersion.{ModuleVersion}
 use Rattle.gm_name.proofs.NameTests.{same-bool}
 use Rattle.gm_file.specs.Main.{Main, is_excluded, is_pruned_by, replacement_in, without_excluded}
 use Rattle.gm_graph_cache.specs.Reading.{file_named, file_of}
-use Rattle.gm_graph_select.proofs.Ascending.{member_cases, member_head, member_tail, no_member}
+use Rattle.gomod_laws.proofs.AdditionsKept.{excluded_more}
 
 -- Two main files say the same, wherever and however often.
 pub record SayTheSame (one other : Main) : Type 0 where
@@ -33,45 +30,28 @@ says_itself main = record {
   replaced = λ x. refl;
 }
 
--- ---- lists with the same members
-
-or_true : (a b : Bool) → (a ≡ true) ⊎ (b ≡ true) → a || b ≡ true
-or_true true b e = refl
-or_true false b (inl e) = absurd cc
-or_true false b (inr e) = e
-
-any_member : (test : ModuleVersion → Bool) (xs : List ModuleVersion) → list_any test xs ≡ true → (x : ModuleVersion) × Contains xs x × (test x ≡ true)
-any_member test [] e = absurd cc
-any_member test (x ∷ xs) e = elim (or_cases (test x) (list_any test xs) e) [
-  | inl here ↦ (x, member_head x xs, here)
-  | inr later ↦ (let (y, there, holds) = any_member test xs later in (y, member_tail x y xs there, holds))
-]
-
-member_any : (test : ModuleVersion → Bool) (xs : List ModuleVersion) (x : ModuleVersion) → Contains xs x → test x ≡ true → list_any test xs ≡ true
-member_any test [] x there holds = absurd (no_member x there)
-member_any test (y ∷ xs) x there holds = elim (member_cases y x xs there) [
-  | inl is ↦ or_true (test y) (list_any test xs) (inl (ap test is ∙ holds))
-  | inr later ↦ or_true (test y) (list_any test xs) (inr (member_any test xs x later holds))
-]
-
-any_into : (test : ModuleVersion → Bool) (xs ys : List ModuleVersion)
-    → ((x : ModuleVersion) → Contains xs x → Contains ys x) → list_any test xs ≡ true → list_any test ys ≡ true
-any_into test xs ys into e = let (x, there, holds) = any_member test xs e in member_any test ys x (into x there) holds
-
-pub same_any : (test : ModuleVersion → Bool) (xs ys : List ModuleVersion)
-    → ((x : ModuleVersion) → Contains xs x ↔ Contains ys x) → list_any test xs ≡ list_any test ys
-same_any test xs ys same = same-bool (list_any test xs) (list_any test ys) (any_into test xs ys (λ x. (same x).0)) (any_into test ys xs (λ x. (same x).1))
+pub says_back : {one other : Main} → SayTheSame one other → SayTheSame other one
+says_back same = record {
+  path = sym same.path;
+  pruned = sym same.pruned;
+  required = λ x. ((same.required x).1, (same.required x).0);
+  excluded = λ x. ((same.excluded x).1, (same.excluded x).0);
+  replaced = λ x. sym (same.replaced x);
+}
 
 -- ---- files and requirements
 
-module _ (m n : Main) (same : SayTheSame m n) where
-  excluded_same : (x : ModuleVersion) → is_excluded m x ≡ is_excluded n x
-  excluded_same x = same_any (λ (y : ModuleVersion). pair_eq y x) m.excludes n.excludes same.excluded
+-- main files that name the same modules as excluded exclude the same
+pub excluded_same : (m n : Main) → ((x : ModuleVersion) → Contains m.excludes x ↔ Contains n.excludes x)
+    → (x : ModuleVersion) → is_excluded m x ≡ is_excluded n x
+excluded_same m n same x =
+    same-bool (is_excluded m x) (is_excluded n x) (excluded_more n m (λ y. (same y).0) x) (excluded_more m n (λ y. (same y).1) x)
 
+module _ (m n : Main) (same : SayTheSame m n) where
   pub without_same : (xs : List ModuleVersion) → without_excluded m xs ≡ without_excluded n xs
   without_same xs =
       let tests : (λ (x : ModuleVersion). not (is_excluded m x)) ≡ (λ (x : ModuleVersion). not (is_excluded n x)) =
-      fun_ext (λ (x : ModuleVersion). ap not (excluded_same x)) in
+      fun_ext (λ (x : ModuleVersion). ap not (excluded_same m n same.excluded x)) in
       ap (λ (test : ModuleVersion → Bool). filter test xs) tests
 
   pub files_same : (x : ModuleVersion) → file_of m x ≡ file_of n x

@@ -10,10 +10,12 @@ use Rattle.gm_store_sums.specs.Sums.{Sums}
 use Rattle.gm_graph_cache.specs.declared.cache.class.Class.{Class}
 use Rattle.gm_graph.specs.declared.fault.Fault.{Fault}
 use Rattle.gm_graph_cache.specs.Reading.{IsFileReading, file_of, is_askable, is_right_path}
-use Rattle.gm_graph.specs.Run.{AreEdges, AreFaults, AreRows, AreTooMany, IsDue, IsEdge, IsNeeded, IsOpened, IsRead, IsSettled, IsTop}
-use Rattle.gm_graph_cache.specs.Sayings.{FileSays, Run, Says, answered, faulty, run_of, sound, unaskable, wrong_path}
+use Rattle.gm_graph.specs.Run.{AreEdges, AreFaults, AreRows, AreTooMany, IsDue, IsEdge, IsFault, IsNeeded, IsOpened, IsRead, IsSettled, IsTop}
+use Rattle.gm_graph_cache.specs.Sayings.{sound, FileSays, Run, Says, answered, faulty, run_of, unaskable, wrong_path}
 use Rattle.gm_graph.proofs.RunLemmas.{RequiresToo, edge_too, many_too, opened_too}
+use Rattle.gm_graph_cache.proofs.Sayings.{says_if}
 use Rattle.gm_graph_select.specs.declared.step.Edge.{Edge}
+use Rattle.gm_graph_select.specs.declared.step.Step.{Step}
 use Rattle.gm_graph_select.specs.declared.step.Step.TheVariants.{Of}
 use Rattle.gm_graph_select.specs.BuildList.{HasEntryFor, IsBuildList, IsRestAfter, entry_of, main_entry}
 use Rattle.gm_graph.specs.Entries.{Entry}
@@ -26,17 +28,7 @@ use Rattle.gomod_run.specs.ChainQuery.{ShowsChain}
 use Rattle.gomod_run.specs.Private.ByCommand.{PrintsOf}
 use Rattle.gomod_words.specs.declared.usage.Command.{Command}
 use Rattle.gomod_words.specs.declared.usage.Command.TheVariants.{Graph, List as Rows, Chain}
-use Rattle.gomod_laws.proofs.LineOrderSame.{SayTheSame, files_same, without_same}
-
--- What a module says by the first run, it says by the second, if its file does and both main files replace it alike.
-pub says_by : (r s : Run) (x : ModuleVersion) → replacement_in r.main x ≡ replacement_in s.main x
-    → ((said : Result Dependency Class) → FileSays r (file_of r.main x) said → FileSays s (file_of s.main x) said)
-    → (said : Result Dependency Class) → Says r x said → Says s x said
-says_by r s x same file_too said (faulty {class} is) = faulty (file_too (Err class) is)
-says_by r s x same file_too said (wrong_path file is wrong) =
-    wrong_path file (file_too (Ok file) is) (subst (λ (right : Option Right). is_right_path x right file.declared ≡ false) same wrong)
-says_by r s x same file_too said (sound {file} is own) =
-    sound (file_too (Ok file) is) (subst (λ (right : Option Right). is_right_path x right file.declared ≡ true) same own)
+use Rattle.gomod_laws.proofs.LineOrderSame.{SayTheSame, files_same, says_back, without_same}
 
 -- ---- what is printed
 
@@ -99,114 +91,93 @@ module _ (r s : Run) (mains : SayTheSame r.main s.main) (edges_same : AreSame (I
 
 -- ---- runs that are alike
 
--- The main files say the same, and both runs have the same answers. Of an answer that the first run needs they read the
--- same.
+-- The main files say the same, and both runs have the same answers. Of an answer that both need they read the same.
 pub record ReadAlike (r s : Run) : Type 0 where
   pub mains : SayTheSame r.main s.main
   pub answers : (name : Name) → r.answers name ≡ s.answers name
-  pub read : (name : Name) (reply : Reply) (said : Result Dependency Class) → IsNeeded r name → r.answers name ≡ Some reply
-      → IsFileReading r.sums name reply said ↔ IsFileReading s.sums name reply said
+  pub read : (name : Name) (reply : Reply) (said : Result Dependency Class) → IsNeeded r name → IsNeeded s name
+      → r.answers name ≡ Some reply → IsFileReading r.sums name reply said ↔ IsFileReading s.sums name reply said
+
+alike_back : {r s : Run} → ReadAlike r s → ReadAlike s r
+alike_back alike = record {
+  mains = says_back alike.mains;
+  answers = λ name. sym (alike.answers name);
+  read = λ name reply said need needs at. let is = alike.read name reply said needs need (alike.answers name ∙ at) in (is.1, is.0);
+}
+
+-- ---- what is opened by the one run, the other opens
 
 module _ (r s : Run) (alike : ReadAlike r s) where
-  mains : SayTheSame r.main s.main
-  mains = alike.mains
-
-  -- ---- what modules say
-
-  name_to : (name : Name) → (is_askable name ≡ true → IsNeeded r name) → (said : Result Dependency Class) → FileSays r name said → FileSays s name said
-  name_to name need said (unaskable isnt) = unaskable isnt
-  name_to name need said (answered reply ask at is) = answered reply ask (sym (alike.answers name) ∙ at) ((alike.read name reply said (need ask) at).0 is)
-
-  name_from : (name : Name) → (is_askable name ≡ true → IsNeeded r name) → (said : Result Dependency Class) → FileSays s name said → FileSays r name said
-  name_from name need said (unaskable isnt) = unaskable isnt
-  name_from name need said (answered reply ask at is) =
-      let here = alike.answers name ∙ at in answered reply ask here ((alike.read name reply said (need ask) here).1 is)
-
-  module _ (x : ModuleVersion) (opens : IsOpened r x) where
-    file_needed : is_askable (file_of r.main x) ≡ true → IsNeeded r (file_of r.main x)
-    file_needed ask = (x, opens, refl, ask)
-
-    says_to : (said : Result Dependency Class) → Says r x said → Says s x said
-    says_to said says =
-        says_by r s x (mains.replaced x)
-        (λ it is. subst (λ (name : Name). FileSays s name it) (files_same r.main s.main mains x) (name_to (file_of r.main x) file_needed it is)) said says
-
-    says_from : (said : Result Dependency Class) → Says s x said → Says r x said
-    says_from said says =
-        says_by s r x (sym (mains.replaced x))
-        (λ it is. name_from (file_of r.main x) file_needed it
-        (subst (λ (name : Name). FileSays s name it) (sym (files_same r.main s.main mains x)) is)) said says
+  -- what a module says that both open
+  says_to : (x : ModuleVersion) → IsOpened r x → IsOpened s x → (said : Result Dependency Class) → Says r x said → Says s x said
+  says_to x opens opened said says =
+      says_if (alike.mains.replaced x)
+      (λ it is. subst (λ (name : Name). FileSays s name it) (files_same r.main s.main alike.mains x) (file_to it is)) says
+    where
+      file_to : (it : Result Dependency Class) → FileSays r (file_of r.main x) it → FileSays s (file_of r.main x) it
+      file_to it (unaskable isnt) = unaskable isnt
+      file_to it (answered reply ask at is) =
+          answered reply ask (sym (alike.answers (file_of r.main x)) ∙ at)
+          ((alike.read (file_of r.main x) reply it (x, opens, refl, ask)
+          (x, opened, sym (files_same r.main s.main alike.mains x), ask) at).0 is)
 
   requires_to : RequiresToo r s
   requires_to x y file is be says there =
-      (says_to x is (Ok file) says, subst (λ (ys : List ModuleVersion). Contains ys y) (without_same r.main s.main mains file.requirements) there)
-
-  requires_from : RequiresToo s r
-  requires_from x y file be is says there =
-      (says_from x is (Ok file) says, subst (λ (ys : List ModuleVersion). Contains ys y) (sym (without_same r.main s.main mains file.requirements)) there)
+      (says_to x is be (Ok file) says, subst (λ (ys : List ModuleVersion). Contains ys y) (without_same r.main s.main alike.mains file.requirements) there)
 
   unpruned_to : is_pruned_by r.main.go ≡ false → is_pruned_by s.main.go ≡ false
-  unpruned_to e = sym mains.pruned ∙ e
-
-  unpruned_from : is_pruned_by s.main.go ≡ false → is_pruned_by r.main.go ≡ false
-  unpruned_from e = mains.pruned ∙ e
+  unpruned_to e = sym alike.mains.pruned ∙ e
 
   tops_to : (x : ModuleVersion) → IsTop r x → IsOpened s x
-  tops_to x top = inl ((mains.required x).0 top)
+  tops_to x top = inl ((alike.mains.required x).0 top)
 
-  tops_from : (x : ModuleVersion) → IsTop s x → IsOpened r x
-  tops_from x top = inl ((mains.required x).1 top)
+  opened_to : (x : ModuleVersion) → IsOpened r x → IsOpened s x
+  opened_to x is = opened_too r s unpruned_to tops_to requires_to x is
 
-  -- ---- what is opened, asked for and too much
+  needed_to : (name : Name) → IsNeeded r name → IsNeeded s name
+  needed_to name (x, opens, is, ask) = (x, opened_to x opens, sym (files_same r.main s.main alike.mains x) ∙ is, ask)
 
-  opened_same : (x : ModuleVersion) → IsOpened r x ↔ IsOpened s x
-  opened_same x = (opened_too r s unpruned_to tops_to requires_to x, opened_too s r unpruned_from tops_from requires_from x)
+  edge_to : (step : Step) (y : ModuleVersion) → IsEdge r step y → IsEdge s step y
+  edge_to step y is = edge_too r s unpruned_to tops_to requires_to (λ x top. (alike.mains.required x).0 top) step y is
 
-  needed_same : (name : Name) → IsNeeded r name ↔ IsNeeded s name
-  needed_same name = (
-    (λ need. let (x, opens, is, ask) = need in (x, (opened_same x).0 opens, sym (files_same r.main s.main mains x) ∙ is, ask)),
-    (λ need. let (x, opens, is, ask) = need in (x, (opened_same x).1 opens, files_same r.main s.main mains x ∙ is, ask)),
-  )
+  fault_to : (one : Fault) → IsFault r one → IsFault s one
+  fault_to one (opens, says) =
+      let opened = opened_to one.vertex opens in (opened, says_to one.vertex opens opened (Err one.class) says)
 
+-- ---- what is opened, asked for and found
+
+module _ (r s : Run) (alike : ReadAlike r s) where
   pub due_to : IsRead s → (name : Name) → IsDue r name → IsDue s name
   due_to read name due = record {
-    calls = record { read = read; needed = (needed_same name).0 due.calls.needed };
+    calls = record { read = read; needed = needed_to r s alike name due.calls.needed };
     unasked = sym (alike.answers name) ∙ due.unasked;
   }
 
   pub many_to : AreTooMany r → AreTooMany s
-  many_to many = many_too r s unpruned_to tops_to requires_to many
+  many_to many = many_too r s (unpruned_to r s alike) (tops_to r s alike) (requires_to r s alike) many
 
   settled_to : IsRead s → (names : List Name) → IsSettled r names → IsSettled s names
   settled_to read names settled = record {
     read = read;
     once = settled.once;
     needed = λ name. (
-      (λ there. (needed_same name).0 ((settled.needed name).0 there)),
-      (λ need. (settled.needed name).1 ((needed_same name).1 need)),
+      (λ there. needed_to r s alike name ((settled.needed name).0 there)),
+      (λ need. (settled.needed name).1 (needed_to s r (alike_back alike) name need)),
     );
-    few = λ xs are. settled.few xs (record { once = are.once; each = λ x there. (opened_same x).1 (are.each x there) });
+    few = λ xs are. settled.few xs (record { once = are.once; each = λ x there. opened_to s r (alike_back alike) x (are.each x there) });
   }
-
-  -- ---- what is found
 
   faults_to : (faults : List Fault) → AreFaults r faults → AreFaults s faults
   faults_to faults are = record {
     ascending = are.ascending;
     each = λ one. (
-      (λ there. let (opens, says) = (are.each one).0 there in ((opened_same one.vertex).0 opens, says_to one.vertex opens (Err one.class) says)),
-      (λ is. let opens = (opened_same one.vertex).1 is.0 in (are.each one).1 (opens, says_from one.vertex opens (Err one.class) is.1)),
+      (λ there. fault_to r s alike one ((are.each one).0 there)),
+      (λ is. (are.each one).1 (fault_to s r (alike_back alike) one is)),
     );
   }
 
-  edges_same : AreSame (IsEdge r) (IsEdge s)
-  edges_same step y = (
-    edge_too r s unpruned_to tops_to requires_to (λ x top. (mains.required x).0 top) step y,
-    edge_too s r unpruned_from tops_from requires_from (λ x top. (mains.required x).1 top) step y,
-  )
-
   pub prints_to : (command : Command) (outcome : Outcome) → PrintsOf command r outcome → PrintsOf command s outcome
-  prints_to = printed_by_edges r s mains edges_same
+  prints_to = printed_by_edges r s alike.mains (λ step y. (edge_to r s alike step y, edge_to s r (alike_back alike) step y))
 
 -- What was found over the one main file and go.sum is found over the other, if the two runs are alike.
 pub found_to : (file other : List ℕ) (sums others : Option (List ℕ)) (told : Answers) (m n : Main) (t u : Option Sums)
