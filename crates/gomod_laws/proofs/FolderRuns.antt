@@ -1,6 +1,5 @@
 -- Runs over folders in memory, with one more folder and without it.
-use Rattle.std.proofs.Common.{◌≡◌, ◌∙◌, ◌++◌, ◌∷◌, ℕ, Bool, List, [], Option, Some, None, Result, Ok, Err, Contains, ap, inl, inr, refl, subst, sym, true}
-use Rattle.std.proofs.lemmas.List.{get_or-map, length-map}
+use Rattle.std.proofs.Common.{◌≡◌, ◌↔◌, ◌∙◌, ◌++◌, ◌∷◌, ℕ, Bool, List, [], Option, Some, None, Result, Ok, Err, Contains, ap, inl, inr, refl, subst, sym, true}
 use Rattle.std.proofs.lemmas.List.Elements.{Contains-push_cases}
 use Rattle.gm_file.specs.Fields.{Dependency}
 use Rattle.gm_store.specs.Asked.{Name, Reply, absent, answer_in, bytes, list_file, mod_file, names_in, too_long}
@@ -10,16 +9,16 @@ use Rattle.gm_file.specs.Main.{Main}
 use Rattle.gm_graph_cache.specs.Reading.{IsFileReading}
 use Rattle.gm_graph_cache.proofs.Sayings.{answer_stays}
 use Rattle.gm_graph_select.proofs.Ascending.{no_member}
+use Rattle.gm_graph_select.proofs.RankedLists.{in_mapped}
 use Rattle.gm_graph.specs.declared.fault.Fault.{Fault}
 use Rattle.gm_graph.specs.Run as graph
-use Rattle.gm_graph.specs.Run.{AskedInTurn, IsNeeded}
-use Rattle.gm_graph_cache.specs.Sayings as sayings
+use Rattle.gm_graph.specs.Run.{AreFaults, AskedInTurn, IsSettled}
 use Rattle.gm_graph_cache.specs.Sayings.{FileSays, run_of}
 use Rattle.gm_graph.proofs.Exactly.{names_push}
 use Rattle.gm_graph.proofs.RunLemmas.{needed}
 use Rattle.gomod_run.specs.QueryLaws.{AnswerAlike}
 use Rattle.gomod_run.specs.Queries.{AreFound, answers_of, given_of}
-use Rattle.gomod_run.specs.Needs.{AnsweredAll, AnswersByName}
+use Rattle.gomod_run.specs.Needs.{AnswersByName}
 use Rattle.gomod_run.specs.Outcome.{Outcome}
 use Rattle.gomod_run.proofs.StoresAgree.{alike_back, stores_agree}
 use Rattle.gomod_words.specs.declared.usage.Command.{Command}
@@ -61,13 +60,12 @@ needed_in_turn needs grows (graph.more {pairs} {name} reply asks need unasked) o
       | inr same ↦ subst (needs (answer_in longer)) same (still name need)
     ]
 
-pub answered_name : (asked : Pairs) (name : Name) (reply : Reply) → answer_in asked name ≡ Some reply → Contains (names_in asked) name
-answered_name asked name reply e =
-    let (k, below, at) = answered_in asked name reply e in
-    (k, rw length-map below, get_or-map (λ (pair : Name × Reply). pair.0) asked k (name, reply) name below ∙ ap (λ (pair : Name × Reply). pair.0) at)
+-- if no file is needed, none is asked for
+none_asked : {asked : Pairs} → AskedInTurn (λ answers name. ⊥) asked → (name : Name) → Contains (names_in asked) name → ⊥
+none_asked turn name there = needed_in_turn (λ answers name. ⊥) (λ one other keeps n need. need) turn name there
 
-same_bytes : (one other : List ℕ) → bytes one ≡ bytes other → one ≡ other
-same_bytes one other e = cc e
+pub answered_name : (asked : Pairs) (name : Name) (reply : Reply) → answer_in asked name ≡ Some reply → Contains (names_in asked) name
+answered_name asked name reply e = in_mapped (λ (pair : Name × Reply). pair.0) asked (name, reply) (answered_in asked name reply e)
 
 -- ---- an answer that was read is a file
 
@@ -146,29 +144,24 @@ module _ (path : List ℕ) (all : Bool) (told : AnswersByName) (outcome : Outcom
 
 -- ---- queries
 
-module _ (file : List ℕ) (sums : Option (List ℕ)) (asked : Pairs) (main : Main) (table : Option Sums)
-    (found : AreFound (run_over file sums asked) main table []) where
-  no_fault : (name : Name) (class : Class) → IsNeeded (run_of main table asked) name → FileSays (run_of main table asked) name (Err class) → ⊥
-  no_fault name class (x, opens, is, askable) says =
-      let fault : Fault = record { vertex = x; class = class } in
-      no_member fault ((found.faults_are.each fault).1 (
-        opens,
-        sayings.faulty (subst (λ (n : Name). FileSays (run_of main table asked) n (Err class)) (sym is) says),
-      ))
+-- if no module has a fault, no answer is read as one
+pub no_fault_read : (main : Main) (table : Option Sums) (asked : Pairs) → IsSettled (run_of main table asked) (names_in asked)
+    → AreFaults (run_of main table asked) [] → (name : Name) (reply : Reply) (class : Class) → answer_in asked name ≡ Some reply
+    → IsFileReading table name reply (Err class) → ⊥
+no_fault_read main table asked settled none name reply class at is =
+    let (x, opens, file, askable) = (settled.needed name).0 (answered_name asked name reply at) in
+    let one : Fault = record { vertex = x; class = class } in
+    let says : FileSays (run_of main table asked) name (Err class) = graph.answered reply askable at is in
+    no_member one ((none.each one).1 (opens, graph.faulty (rw file says)))
 
-  -- what was asked for was read
-  asked_is_file : (name : Name) (reply : Reply) → answer_in asked name ≡ Some reply → IsFile reply
-  asked_is_file name reply e = by said.0 said.1
-    where
-      need : IsNeeded (run_of main table asked) name
-      need = (found.settled.needed name).0 (answered_name asked name reply e)
-
-      said : (r : Result Dependency Class) × IsFileReading table name reply r
-      said = found.settled.read name reply e
-
-      by : (r : Result Dependency Class) → IsFileReading table name reply r → IsFile reply
-      by (Ok file) is = read_is_file table name reply file is
-      by (Err class) is = absurd (no_fault name class need (sayings.answered reply need.3 e is))
+-- what was asked for was read
+asked_is_file : (file : List ℕ) (sums : Option (List ℕ)) (asked : Pairs) (main : Main) (table : Option Sums)
+    → AreFound (run_over file sums asked) main table [] → (name : Name) (reply : Reply) → answer_in asked name ≡ Some reply → IsFile reply
+asked_is_file file sums asked main table found name reply e = let (said, is) = found.settled.read name reply e in by said is
+  where
+    by : (said : Result Dependency Class) → IsFileReading table name reply said → IsFile reply
+    by (Ok content) is = read_is_file table name reply content is
+    by (Err class) is = absurd (no_fault_read main table asked found.settled found.faults_are name reply class e is)
 
 -- runs over answers that are alike ask for the same files
 names_into : (file : List ℕ) (sums : Option (List ℕ)) (asked told : Pairs) (main again : Main) (t u : Option Sums) → AnswerAlike asked told
@@ -189,10 +182,11 @@ same_outcome command main sums asked told a b alike run again =
     one_for_stores command (given_of main sums (answers_of asked [])) (given_of main sums (answers_of told [])) a b
     (record { file = refl; sums = refl; answers = alike; failed = refl }) run again
 
-all_answered : (command : Command) (main : List ℕ) (sums : Option (List ℕ)) (asked : Pairs) (outcome : Outcome)
-    → Ends command main sums asked outcome → HasPrinted outcome
-    → AnsweredAll (Needs command main sums) (answer_in asked)
-all_answered command main sums asked outcome run prints = done_answers command (given_of main sums (answers_of asked [])) outcome run prints
+-- The run asked for what it needed, and printed.
+pub record HasAskedAndPrinted (command : Command) (main : List ℕ) (sums : Option (List ℕ)) (asked : Pairs) (outcome : Outcome) : Type 0 where
+  pub ends : Ends command main sums asked outcome
+  pub in_turn : AskedInTurn (Needs command main sums) asked
+  pub prints : HasPrinted outcome
 
 module _ (main : List ℕ) (sums : Option (List ℕ)) where
   -- what a query asked for is what it needed, and was read
@@ -204,61 +198,51 @@ module _ (main : List ℕ) (sums : Option (List ℕ)) where
       asked_is_file main sums asked says table found name reply e
 
   -- a run that prints was answered with a file wherever it asked
-  pub each_is_file : (command : Command) (asked : Pairs) (outcome : Outcome) → Ends command main sums asked outcome
-      → AskedInTurn (Needs command main sums) asked → HasPrinted outcome
+  pub each_is_file : (command : Command) (asked : Pairs) (outcome : Outcome) → HasAskedAndPrinted command main sums asked outcome
       → (name : Name) (reply : Reply) → answer_in asked name ≡ Some reply → IsFile reply
-  each_is_file Fmt asked outcome run turn prints name reply e =
-      absurd (needed_in_turn (Needs Fmt main sums) (λ one other keeps n need. need) turn name
-      (answered_name asked name reply e))
-  each_is_file (Edit operations) asked outcome run turn prints name reply e =
-      absurd (needed_in_turn (Needs (Edit operations) main sums) (λ one other keeps n need. need) turn name (answered_name asked name reply e))
-  each_is_file (Versions path all) asked outcome run turn prints name reply e =
-      needed_is_file path all (answer_in asked) outcome prints run name reply
-      (needed_in_turn (VersionsNeed path all) (versions_grow path all) turn name (answered_name asked name reply e)) e
-  each_is_file command asked outcome run turn prints name reply e = query_is_file command asked outcome refl run prints name reply e
-
-  query_names : (command : Command) (asked told : Pairs) (a b : Outcome) → is_query command ≡ true
-      → AnswerAlike asked told → Ends command main sums asked a → HasPrinted a
-      → Ends command main sums told b → HasPrinted b → (name : Name) → Contains (names_in asked) name → Contains (names_in told) name
-  query_names command asked told a b query alike run prints again also name there =
-      let (says, t, found) = valid_files command main sums asked a query run prints in
-      let (tells, u, too) = valid_files command main sums told b query again also in
-      names_into main sums asked told says tells t u alike found too name there
+  each_is_file Fmt asked outcome run name reply e = absurd (none_asked run.in_turn name (answered_name asked name reply e))
+  each_is_file (Edit operations) asked outcome run name reply e = absurd (none_asked run.in_turn name (answered_name asked name reply e))
+  each_is_file (Versions path all) asked outcome run name reply e =
+      needed_is_file path all (answer_in asked) outcome run.prints run.ends name reply
+      (needed_in_turn (VersionsNeed path all) (versions_grow path all) run.in_turn name (answered_name asked name reply e)) e
+  each_is_file command asked outcome run name reply e = query_is_file command asked outcome refl run.ends run.prints name reply e
 
   -- a file that one run asked for is one that the other asked for
-  pub names_in_other : (command : Command) (asked told : Pairs) (a b : Outcome) → AnswerAlike asked told
-      → AskedInTurn (Needs command main sums) asked → Ends command main sums asked a → HasPrinted a
-      → Ends command main sums told b → HasPrinted b → (name : Name) → Contains (names_in asked) name → Contains (names_in told) name
-  names_in_other Fmt asked told a b alike turn run prints again also name there =
-      absurd (needed_in_turn (Needs Fmt main sums) (λ one other keeps n need. need) turn name there)
-  names_in_other (Edit operations) asked told a b alike turn run prints again also name there =
-      absurd (needed_in_turn (Needs (Edit operations) main sums) (λ one other keeps n need. need) turn name there)
-  names_in_other (Versions path all) asked told a b alike turn run prints again also name there =
-      let need : VersionsNeed path all (answer_in asked) name = needed_in_turn (VersionsNeed path all) (versions_grow path all) turn name there in
-      let too : VersionsNeed path all (answer_in told) name =
-      needed_again path all (answer_in told) b also again (answer_in asked) name (alike (list_file path)) need in
-      let (reply, answered) = all_answered (Versions path all) main sums told b again also name too in
+  names_in_other : (command : Command) (asked told : Pairs) (a b : Outcome) → AnswerAlike asked told
+      → HasAskedAndPrinted command main sums asked a → HasAskedAndPrinted command main sums told b
+      → (name : Name) → Contains (names_in asked) name → Contains (names_in told) name
+  names_in_other Fmt asked told a b alike run again name there = absurd (none_asked run.in_turn name there)
+  names_in_other (Edit operations) asked told a b alike run again name there = absurd (none_asked run.in_turn name there)
+  names_in_other (Versions path all) asked told a b alike run again name there =
+      let need = needed_in_turn (VersionsNeed path all) (versions_grow path all) run.in_turn name there in
+      let too = needed_again path all (answer_in told) b again.prints again.ends (answer_in asked) name (alike (list_file path)) need in
+      let (reply, answered) = done_answers (Versions path all) (run_over main sums told) b again.ends again.prints name too in
       answered_name told name reply answered
-  names_in_other command asked told a b alike turn run prints again also name there =
-      query_names command asked told a b refl alike run prints again also name there
+  names_in_other command asked told a b alike run again name there =
+      let (says, t, found) = valid_files command main sums asked a refl run.ends run.prints in
+      let (tells, u, too) = valid_files command main sums told b refl again.ends again.prints in
+      names_into main sums asked told says tells t u alike found too name there
+
+  pub same_names : (command : Command) (asked told : Pairs) (a b : Outcome) → AnswerAlike asked told
+      → HasAskedAndPrinted command main sums asked a → HasAskedAndPrinted command main sums told b
+      → (name : Name) → Contains (names_in asked) name ↔ Contains (names_in told) name
+  same_names command asked told a b alike run again name = (
+    names_in_other command asked told a b alike run again name,
+    names_in_other command told asked b a (alike_back asked told alike) again run name,
+  )
 
 -- ---- one more folder
 
 pub more_folders_change_nothing : MoreFoldersChangeNothing
 more_folders_change_nothing command main sums folders others marks more asked told one other grows run prints again =
-    let alike : AnswerAlike asked told =
-    λ name a b e f.
-    let (content, is) = each_is_file main sums command asked one run.ends.0 run.in_turn prints name a e in
+    let first : HasAskedAndPrinted command main sums asked one = record { ends = run.ends.0; in_turn = run.in_turn; prints = prints } in
+    let alike : AnswerAlike told asked =
+    λ name b a f e.
+    let (content, is) = each_is_file main sums command asked one first name a e in
     let may : FolderMayAnswer folders marks name (Some (bytes content)) =
     subst (λ (reply : Reply). FolderMayAnswer folders marks name (Some reply)) is
     (run.answers name a (answered_in asked name a e)) in
-    is ∙ sym (found_again folders others marks more grows name content b may (again.answers name b (answered_in told name b f))) in
-    let back : AnswerAlike told asked = alike_back asked told alike in
-    let same : other ≡ one = same_outcome command main sums told asked other one back again.ends.0 run.ends.0 in
-    let also : HasPrinted other = ap (λ (o : Outcome). o.status) same ∙ prints in (
-      same,
-      λ name. (
-        names_in_other main sums command told asked other one back again.in_turn again.ends.0 also run.ends.0 prints name,
-        names_in_other main sums command asked told one other alike run.in_turn run.ends.0 prints again.ends.0 also name,
-      ),
-    )
+    found_again folders others marks more grows name content b may (again.answers name b (answered_in told name b f)) ∙ sym is in
+    let same : other ≡ one = same_outcome command main sums told asked other one alike again.ends.0 run.ends.0 in
+    let also : HasPrinted other = ap (λ (o : Outcome). o.status) same ∙ prints in
+    (same, same_names main sums command told asked other one alike (record { ends = again.ends.0; in_turn = again.in_turn; prints = also }) first)

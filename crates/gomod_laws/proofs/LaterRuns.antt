@@ -13,7 +13,7 @@ use Rattle.gomod_laws.specs.LaterLaws.{LaterAsksTheSame, LaterPrintsTheSame, Onl
 use Rattle.gomod_laws.specs.Runs.{HasPrinted}
 use Rattle.gomod_laws.proofs.Ended.{Ends}
 use Rattle.gomod_laws.proofs.FilesOnce.{edit_once, fmt_once}
-use Rattle.gomod_laws.proofs.FolderRuns.{IsFile, each_is_file, names_in_other, needed_is_file, query_is_file, same_outcome}
+use Rattle.gomod_laws.proofs.FolderRuns.{HasAskedAndPrinted, IsFile, each_is_file, needed_is_file, query_is_file, same_names, same_outcome}
 use Rattle.gomod_laws.proofs.PrintedRuns.{Pairs}
 use Rattle.gomod_laws.proofs.VersionsOnce.{versions_once}
 
@@ -60,7 +60,7 @@ pub later_asks_the_same : LaterAsksTheSame
 later_asks_the_same command main sums asked later one other run prints adds again name =
     let same : other ≡ one = later_prints_the_same command main sums asked later one other run.ends prints adds again.ends in
     let also : HasPrinted other = ap (λ (o : Outcome). o.status) same ∙ prints in
-    let alike : AnswerAlike asked later = files_stay asked later adds (each_is_file main sums command asked one run.ends.0 run.in_turn prints) in (
-      names_in_other main sums command later asked other one (alike_back asked later alike) again.in_turn again.ends.0 also run.ends.0 prints name,
-      names_in_other main sums command asked later one other alike run.in_turn run.ends.0 prints again.ends.0 also name,
-    )
+    let first : HasAskedAndPrinted command main sums asked one = record { ends = run.ends.0; in_turn = run.in_turn; prints = prints } in
+    let second : HasAskedAndPrinted command main sums later other = record { ends = again.ends.0; in_turn = again.in_turn; prints = also } in
+    let alike = files_stay asked later adds (each_is_file main sums command asked one first) in
+    same_names main sums command later asked other one (alike_back asked later alike) second first name
