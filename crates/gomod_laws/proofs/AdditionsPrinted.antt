@@ -1,5 +1,5 @@
 -- A requirement added lowers nothing.
-use Rattle.std.proofs.Common.{◌∙◌, List, Option, Ok, None, refl, sym, inl}
+use Rattle.std.proofs.Common.{◌∙◌, ℕ, List, [], Option, Ok, None, refl, sym, inl}
 use Rattle.gm_name.specs.ModuleVersion.{ModuleVersion}
 use Rattle.gm_store.specs.Asked.{Name, Reply}
 use Rattle.gm_store_sums.specs.Sums.{Sums}
@@ -9,12 +9,16 @@ use Rattle.gm_graph.specs.Entries.{Entry}
 use Rattle.gm_graph_select.proofs.Lawful.{row_selected, selected_row}
 use Rattle.gm_graph.specs.Run.{AreRows, IsEdge, IsOpened, IsTop}
 use Rattle.gm_graph_cache.specs.Sayings.{Run, run_of}
+use Rattle.gomod_run.specs.Queries.{AreFound, Prints, QueryEnds}
+use Rattle.gomod_run.specs.Outcome.{Outcome}
+use Rattle.gomod_words.specs.declared.usage.Command.{Command}
+use Rattle.gomod_laws.specs.Runs.{HasPrinted}
 use Rattle.gomod_run.specs.GraphQuery.{PrintsGraph}
 use Rattle.gomod_run.specs.ListQuery.{PrintsList}
 use Rattle.gm_graph.proofs.RunLemmas.{RequiresToo, SaysToo, edge_too, opened_too}
 use Rattle.gomod_run.proofs.FewOpened.{IsFew}
 use Rattle.gomod_run.proofs.PrintedList.{greatest}
-use Rattle.gomod_laws.specs.AdditionLaws.{AreNotLower, GraphKeepsLines, ListLowersNothing, SaysMore}
+use Rattle.gomod_laws.specs.AdditionLaws.{AreNotLower, AreTwoRuns, GraphKeepsLines, ListLowersNothing, SaysMore}
 use Rattle.gomod_laws.specs.Shown.{run_over}
 use Rattle.gomod_laws.proofs.AdditionsKept.{kept_more}
 use Rattle.gomod_laws.proofs.PrintedRuns.{printed_by}
@@ -54,36 +58,56 @@ module _ (first second : Main) (more : SaysMore first second) (t u : Option Sums
       let row = selected_row other y ((other.each y).0 inside) in
       (y, replacement_in second y, row, path, high)
 
+-- if a query prints over the file that says more, it prints over the other
+module _ {command : Command} (prints : Prints) {file other : List ℕ} {sums : Option (List ℕ)} {first second : Main} {one next : Outcome}
+    (runs : AreTwoRuns command file other sums first second one next) (more : SaysMore first second) where
+  record BothPrint : Type 0 where
+    table : Option Sums
+    found : AreFound (run_over file sums runs.asked) first table []
+    shows : prints (run_of first table runs.asked) one
+    later : Option Sums
+    later_found : AreFound (run_over other sums runs.later) second later []
+    later_shows : prints (run_of second later runs.later) next
+    says : SaysToo (run_of first table runs.asked) (run_of second later runs.later)
+
+  both_print : QueryEnds prints (run_over file sums runs.asked) one → QueryEnds prints (run_over other sums runs.later) next → HasPrinted next → BothPrint
+  both_print is be ends =
+      let run = run_over file sums runs.asked in
+      let after = run_over other sums runs.later in
+      let (u, found, others) = printed_by prints after second next runs.second_says be ends in
+      let (t, valid, those) =
+      prints_too run after first second u found runs.first_says refl runs.alike more.replaces
+      (λ v says x is. opened_more first second more v u runs.asked runs.later says x is) refl prints one is in
+      record {
+        table = t;
+        found = valid;
+        shows = those;
+        later = u;
+        later_found = found;
+        later_shows = others;
+        says = narrow_says run after first second u found runs.first_says refl runs.alike more.replaces t valid.read.sums;
+      }
+
 pub list_lowers_nothing : ListLowersNothing
 list_lowers_nothing file other sums first second one next runs more ends =
-    let run = run_over file sums runs.asked in
-    let after = run_over other sums runs.later in
-    let (u, found, (others, others_are, others_text)) = printed_by (PrintsList None None) after second next runs.second_says runs.second_runs.0 ends in
-    let (t, valid, (rows, rows_are, rows_text)) =
-    prints_too run after first second u found runs.first_says refl runs.alike more.replaces
-    (λ v says x is. opened_more first second more v u runs.asked runs.later says x is) refl (PrintsList None None)
-    one runs.first_runs.0 in
-    let says = narrow_says run after first second u found runs.first_says refl runs.alike more.replaces t valid.read.sums in (
+    let both = both_print (PrintsList None None) runs more runs.first_runs.0 runs.second_runs.0 ends in
+    let (rows, are, text) = both.shows in
+    let (others, others_are, others_text) = both.later_shows in (
       rows,
       others,
-      record { table = t; found = valid; are = rows_are; prints = rows_text },
-      record { table = u; found = found; are = others_are; prints = others_text },
-      not_lower first second more t u runs.asked runs.later says found.settled.few rows others rows_are others_are,
+      record { table = both.table; found = both.found; are = are; prints = text },
+      record { table = both.later; found = both.later_found; are = others_are; prints = others_text },
+      not_lower first second more both.table both.later runs.asked runs.later both.says both.later_found.settled.few rows others are others_are,
     )
 
 pub graph_keeps_lines : GraphKeepsLines
 graph_keeps_lines file other sums first second one next runs more ends =
-    let run = run_over file sums runs.asked in
-    let after = run_over other sums runs.later in
-    let (u, found, (others, others_are, others_text)) = printed_by PrintsGraph after second next runs.second_says runs.second_runs.0 ends in
-    let (t, valid, (edges, edges_are, edges_text)) =
-    prints_too run after first second u found runs.first_says refl runs.alike more.replaces
-    (λ v says x is. opened_more first second more v u runs.asked runs.later says x is) refl PrintsGraph one
-    runs.first_runs.0 in
-    let says = narrow_says run after first second u found runs.first_says refl runs.alike more.replaces t valid.read.sums in (
+    let both = both_print PrintsGraph runs more runs.first_runs.0 runs.second_runs.0 ends in
+    let (edges, are, text) = both.shows in
+    let (others, others_are, others_text) = both.later_shows in (
       edges,
       others,
-      record { table = t; found = valid; are = edges_are; prints = edges_text },
-      record { table = u; found = found; are = others_are; prints = others_text },
-      (λ e there. (others_are.each e).1 (edge_more first second more t u runs.asked runs.later says e.from e.to ((edges_are.each e).0 there))),
+      record { table = both.table; found = both.found; are = are; prints = text },
+      record { table = both.later; found = both.later_found; are = others_are; prints = others_text },
+      λ e there. (others_are.each e).1 (edge_more first second more both.table both.later runs.asked runs.later both.says e.from e.to ((are.each e).0 there)),
     )

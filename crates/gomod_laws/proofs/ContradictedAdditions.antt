@@ -1,5 +1,5 @@
 -- What the laws of two runs of queries conclude is false of pairs of outputs that contradict them.
-use Rattle.std.proofs.Common.{◌≡◌, ◌∙◌, ◌∷◌, ◌++◌, ℕ, true, List, [], Contains, ap, append_assoc, arith, codes, drop, inl, inr, length, length-append, map, refl, subst, sym}
+use Rattle.std.proofs.Common.{◌≡◌, ◌∙◌, ◌∷◌, ◌++◌, ℕ, true, List, [], None, Contains, ap, append_assoc, arith, codes, drop, length, length-append, map, refl, subst, sym}
 use Rattle.std.specs.Ordering.{is_gt}
 use Rattle.std.proofs.Math.Seq.{drop_at}
 use Rattle.std.proofs.lemmas.Bool.{false≢true}
@@ -11,15 +11,14 @@ use Rattle.gm_graph_select.specs.declared.step.Edge.{Edge}
 use Rattle.gm_graph_select.specs.declared.step.Step.TheVariants.{Main as FromMain, Of}
 use Rattle.gm_graph_select.specs.BuildList.{HasEntryFor, path_of}
 use Rattle.gm_graph.specs.Entries.{Entry}
-use Rattle.gm_graph_select.proofs.Ascending.{member_cases, member_head, no_member}
+use Rattle.gm_graph_select.proofs.Ascending.{member_head, one_member}
 use Rattle.gomod_run.specs.Queries.{Given}
 use Rattle.gomod_run.specs.Outcome.{Outcome, text_outcome}
 use Rattle.gomod_run.specs.GraphQuery.{edge_text}
 use Rattle.gomod_run.proofs.ListLines.{heads}
 use Rattle.gomod_laws.specs.CounterAdditions.{ChainIsByNoLine, ChainIsToAnother, LineIsLost, RowIsLower, ShowA, UnlistedIsShown, chain_by_b, chain_to_b}
-use Rattle.gomod_laws.specs.Counterexamples.{a_one}
 use Rattle.gomod_laws.specs.RowLaws.{IsExplained, AreChained, further, here, text_of}
-use Rattle.gomod_laws.proofs.Contradicted.{edge_to, edges_are, list_main, only_row, row_there}
+use Rattle.gomod_laws.proofs.Contradicted.{edge_to, edges_known, only_row, row_at, row_inside, rows_known}
 use Rattle.gomod_laws.proofs.KnownVersions.{one_one, one_one_is, one_one_is_above, one_zero, one_zero_is, versions_differ}
 use Rattle.gomod_laws.proofs.ShownTexts.{same_text}
 
@@ -27,28 +26,17 @@ use Rattle.gomod_laws.proofs.ShownTexts.{same_text}
 
 pub row_is_lower : RowIsLower
 row_is_lower run later first second (rows, others, shows, also, kept) =
-    let (right, there) = row_there run first one_one one_one_is rows shows in
-    let (y, its, among, same, high) = kept (codes "a.b", one_one) right there in
+    let (y, its, among, same, high) = kept (codes "a.b", one_one) None (row_inside run first one_one one_one_is rows shows) in
     let is : y ≡ (codes "a.b", one_zero) = only_row later second one_zero one_zero_is others also y its among in
     let low : is_gt (version_cmp one_one y.1) ≡ true =
     subst (λ (z : ModuleVersion). is_gt (version_cmp one_one z.1) ≡ true) (sym is) (ap is_gt one_one_is_above) in
     false≢true (sym high ∙ low)
 
-edge_of : (x y : Edge) → x ≡ y → x.to ≡ y.to
-edge_of x y e = ap (λ (one : Edge). one.to) e
-
 pub line_is_lost : LineIsLost
 line_is_lost run later first second (edges, others, shows, also, kept) =
-    let first_are : edges ≡ edge_to one_zero ∷ [] = edges_are run first one_zero one_zero_is edges shows in
-    let others_are : others ≡ edge_to one_one ∷ [] = edges_are later second one_one one_one_is others also in
-    let there : Contains edges (edge_to one_zero) = subst (λ (es : List Edge). Contains es (edge_to one_zero))
-    (sym first_are) (member_head (edge_to one_zero) []) in
-    let among : Contains (edge_to one_one ∷ []) (edge_to one_zero) =
-    subst (λ (es : List Edge). Contains es (edge_to one_zero)) others_are (kept (edge_to one_zero) there) in
-    elim (member_cases (edge_to one_one) (edge_to one_zero) [] among) [
-      | inl same ↦ versions_differ (sym (ap (λ (x : ModuleVersion). x.1) (edge_of (edge_to one_one) (edge_to one_zero) same)))
-      | inr none ↦ no_member (edge_to one_zero) none
-    ]
+    let there = kept (edge_to one_zero) (rw (edges_known run first one_zero one_zero_is edges shows) (member_head (edge_to one_zero) [])) in
+    let same = one_member (edge_to one_one) (edge_to one_zero) (rw (edges_known later second one_one one_one_is others also) at there) in
+    versions_differ (sym (ap (λ (one : Edge). one.to.1) same))
 
 -- ---- a chain that takes no line of a graph
 
@@ -57,12 +45,6 @@ the_line = codes "m a.b@v1.0.0"
 
 abbrev Ways : List ℕ → List (List ℕ) → Type 0
 Ways last lines = AreChained (the_line ∷ []) (codes "m") last lines
-
-line_only : (text : List ℕ) → Contains (the_line ∷ []) text → the_line ≡ text
-line_only text there = elim (member_cases the_line text [] there) [
-  | inl same ↦ same
-  | inr none ↦ absurd (no_member text none)
-]
 
 ends_in_digit : (front : List ℕ) → the_line ≡ front ++ codes "m" → ⊥
 ends_in_digit front e =
@@ -77,7 +59,7 @@ way_to_m : (last : List ℕ) (lines : List (List ℕ)) → Ways last lines → l
 way_to_m last lines here is = refl
 way_to_m last lines (further {last = before} {lines = others} next leads there) is =
     let text : the_line ≡ (before ++ codes " ") ++ codes "m" =
-    line_only ((before ++ codes " ") ++ next) there ∙ ap (λ (t : List ℕ). (before ++ codes " ") ++ t) is in
+    one_member the_line ((before ++ codes " ") ++ next) there ∙ ap (λ (t : List ℕ). (before ++ codes " ") ++ t) is in
     absurd (ends_in_digit (before ++ codes " ") text)
 
 -- and one to a.b v1.0.0
@@ -85,7 +67,7 @@ way_to_a : (last : List ℕ) (lines : List (List ℕ)) → Ways last lines → l
 way_to_a last lines here is = let first : 109 ≡ 97 = heads 109 97 _ _ is in absurd (omega (arith, first))
 way_to_a last lines (further {last = before} {lines = others} next leads there) is =
     let text : codes "m" ++ codes " a.b@v1.0.0" ≡ before ++ codes " a.b@v1.0.0" =
-    line_only ((before ++ codes " ") ++ next) there ∙ ap (λ (t : List ℕ). (before ++ codes " ") ++ t) is
+    one_member the_line ((before ++ codes " ") ++ next) there ∙ ap (λ (t : List ℕ). (before ++ codes " ") ++ t) is
     ∙ append_assoc before (codes " ") (codes "a.b@v1.0.0") in
     let own : before ≡ codes "m" = sym (append_cancel_right (codes "m") before (codes " a.b@v1.0.0") text) in
     ap (λ (ls : List (List ℕ)). ls ++ next ∷ []) (way_to_m before others leads own)
@@ -97,10 +79,9 @@ module _ (rows : List Entry) (edges : List Edge) (main : Main) (list_run graph_r
   chain_is : (chain : Outcome) → IsExplained main.path rows (map (edge_text main.path) edges) (codes "a.b") chain
       → chain ≡ text_outcome (codes "m\na.b@v1.0.0\n")
   chain_is chain law =
-      let (its, there) = row_there list_run main one_zero one_zero_is rows show.in_list in
-      let own : main.path ≡ codes "m" = list_main list_run main one_zero rows show.in_list in
-      let are : edges ≡ edge_to one_zero ∷ [] = edges_are graph_run main one_zero one_zero_is edges show.in_graph in
-      let (lines, leads, says) = law.row (Of a_one, its) there refl in
+      let own = (rows_known list_run main one_zero one_zero_is rows show.in_list).0 in
+      let are = edges_known graph_run main one_zero one_zero_is edges show.in_graph in
+      let (lines, leads, says) = law.row (row_at one_zero) (row_inside list_run main one_zero one_zero_is rows show.in_list) refl in
       let way : AreChained (map (edge_text main.path) (edge_to one_zero ∷ [])) main.path (codes "a.b@v1.0.0") lines =
       subst (λ (es : List Edge). AreChained (map (edge_text main.path) es) main.path (codes "a.b@v1.0.0") lines) are leads in
       let by_line : Ways (codes "a.b@v1.0.0") lines =
@@ -109,7 +90,7 @@ module _ (rows : List Entry) (edges : List Edge) (main : Main) (list_run graph_r
 
   no_row_of_b : (row : Entry) → Contains rows row → path_of main.path row.0 ≡ codes "b.c" → ⊥
   no_row_of_b (FromMain, right) there is =
-      let letter : 109 ≡ 98 = heads 109 98 _ _ (sym (list_main list_run main one_zero rows show.in_list) ∙ is) in omega (arith, letter)
+      let letter : 109 ≡ 98 = heads 109 98 _ _ (sym (rows_known list_run main one_zero one_zero_is rows show.in_list).0 ∙ is) in omega (arith, letter)
   no_row_of_b (Of x, right) there is =
       let own : x ≡ (codes "a.b", one_zero) = only_row list_run main one_zero one_zero_is rows show.in_list x right there in
       let letter : 97 ≡ 98 = heads 97 98 _ _ (sym (ap (λ (y : ModuleVersion). y.0) own) ∙ is) in omega (arith, letter)

@@ -11,7 +11,7 @@ use Rattle.gm_store.specs.Asked.{Name, Reply, bytes}
 use Rattle.gm_store.specs.Listed.{IsListed}
 use Rattle.gm_graph_cache.specs.Reading.{AreRetractedBy}
 use Rattle.gm_graph_cache.proofs.OneReading.{one_retracted}
-use Rattle.gm_graph_select.proofs.Ascending.{member_cases, member_head, no_member}
+use Rattle.gm_graph_select.proofs.Ascending.{member_head, no_member, one_member}
 use Rattle.gomod_run.specs.Outcome.{Outcome, text_outcome}
 use Rattle.gomod_run.specs.Versions.{versions_line}
 use Rattle.gomod_run.proofs.Uniqueness.{latest_once}
@@ -20,23 +20,11 @@ use Rattle.gomod_laws.specs.VersionLaws.{AreUnretracted, LeavesOutRetracted, Ret
 use Rattle.gomod_laws.proofs.AdditionsKept.{from_filtered, in_filtered}
 use Rattle.gomod_laws.proofs.KnownVersions.{both_listed, one_one, one_one_is, one_one_is_latest, one_zero, one_zero_is, one_zero_listed, same_precedence, versions_differ}
 use Rattle.gomod_laws.proofs.ShownTexts.{same_text}
+use Rattle.gomod_laws.proofs.WrittenLists.{each_of}
 use Rattle.gomod_laws.proofs.VersionLines.{line_says_versions}
 
 abbrev AreVersions : List (List ℕ) → Type 0
 AreVersions versions = (version : List ℕ) → Contains versions version → IsVersion version
-
--- one version, and two
-one_known : (v : List ℕ) → IsVersion v → AreVersions (v ∷ [])
-one_known v is version there = elim (member_cases v version [] there) [
-  | inl same ↦ subst IsVersion same is
-  | inr none ↦ absurd (no_member version none)
-]
-
-two_known : (v w : List ℕ) → IsVersion v → IsVersion w → AreVersions (v ∷ w ∷ [])
-two_known v w p q version there = elim (member_cases v version (w ∷ []) there) [
-  | inl same ↦ subst IsVersion same p
-  | inr later ↦ one_known w q version later
-]
 
 -- ---- what is answered
 
@@ -49,7 +37,10 @@ abbrev both : List (List ℕ)
 both = one_zero ∷ one_one ∷ []
 
 both_known : AreVersions both
-both_known = two_known one_zero one_one one_zero_is one_one_is
+both_known = each_of IsVersion both (one_zero_is, (one_one_is, tt))
+
+one_known : AreVersions (one_one ∷ [])
+one_known = each_of IsVersion (one_one ∷ []) (one_one_is, tt)
 
 module _ (asked : List (Name × Reply)) (one other : Outcome) (law : LeavesOutRetracted asked (codes "a.b") one other) where
   listed_are_versions : AreVersions law.versions
@@ -78,13 +69,10 @@ retracts_once asked path version xs ys (reply, file, answered, finds, are) (othe
     let same : reply ≡ other = same_Some reply other (sym answered ∙ known) in
     one_retracted other xs ys (subst (λ (r : Reply). AreRetractedBy r xs) same are) is
 
-is_none : {A : Type 0} (x : A) (xs : List A) → x ∷ xs ≡ [] → ⊥
-is_none x xs e = cc e
-
 -- what is shown of both, if the latest one retracts these
 shown_of_both : (asked : List (Name × Reply)) (shown : List (List ℕ)) (intervals : List VersionInterval) → Retracts asked (codes "a.b") one_one intervals
     → AreUnretracted asked (codes "a.b") both shown → shown ≡ shown_of intervals both
-shown_of_both asked shown intervals retracts (inl (none, nothing)) = absurd (is_none one_zero (one_one ∷ []) none)
+shown_of_both asked shown intervals retracts (inl (none, nothing)) = absurd (cc none)
 shown_of_both asked shown intervals retracts (inr (latest, others, greatest, says, is)) =
     let own : latest ≡ one_one = latest_once both latest one_one greatest one_one_is_latest in
     let same : others ≡ intervals = retracts_once asked (codes "a.b") one_one others intervals
@@ -115,25 +103,19 @@ unretracted_is_left_out asked retracts law =
     let none : List VersionInterval = [] in
     let first = text_outcome (codes "a.b v1.1.0\n") in
     let all = all_are asked first both_of_a law both both_known refl in
-    let rest = rest_are asked first both_of_a law (one_one ∷ []) (one_known one_one one_one_is) refl in
+    let rest = rest_are asked first both_of_a law (one_one ∷ []) one_known refl in
     let shown : law.shown ≡ shown_of none both =
     shown_of_both asked law.shown none retracts (subst (λ (vs : List (List ℕ)). AreUnretracted asked (codes "a.b") vs law.shown) all law.unretracted) in
     let there : Contains (shown_of none both) one_zero = in_filtered (λ v. not (is_retracted none v)) both one_zero
     (member_head one_zero (one_one ∷ [])) refl in
     let only : Contains (one_one ∷ []) one_zero = subst (λ (vs : List (List ℕ)). Contains vs one_zero) (sym shown ∙ rest) there in
-    elim (member_cases one_one one_zero [] only) [
-      | inl same ↦ versions_differ (sym same)
-      | inr nowhere ↦ no_member one_zero nowhere
-    ]
+    versions_differ (sym (one_member one_one one_zero only))
 
 pub listed_is_missing : ListedIsMissing
 listed_is_missing asked one answered law =
     let other = text_outcome (codes "a.b v1.1.0\n") in
-    let all = all_are asked one other law (one_one ∷ []) (one_known one_one one_one_is) refl in
+    let all = all_are asked one other law (one_one ∷ []) one_known refl in
     let list : law.listed.list ≡ both_listed = same_bytes law.listed.list both_listed (sym law.listed.answered ∙ answered) in
     let named : IsListed (codes "a.b") law.listed.list one_zero = subst (λ (text : List ℕ). IsListed (codes "a.b") text one_zero) (sym list) one_zero_listed in
     let only : Contains (one_one ∷ []) one_zero = subst (λ (vs : List (List ℕ)). Contains vs one_zero) all ((law.listed.are.members one_zero).1 named) in
-    elim (member_cases one_one one_zero [] only) [
-      | inl same ↦ versions_differ (sym same)
-      | inr nowhere ↦ no_member one_zero nowhere
-    ]
+    versions_differ (sym (one_member one_one one_zero only))

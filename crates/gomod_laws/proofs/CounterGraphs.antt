@@ -1,6 +1,6 @@
 -- What the laws on `graph` and `chain` conclude is false of graphs and chains that contradict them.
-use Rattle.std.proofs.Common.{◌≡◌, ◌∙◌, ◌∷◌, ◌++◌, ℕ, List, [], Option, None, Contains, ap, append_assoc, arith, codes, inl, inr, length, refl, subst, sym}
-use Rattle.std.proofs.lemmas.List.Elements.{Contains-push_cases}
+use Rattle.std.proofs.Common.{◌≡◌, ◌∙◌, ◌∷◌, ◌++◌, ℕ, List, [], Option, None, Contains, ap, arith, codes, inl, inr, length, refl, subst, sym}
+use Rattle.std.proofs.lemmas.List.{same_from_push}
 use Rattle.gm_name.specs.ModuleVersion.{ModuleVersion}
 use Rattle.gm_file.specs.Main.{Main, replacement_in}
 use Rattle.gm_store_sums.specs.Sums.{Sums}
@@ -12,7 +12,7 @@ use Rattle.gm_graph_select.specs.declared.step.Step.TheVariants.{Main as FromMai
 use Rattle.gm_graph_select.specs.BuildList.{main_entry, path_of}
 use Rattle.gm_graph.specs.Entries.{Entry}
 use Rattle.gm_graph_select.specs.Graph.{Edges, among, edge}
-use Rattle.gm_graph_select.proofs.Ascending.{member_cases, member_head, member_tail, no_member}
+use Rattle.gm_graph_select.proofs.Ascending.{member_head, member_tail, one_member}
 use Rattle.gm_graph_select.proofs.Lawful.{rows_are_ends}
 use Rattle.gm_graph_select.proofs.Same.{AreSame, same_build_list, same_chain}
 use Rattle.gomod_run.specs.QueryLaws.{IsWalk, further, here}
@@ -23,45 +23,22 @@ use Rattle.gomod_run.specs.Reports.{not_listed_line}
 use Rattle.gomod_run.specs.ChainQuery.{chain_text}
 use Rattle.gomod_run.specs.GraphQuery.{graph_text}
 use Rattle.gomod_run.specs.ListQuery.{list_text}
-use Rattle.gomod_run.proofs.GraphLines.{text_says_edges, text_says_steps}
-use Rattle.gomod_run.proofs.ListLines.{cut_at}
 use Rattle.gomod_run.proofs.OneRead.{one_main}
-use Rattle.gomod_run.proofs.PrintedList.{all_rows}
-use Rattle.gomod_run.proofs.RunNames.{end_name, run_has_names, run_has_proper_edges}
+use Rattle.gomod_run.proofs.PrintedList.{all_rows, not_refused}
 use Rattle.gomod_run.proofs.ShortestChain.{chain_walk}
 use Rattle.gomod_laws.specs.Counterexamples.{a_one, graph_of_a}
 use Rattle.gomod_laws.specs.CounterListings.{ChainBeginsElsewhere, ChainEndsElsewhere, ChainIsOfAnotherGraph, ChainIsTooLong, IsRequiredBy, ListIsOfAnotherGraph}
-use Rattle.gomod_laws.proofs.Contradicted.{a_is_path, b_is_path, edge_proper, edge_to, m_has_no_feed, other_name}
-use Rattle.gomod_laws.proofs.CounterLists.{a_is_not_b, b_one, each_of, rows_are}
-use Rattle.gomod_laws.proofs.FormattingProofs.{not_printed}
+use Rattle.gomod_laws.proofs.Contradicted.{a_is_path, b_is_path, edge_proper, edge_to, m_has_no_blank, m_has_no_feed, m_has_no_sign, other_name}
+use Rattle.gomod_laws.proofs.CounterLists.{a_is_not_b, b_one, rows_are}
 use Rattle.gomod_laws.proofs.KnownVersions.{one_zero, one_zero_is}
-use Rattle.gomod_laws.proofs.ShownTexts.{same_text}
-use Rattle.gm_file_edit.proofs.NoLineFeeds.{path-plain}
+use Rattle.gomod_laws.proofs.ShownTexts.{edges_are, known_steps, same_text, steps_are, walk_begins, walk_step}
+use Rattle.gomod_laws.proofs.WrittenLists.{each_of}
 
 -- ---- walks
 
-module _ (E : Edges) where
-  walk_begins : {s : Step} {steps : List Step} → IsWalk E s steps → (rest : List Step) × (steps ≡ FromMain ∷ rest)
-  walk_begins here = ([], refl)
-  walk_begins (further {s} {y} {steps} walk is) =
-      let (rest, begins) = walk_begins walk in (rest ++ Of y ∷ [], ap (λ (ss : List Step). ss ++ Of y ∷ []) begins)
-
-  walk_ends : {s : Step} {steps : List Step} → IsWalk E s steps → (front : List Step) × (steps ≡ front ++ s ∷ [])
-  walk_ends here = ([], refl)
-  walk_ends (further {s} {y} {steps} walk is) = (steps, refl)
-
-  -- an edge leads to each step other than the main module
-  walk_step : {s : Step} {steps : List Step} → IsWalk E s steps → (x : ModuleVersion) → Contains steps (Of x) → (t : Step) × E t x
-  walk_step here x there = elim (member_cases FromMain (Of x) [] there) [
-    | inl same ↦ absurd (cc same)
-    | inr none ↦ absurd (no_member (Of x) none)
-  ]
-  walk_step (further {s} {y} {steps} walk is) x there =
-      let earlier : Contains steps (Of x) → (t : Step) × E t x = λ inside. walk_step walk x inside in
-      elim (Contains-push_cases steps (Of y) (Of x) there) [
-        | inl inside ↦ earlier inside
-        | inr same ↦ (let name : y ≡ x = cc same in (s, subst (λ (w : ModuleVersion). E s w) name is))
-      ]
+walk_ends : (E : Edges) {s : Step} {steps : List Step} → IsWalk E s steps → (front : List Step) × (steps ≡ front ++ s ∷ [])
+walk_ends E here = ([], refl)
+walk_ends E (further {s} {y} {steps} walk is) = (steps, refl)
 
 -- ---- the steps of a text
 
@@ -70,29 +47,6 @@ a_step = (a_is_path, one_zero_is)
 
 b_step : IsProperStep (Of b_one)
 b_step = (b_is_path, one_zero_is)
-
-module _ (run : Given) (main : Main) (table : Option Sums) (found : AreFound run main table []) {s : Step}
-    {steps : List Step} (walk : IsWalk (IsEdge (run_of main table run.answers.asked)) s steps) where
-  steps_proper : AreProperSteps steps
-  steps_proper FromMain there = tt
-  steps_proper (Of y) there =
-      let (t, is) = walk_step (IsEdge (run_of main table run.answers.asked)) walk y there in
-      end_name (run_of main table run.answers.asked) run.file found.read.main_file t y is
-
-  known_steps : (known : List Step) → AreProperSteps known → chain_text main.path steps ≡ chain_text main.path known → steps ≡ known
-  known_steps known proper text =
-      text_says_steps main.path (run_has_names run main table found.read).0 steps known steps_proper proper text
-
-  -- steps with this text are these steps, and the main module is m
-  steps_are : (known : List Step) → AreProperSteps (FromMain ∷ known) → chain_text main.path steps ≡ chain_text (codes "m") (FromMain ∷ known)
-      → (main.path ≡ codes "m") × (steps ≡ FromMain ∷ known)
-  steps_are known proper e =
-      let (rest, begins) = walk_begins (IsEdge (run_of main table run.answers.asked)) walk in
-      let text : main.path ++ (10 ∷ chain_text main.path rest) ≡ codes "m" ++ (10 ∷ chain_text (codes "m") known) =
-      sym (append_assoc main.path (codes "\n") (chain_text main.path rest)) ∙ ap (chain_text main.path) (sym begins) ∙ e in
-      let own = (cut_at 10 main.path (codes "m") (chain_text main.path rest) (chain_text (codes "m") known)
-      (path-plain main.path (run_has_names run main table found.read).0) m_has_no_feed text).0 in
-      (own, known_steps (FromMain ∷ known) proper (e ∙ ap (λ (m : List ℕ). chain_text m (FromMain ∷ known)) (sym own)))
 
 abbrev to_a : List Step
 to_a = FromMain ∷ Of a_one ∷ []
@@ -112,20 +66,6 @@ by_b_proper = each_of IsProperStep by_b (tt, (b_step, (a_step, tt)))
 to_b_proper : AreProperSteps to_b
 to_b_proper = each_of IsProperStep to_b (tt, (b_step, tt))
 
--- the last of two and of three
-last_of_two : (front : List Step) (s x y : Step) → front ++ s ∷ [] ≡ x ∷ y ∷ [] → s ≡ y
-last_of_two [] s x y e = absurd (cc e)
-last_of_two (a ∷ []) s x y e = cc e
-last_of_two (a ∷ b ∷ []) s x y e = absurd (cc e)
-last_of_two (a ∷ b ∷ c ∷ front) s x y e = absurd (cc e)
-
-later_steps : (x y : Step) (xs ys : List Step) → x ∷ xs ≡ y ∷ ys → xs ≡ ys
-later_steps x y xs ys e = cc e
-
-last_of_three : (front : List Step) (s x y z : Step) → front ++ s ∷ [] ≡ x ∷ y ∷ z ∷ [] → s ≡ z
-last_of_three [] s x y z e = absurd (cc e)
-last_of_three (a ∷ front) s x y z e = last_of_two front s y z (later_steps a x (front ++ s ∷ []) (y ∷ z ∷ []) e)
-
 not_from_main : (x : ModuleVersion) (rest : List Step) → FromMain ∷ rest ≡ Of x ∷ [] → ⊥
 not_from_main x rest e = cc e
 
@@ -133,15 +73,15 @@ not_from_main x rest e = cc e
 
 pub chain_ends_elsewhere : ChainEndsElsewhere
 chain_ends_elsewhere run (main, table, rows, s, steps, found, are, (entry, rest, at, is), says, walk, least) =
-    let (own, same) = steps_are run main table found walk (Of a_one ∷ []) to_a_proper
+    let (own, same) = steps_are run main table found steps walk (codes "m") (Of a_one ∷ []) m_has_no_feed to_a_proper
     (sym (same_text (codes "m\na.b@v1.0.0\n") (chain_text main.path steps) says)) in
     let (front, ends) = walk_ends (IsEdge (run_of main table run.answers.asked)) walk in
-    let last : s ≡ Of a_one = last_of_two front s FromMain (Of a_one) (sym ends ∙ same) in
+    let last : s ≡ Of a_one = (same_from_push front (FromMain ∷ []) s (Of a_one) (sym ends ∙ same)).1 in
     other_name (ap (path_of main.path) (sym last ∙ sym is) ∙ at.path_is)
 
 pub chain_begins_elsewhere : ChainBeginsElsewhere
 chain_begins_elsewhere path run (main, table, rows, s, steps, found, are, row, says, walk, least) =
-    let same : steps ≡ Of a_one ∷ [] = known_steps run main table found walk (Of a_one ∷ [])
+    let same : steps ≡ Of a_one ∷ [] = known_steps run main table found steps walk (Of a_one ∷ [])
     (each_of IsProperStep (Of a_one ∷ []) (a_step, tt))
     (sym (same_text (codes "a.b@v1.0.0\n") (chain_text main.path steps) says)) in
     let (rest, begins) = walk_begins (IsEdge (run_of main table run.answers.asked)) walk in
@@ -150,10 +90,10 @@ chain_begins_elsewhere path run (main, table, rows, s, steps, found, are, row, s
 pub chain_is_too_long : ChainIsTooLong
 chain_is_too_long run file is top (main, table, rows, s, steps, found, are, row, says, walk, least) =
     let edges : Edges = IsEdge (run_of main table run.answers.asked) in
-    let (own, same) = steps_are run main table found walk (Of b_one ∷ Of a_one ∷ []) by_b_proper
+    let (own, same) = steps_are run main table found steps walk (codes "m") (Of b_one ∷ Of a_one ∷ []) m_has_no_feed by_b_proper
     (sym (same_text (codes "m\nb.c@v1.0.0\na.b@v1.0.0\n") (chain_text main.path steps) says)) in
     let (front, ends) = walk_ends edges walk in
-    let last : s ≡ Of a_one = last_of_three front s FromMain (Of b_one) (Of a_one) (sym ends ∙ same) in
+    let last : s ≡ Of a_one = (same_from_push front (FromMain ∷ Of b_one ∷ []) s (Of a_one) (sym ends ∙ same)).1 in
     let required : IsRequiredBy main a_one = subst (λ (m : Main). IsRequiredBy m a_one) (one_main run.file file main is found.read.main_file) top in
     let shorter : IsWalk edges (Of a_one) to_a = further here required in
     let size : length steps ≡ 3 = ap (λ (ss : List Step). length ss) same in
@@ -162,20 +102,16 @@ chain_is_too_long run file is top (main, table, rows, s, steps, found, are, row,
 
 -- ---- one graph
 
-edges_are : (run : Given) (main : Main) (table : Option Sums) (edges : List Edge) → AreFound run main table []
-    → AreEdges (run_of main table run.answers.asked) edges → main.path ≡ codes "m"
+edges_known : (run : Given) (main : Main) (table : Option Sums) (edges : List Edge) → AreFound run main table []
+    → AreEdges (run_of main table run.answers.asked) edges
     → graph_of_a ≡ text_outcome (graph_text main.path edges) → edges ≡ edge_to one_zero ∷ []
-edges_are run main table edges found exact own says =
-    text_says_edges main.path (run_has_names run main table found.read).0 edges (edge_to one_zero ∷ [])
-    (run_has_proper_edges run main table edges found.read exact) (edge_proper one_zero one_zero_is)
-    (sym (same_text (codes "m a.b@v1.0.0\n") (graph_text main.path edges) says) ∙ ap (λ (m : List ℕ). graph_text m (edge_to one_zero ∷ [])) (sym own))
+edges_known run main table edges found exact says =
+    (edges_are run main table found (codes "m") edges [] a_one m_has_no_blank m_has_no_sign (edge_proper one_zero one_zero_is) exact
+    (sym (same_text (codes "m a.b@v1.0.0\n") (graph_text main.path edges) says))).1
 
 -- no such edge leads to b.c
 b_is_no_end : (edges : List Edge) (s : Step) → edges ≡ edge_to one_zero ∷ [] → among edges s b_one → ⊥
-b_is_no_end edges s same there = elim (member_cases (edge_to one_zero) (edge s b_one) [] (subst (λ (es : List Edge). Contains es (edge s b_one)) same there)) [
-  | inl is ↦ a_is_not_b (ap (λ (e : Edge). e.to) is)
-  | inr none ↦ no_member (edge s b_one) none
-]
+b_is_no_end edges s same there = a_is_not_b (ap (λ (e : Edge). e.to) (one_member (edge_to one_zero) (edge s b_one) (rw same at there)))
 
 abbrev rows_with_b : List Entry
 rows_with_b = main_entry ∷ (Of b_one, None) ∷ []
@@ -195,20 +131,20 @@ list_is_of_another_graph path run chain (main, table, edges, rows, found, exact,
     let there : Contains rows (Of b_one, None) = subst (λ (es : List Entry). Contains es (Of b_one, None)) (sym same)
     (member_tail main_entry (Of b_one, None) ((Of b_one, None) ∷ []) (member_head (Of b_one, None) [])) in
     let (s, end) = rows_are_ends main.path (replacement_in main) edges rows one.build_list b_one None there in
-    b_is_no_end edges s (edges_are run main table edges found exact own one.graph_is) end
+    b_is_no_end edges s (edges_known run main table edges found exact one.graph_is) end
 
 pub chain_is_of_another_graph : ChainIsOfAnotherGraph
 chain_is_of_another_graph after limit path run list (main, table, edges, rows, found, exact, one) = elim one.chain_is [
-  | inr (none, says) ↦ not_printed (codes "m\nb.c@v1.0.0\n") (not_listed_line path) says
+  | inr (none, says) ↦ not_refused _ _ says refl
   | inl (s, steps, row, chain, says) ↦ (
       let same_graph : AreSame (among edges) (IsEdge (run_of main table run.answers.asked)) = λ t y. exact.each (edge t y) in
       let walk : IsWalk (IsEdge (run_of main table run.answers.asked)) s steps =
       chain_walk (IsEdge (run_of main table run.answers.asked))
       (same_chain (among edges) (IsEdge (run_of main table run.answers.asked)) same_graph chain) in
-      let (own, same) = steps_are run main table found walk (Of b_one ∷ []) to_b_proper
+      let (own, same) = steps_are run main table found steps walk (codes "m") (Of b_one ∷ []) m_has_no_feed to_b_proper
       (sym (same_text (codes "m\nb.c@v1.0.0\n") (chain_text main.path steps) says)) in
       let there : Contains steps (Of b_one) = subst (λ (ss : List Step). Contains ss (Of b_one)) (sym same)
       (member_tail FromMain (Of b_one) (Of b_one ∷ []) (member_head (Of b_one) [])) in
       let (t, end) = walk_step (among edges) (chain_walk (among edges) chain) b_one there in
-      b_is_no_end edges t (edges_are run main table edges found exact own one.graph_is) end)
+      b_is_no_end edges t (edges_known run main table edges found exact one.graph_is) end)
 ]

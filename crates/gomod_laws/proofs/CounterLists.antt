@@ -1,24 +1,25 @@
 -- What the laws on `list` conclude is false of lists that contradict them.
-use Rattle.std.proofs.Common.{◌≡◌, ◌∙◌, ◌∷◌, ◌++◌, ℕ, false, List, [], Option, Some, None, Contains, ap, append-nil, arith, codes, inl, inr, length, map, refl, subst, sym}
+use Rattle.std.proofs.Common.{◌≡◌, ◌≢◌, ◌∙◌, ◌∷◌, ◌++◌, ℕ, false, List, [], Option, Some, None, Contains, ap, append-nil, arith, codes, inl, inr, length, map, refl, subst, sym}
 use Rattle.std.specs.Prelude.{nat_lt}
 use Rattle.std.specs.List.{AllByRecursion, flat_map}
 use Rattle.std.specs.Ordering.{is_gt}
 use Rattle.std.proofs.lemmas.Bool.{false≢true}
+use Rattle.std.proofs.lemmas.List.{same_from_push}
 use Rattle.std.proofs.lemmas.List.Elements.{Contains-append_left, Contains-append_right}
 use Rattle.gm_name.specs.Path.{IsPath}
 use Rattle.gm_name.specs.Version.{IsVersion, version_cmp}
 use Rattle.gm_name.specs.ModuleVersion.{ModuleVersion}
-use Rattle.gm_file.specs.Main.{Main, without_excluded, IsMainFile, replacement_in}
+use Rattle.gm_file.specs.Main.{Main, IsMainFile, replacement_in}
 use Rattle.gm_store_sums.specs.Sums.{Sums}
 use Rattle.gm_file.specs.Directives.{Right}
-use Rattle.gm_graph.specs.Run.{AreRows, IsDeep, IsOpened, IsTop, IsVertex, from_deep, from_main, from_top}
+use Rattle.gm_graph.specs.Run.{AreRows}
 use Rattle.gm_graph_cache.specs.Sayings.{Run, run_of}
 use Rattle.gm_graph_select.specs.declared.step.Step.TheVariants.{Main as FromMain, Of}
 use Rattle.gm_graph_select.specs.BuildList.{entry_of, main_entry, path_of}
 use Rattle.gm_graph.specs.Entries.{Entry}
 use Rattle.gm_graph_select.specs.Laws.{entries_of_pages}
-use Rattle.gm_graph_select.proofs.Ascending.{member_cases, member_head, member_tail, no_member}
-use Rattle.gomod_run.specs.QueryLaws.{AreGreatest, ArePrintedPages, ShowsBuildList, no_row, one_page}
+use Rattle.gm_graph_select.proofs.Ascending.{member_head, member_tail, no_member, one_member}
+use Rattle.gomod_run.specs.QueryLaws.{AreGreatest, ArePrintedPages, JoinsPages, ShowsBuildList, no_row, one_page}
 use Rattle.gomod_run.specs.Queries.{AreFound, Given}
 use Rattle.gomod_run.specs.ListQuery.{ListEnds, no_path, path_listed, path_unlisted, up_to, list_text}
 use Rattle.gomod_run.specs.Outcome.{Outcome, text_outcome}
@@ -28,26 +29,21 @@ use Rattle.gomod_run.proofs.GreatestRows.{as_build_list}
 use Rattle.gomod_run.proofs.ListLines.{Lacks, cut_at, lacks, path_has_no_blank, text_says_rows}
 use Rattle.gomod_run.proofs.OneRead.{one_main}
 use Rattle.gomod_laws.proofs.RunsOnce.{one_outcome}
-use Rattle.gomod_run.proofs.PrintedList.{all_rows, texts_join}
-use Rattle.gomod_run.proofs.RunNames.{run_has_names, run_has_proper_rows}
+use Rattle.gomod_run.proofs.PrintedList.{all_rows, not_refused, texts_join}
+use Rattle.gomod_run.proofs.RunNames.{run_has_proper_rows}
 use Rattle.gomod_words.specs.declared.usage.Command.TheVariants.{List as Rows}
 use Rattle.gomod_laws.specs.Counterexamples.{a_one, list_of_a}
 use Rattle.gomod_laws.specs.CounterListings.{IsRequiredBy, MainIsMissing, PageHasAnotherRow, PageIsMissing, PartHasAnotherRow, PartIsTheWhole, PartIsTooLong, PathIsTwice, RequiredHasNoRow, RowIsNotRequired, RowIsTooLow, RowsAreUnordered, a_two}
 use Rattle.gomod_laws.proofs.Contradicted.{a_is_path, b_is_path, m_has_no_feed, main_is_no_of, of_name, other_name}
-use Rattle.gomod_laws.proofs.FormattingProofs.{not_printed}
+use Rattle.gomod_laws.proofs.ExampleEdges.{none_leads}
 use Rattle.gomod_laws.proofs.KnownVersions.{one_one_is, one_one_is_above, one_zero_is}
-use Rattle.gomod_laws.proofs.PrintedRow.{limited_member, printed_rows, spread_main}
-use Rattle.gomod_laws.proofs.ShownTexts.{same_text}
+use Rattle.gomod_laws.proofs.PrintedRow.{limited_member, printed_rows}
+use Rattle.gomod_laws.proofs.ShownTexts as begun
+use Rattle.gomod_laws.proofs.ShownTexts.{first_row, own_path, same_text}
+use Rattle.gomod_laws.proofs.WrittenLists.{each_of}
 use Rattle.gm_file_edit.proofs.NoLineFeeds.{path-plain}
 
 -- ---- lists of rows
-
-pub each_of : {X : Type 0} (P : X → Type 0) (xs : List X) → AllByRecursion P xs → (x : X) → Contains xs x → P x
-each_of P [] all x there = absurd (no_member x there)
-each_of P (y ∷ xs) all x there = elim (member_cases y x xs there) [
-  | inl same ↦ subst P same all.0
-  | inr later ↦ each_of P xs all.1 x later
-]
 
 abbrev pub b_one : ModuleVersion
 b_one = (codes "b.c", codes "v1.0.0")
@@ -78,46 +74,24 @@ with_a_proper : AreProperRows rows_with_a
 with_a_proper = each_of IsProperRow rows_with_a (refl, (a_proper, tt))
 
 b_is_no_row : Contains rows_with_a (row_at b_one) → ⊥
-b_is_no_row there = elim (member_cases main_entry (row_at b_one) (row_at a_one ∷ []) there) [
-  | inl same ↦ main_is_no_row b_one same
-  | inr later ↦ elim (member_cases (row_at a_one) (row_at b_one) [] later) [
-    | inl same ↦ a_is_not_b (row_same a_one b_one same)
-    | inr none ↦ no_member (row_at b_one) none
-  ]
-]
+b_is_no_row there =
+    each_of (λ row. row ≢ row_at b_one) rows_with_a (main_is_no_row b_one, ((λ e. a_is_not_b (row_same a_one b_one e)), tt)) (row_at b_one) there refl
 
 -- ---- the rows of a text
 
--- the first line is that of the main module
-own_path : (main rest text : List ℕ) → IsPath main → ((main ++ []) ++ codes "\n") ++ rest ≡ codes "m" ++ (10 ∷ text) → main ≡ codes "m"
-own_path main rest text is e = (cut_at 10 main (codes "m") rest text (path-plain main is) m_has_no_feed (sym (spread_main main rest) ∙ e)).0
-
 module _ (run : Given) (main : Main) (table : Option Sums) (rows : List Entry) (found : AreFound run main table [])
     (are : AreRows (run_of main table run.answers.asked) rows) where
-  pub main_is_path : IsPath main.path
-  main_is_path = (run_has_names run main table found.read).0
-
-  rows_proper : AreProperRows rows
-  rows_proper = run_has_proper_rows run main table rows found.read are
-
   -- rows with this text are these rows, and the main module is m
   pub rows_are : (known : List Entry) → AreProperRows (main_entry ∷ known) → list_text main.path rows ≡ list_text (codes "m") (main_entry ∷ known)
       → (main.path ≡ codes "m") × (rows ≡ main_entry ∷ known)
-  rows_are known proper e =
-      let begins : list_text main.path (main_entry ∷ map (entry_of (replacement_in main)) are.selected) ≡ list_text (codes "m") (main_entry ∷ known) =
-      ap (list_text main.path) (sym are.entries_are) ∙ e in
-      let own = own_path main.path (list_text main.path (map (entry_of (replacement_in main)) are.selected))
-      (list_text (codes "m") known) main_is_path begins in (
-        own,
-        text_says_rows main.path main_is_path rows (main_entry ∷ known) rows_proper proper
-            (e ∙ ap (λ (m : List ℕ). list_text m (main_entry ∷ known)) (sym own)),
-      )
+  rows_are known proper e = begun.rows_are run main table found (codes "m") rows known m_has_no_feed proper are e
 
-  -- so are rows that are some of them
+  -- some of the rows with the text of these rows are these rows
   some_are : (shown known : List Entry) → ((row : Entry) → Contains shown row → Contains rows row) → AreProperRows known
       → list_text main.path shown ≡ list_text main.path known → shown ≡ known
   some_are shown known inside proper e =
-      text_says_rows main.path main_is_path shown known (λ row there. rows_proper row (inside row there)) proper e
+      text_says_rows main.path (own_path run main table found) shown known
+      (λ row there. run_has_proper_rows run main table rows found.read are row (inside row there)) proper e
 
 -- ---- build lists
 
@@ -193,10 +167,10 @@ first_lacks = lacks 10 (λ b. nat_lt 10 b) refl (codes "a.b v1.0.0") refl
 pub main_is_missing : MainIsMissing
 main_is_missing run (main, table, selected, found, greatest, says) =
     let rows : List Entry = main_entry ∷ map (entry_of (replacement_in main)) selected in
-    let is = main_is_path run main table rows found (as_build_list (run_of main table run.answers.asked) selected greatest) in
+    let is = own_path run main table found in
     let rest = list_text main.path (map (entry_of (replacement_in main)) selected) in
     let text : codes "a.b v1.0.0" ++ (10 ∷ []) ≡ main.path ++ (10 ∷ rest) =
-    same_text (codes "a.b v1.0.0\n") (list_text main.path rows) says ∙ spread_main main.path rest in
+    same_text (codes "a.b v1.0.0\n") (list_text main.path rows) says ∙ first_row main.path (map (entry_of (replacement_in main)) selected) in
     let own = (cut_at 10 (codes "a.b v1.0.0") main.path [] rest first_lacks (path-plain main.path is) text).0 in
     let plain : Lacks 32 (codes "a.b v1.0.0") = subst (Lacks 32) (sym own) (path_has_no_blank main.path is) in
     plain.1.1.1.0 refl
@@ -212,10 +186,7 @@ row_is_too_low run main is top shows =
     let s = selects run (codes "m\na.b v1.0.0\n") (a_one ∷ []) (a_name, tt) refl shows in
     let here : IsRequiredBy s.main a_two = subst (λ (m : Main). IsRequiredBy m a_two) (same_main run main s.main s.table s.found is) top in
     let (x, there, path, high) = s.greatest.satisfied a_two (FromMain, here) (a_is_not_main s.main.path s.own) in
-    elim (member_cases a_one x [] there) [
-      | inl same ↦ two_is_above (subst (λ (y : ModuleVersion). is_gt (version_cmp a_two.1 y.1) ≡ false) (sym same) high)
-      | inr none ↦ no_member x none
-    ]
+    two_is_above (rw (sym (one_member a_one x there)) at high)
 
 pub required_has_no_row : RequiredHasNoRow
 required_has_no_row run main is top shows =
@@ -224,29 +195,11 @@ required_has_no_row run main is top shows =
     let (x, there, path, high) = s.greatest.satisfied a_one (FromMain, here) (a_is_not_main s.main.path s.own) in
     no_member x there
 
--- a main file that requires nothing opens nothing
-module _ (run : Run) (nothing : run.main.requirements ≡ []) where
-  no_top : (x : ModuleVersion) → IsTop run x → ⊥
-  no_top x top = no_member x (subst (λ (xs : List ModuleVersion). Contains (without_excluded run.main xs) x) nothing top)
-
-  no_deep : {x : ModuleVersion} → IsDeep run x → ⊥
-  no_deep (from_main {x} unpruned top) = no_top x top
-  no_deep (from_top {x} {y} file top says unpruned there) = no_top x top
-  no_deep (from_deep {x} {y} deep requires) = no_deep deep
-
-  no_opened : (x : ModuleVersion) → IsOpened run x → ⊥
-  no_opened x (inl top) = no_top x top
-  no_opened x (inr deep) = no_deep deep
-
-  no_vertex : (x : ModuleVersion) → IsVertex run x → ⊥
-  no_vertex x (FromMain, top) = no_top x top
-  no_vertex x (Of y, (opens, requires)) = no_opened y opens
-
 pub row_is_not_required : RowIsNotRequired
 row_is_not_required run main is nothing shows =
     let s = selects run (codes "m\na.b v1.0.0\n") (a_one ∷ []) (a_name, tt) refl shows in
     let none : s.main.requirements ≡ [] = ap (λ (m : Main). m.requirements) (sym (same_main run main s.main s.table s.found is)) ∙ nothing in
-    no_vertex (run_of s.main s.table run.answers.asked) none a_one (s.greatest.required a_one (member_head a_one []))
+    none_leads (run_of s.main s.table run.answers.asked) none a_one (s.greatest.required a_one (member_head a_one []))
 
 -- ---- parts
 
@@ -283,15 +236,12 @@ later_rows (x ∷ before) rest entry first row others e there =
     (Contains-append_right before (entry ∷ rest) row (member_tail entry row rest there))
 
 main_is_not_later : Contains (row_at a_one ∷ []) main_entry → ⊥
-main_is_not_later there = elim (member_cases (row_at a_one) main_entry [] there) [
-  | inl same ↦ main_is_no_row a_one (sym same)
-  | inr none ↦ no_member main_entry none
-]
+main_is_not_later there = main_is_no_row a_one (sym (one_member (row_at a_one) main_entry there))
 
 pub part_is_the_whole : PartIsTheWhole
 part_is_the_whole path limit run (main, table, rows, found, are, says, no_path none tells) = cc none
 part_is_the_whole path limit run (main, table, rows, found, are, says, path_unlisted other is (none, tells)) =
-    not_printed (codes "m\na.b v1.0.0\n") (not_listed_line other) tells
+    not_refused _ _ tells refl
 part_is_the_whole path limit run (main, table, rows, found, are, says, path_listed other rest at_path (entry, at) tells) =
     let (own, same) = whole_is run main table rows found are says in
     let inside : (row : Entry) → Contains (up_to limit rest) row → Contains rows row =
@@ -308,26 +258,6 @@ part_is_the_whole path limit run (main, table, rows, found, are, says, path_list
 
 -- ---- pages
 
--- what the first of these pages is, if this is the text of the first page
-data PageCase (run : Given) (main text : List ℕ) : List (List Entry) → Type 0 where
-  none_left : text ≡ [] → PageCase run main text []
-  some_left : {pages : List (List Entry)} (front : List Entry) (last : Entry) → list_text main (front ++ last ∷ []) ≡ text
-      → ArePrintedPages run main 1 (Some (path_of main last.0)) pages → PageCase run main text ((front ++ last ∷ []) ∷ pages)
-
-page_case : (run : Given) (main text : List ℕ) {after : Option (List ℕ)} {pages : List (List Entry)} → ListEnds after (Some 1) run (text_outcome text)
-    → ArePrintedPages run main 1 after pages → PageCase run main text pages
-page_case run main text is (no_row {after} says) = none_left
-    (same_text text [] (one_outcome (Rows after (Some 1)) run (text_outcome text) (text_outcome []) is says))
-page_case run main text is (one_page {after} {pages} front last says more) =
-    some_left front last (same_text (list_text main (front ++ last ∷ [])) text
-    (one_outcome (Rows after (Some 1)) run (text_outcome (list_text main (front ++ last ∷ []))) (text_outcome text)
-    says is)) more
-
-last_of : (front : List Entry) (last one : Entry) → front ++ last ∷ [] ≡ one ∷ [] → last ≡ one
-last_of [] last one e = cc e
-last_of (x ∷ []) last one e = absurd (cc e)
-last_of (x ∷ y ∷ front) last one e = absurd (cc e)
-
 no_last : (front : List Entry) (last : Entry) → front ++ last ∷ [] ≡ [] → ⊥
 no_last [] last e = cc e
 no_last (x ∷ front) last e = cc e
@@ -335,85 +265,63 @@ no_last (x ∷ front) last e = cc e
 only_main : main_entry ∷ [] ≡ rows_with_a → ⊥
 only_main e = cc e
 
-abbrev only_m : List ℕ
-only_m = codes "m\n"
-
 m_proper : AreProperRows (main_entry ∷ [])
 m_proper = each_of IsProperRow (main_entry ∷ []) (refl, tt)
 
-module _ (run : Given) (main : Main) (table : Option Sums) (found : AreFound run main table []) where
-  abbrev AreJoined : List (List Entry) → Type 0
-  AreJoined pages = AreRows (run_of main table run.answers.asked) (entries_of_pages pages)
+-- rows that are no page behind the main module's row
+abbrev AreNoPage : List Entry → Type 0
+AreNoPage known = (front : List Entry) (last : Entry) → front ++ last ∷ [] ≡ known
+    → ((row : Entry) → Contains known row → Contains rows_with_a row) → ⊥
 
-  abbrev IsText : List (List Entry) → Type 0
-  IsText pages = list_of_a.text ≡ flat_map (list_text main.path) pages
+-- no pages join to the list if the first is that of the main module and the text of the second that of such rows
+module _ (run : Given) (main : Main) (table : Option Sums) (found : AreFound run main table []) (own : main.path ≡ codes "m")
+    (known : List Entry) (proper : AreProperRows known) (never : AreNoPage known) where
+  abbrev HasRows : List Entry → Type 0
+  HasRows rows = AreRows (run_of main table run.answers.asked) rows
 
-  joined_are : (pages : List (List Entry)) → AreJoined pages → IsText pages → (main.path ≡ codes "m") × (entries_of_pages pages ≡ rows_with_a)
-  joined_are pages are text = whole_is run main table (entries_of_pages pages) found are (ap text_outcome (text ∙ sym (texts_join main.path pages)))
+  abbrev HasPage : Option (List ℕ) → List Entry → Type 0
+  HasPage after page = ListEnds after (Some 1) run (text_outcome (list_text (codes "m") page))
 
-  -- the first page is that of the main module
-  first_is : (page : List Entry) (pages : List (List Entry)) → AreJoined (page ∷ pages) → IsText (page ∷ pages)
-      → list_text main.path page ≡ only_m → page ≡ main_entry ∷ []
-  first_is page pages are text says =
-      let own = (joined_are (page ∷ pages) are text).0 in
-      some_are run main table (entries_of_pages (page ∷ pages)) found are page (main_entry ∷ [])
-      (λ row there. Contains-append_left page (entries_of_pages pages) row there) m_proper
-      (says ∙ ap (λ (m : List ℕ). list_text m (main_entry ∷ [])) (sym own))
+  page_is : {after : Option (List ℕ)} (rows page shown : List Entry) → HasRows rows → ((row : Entry) → Contains page row → Contains rows row)
+      → AreProperRows shown → ListEnds after (Some 1) run (text_outcome (list_text main.path page)) → HasPage after shown → page ≡ shown
+  page_is {after} rows page shown are inside named says is =
+      let text = same_text (list_text main.path page) (list_text (codes "m") shown)
+      (one_outcome (Rows after (Some 1)) run (text_outcome (list_text main.path page)) (text_outcome (list_text (codes "m") shown)) says is) in
+      some_are run main table rows found are page shown inside named (text ∙ ap (λ (m : List ℕ). list_text m shown) (sym own))
 
-  -- what the second is, if this is the text of the second page
-  second_case : (front : List Entry) (last : Entry) (pages : List (List Entry)) (text : List ℕ) → main.path ≡ codes "m" → front ++ last ∷ [] ≡ main_entry ∷ []
-      → ListEnds (Some (codes "m")) (Some 1) run (text_outcome text)
-      → ArePrintedPages run main.path 1 (Some (path_of main.path last.0)) pages → PageCase run main.path text pages
-  second_case front last pages text own page is more =
-      let path : path_of main.path last.0 ≡ codes "m" = ap (λ (row : Entry). path_of main.path row.0) (last_of front last main_entry page) ∙ own in
-      page_case run main.path text is (subst (λ (p : List ℕ). ArePrintedPages run main.path 1 (Some p) pages) path more)
-
-  module _ (page : List Entry) (first : page ≡ main_entry ∷ []) where
-    in_second : (second : List Entry) (pages : List (List Entry)) (row : Entry) → Contains second row → Contains (entries_of_pages (page ∷ second ∷ pages)) row
-    in_second second pages row there = Contains-append_right page (second ++ entries_of_pages pages) row
-        (Contains-append_left second (entries_of_pages pages) row there)
-
-    missing_second : {pages : List (List Entry)} → AreJoined (page ∷ pages) → IsText (page ∷ pages) → PageCase run main.path [] pages → ⊥
-    missing_second are text (none_left none) =
-        only_main (sym (append-nil (main_entry ∷ [])) ∙ ap (λ (es : List Entry). es ++ []) (sym first) ∙ (joined_are (page ∷ []) are text).1)
-    missing_second are text (some_left {pages} front last says more) =
-        let second : List Entry = front ++ last ∷ [] in
-        no_last front last (some_are run main table (entries_of_pages (page ∷ second ∷ pages)) found are second []
-        (λ row there. in_second second pages row there) (each_of IsProperRow [] tt) says)
-
-    other_second : {pages : List (List Entry)} → AreJoined (page ∷ pages) → IsText (page ∷ pages) → PageCase run main.path (codes "b.c v1.0.0\n") pages → ⊥
-    other_second are text (none_left none) = cc none
-    other_second are text (some_left {pages} front last says more) =
-        let second : List Entry = front ++ last ∷ [] in
-        let is : second ≡ row_at b_one ∷ [] =
-        some_are run main table (entries_of_pages (page ∷ second ∷ pages)) found are second (row_at b_one ∷ [])
-        (λ row there. in_second second pages row there) (each_of IsProperRow (row_at b_one ∷ []) (b_proper, tt))
-        says in
-        let there : Contains second (row_at b_one) = subst (λ (es : List Entry). Contains es (row_at b_one)) (sym is) (member_head (row_at b_one) []) in
-        b_is_no_row (subst (λ (es : List Entry). Contains es (row_at b_one))
-        (joined_are (page ∷ second ∷ pages) are text).1 (in_second second pages (row_at b_one) there))
-
-  missing_first : {pages : List (List Entry)} → AreJoined pages → IsText pages
-      → ListEnds (Some (codes "m")) (Some 1) run (text_outcome []) → PageCase run main.path only_m pages → ⊥
-  missing_first are text is (none_left none) = cc none
-  missing_first are text is (some_left {pages} front last says more) =
+  second_page : {after : Option (List ℕ)} {pages : List (List Entry)} → HasRows (main_entry ∷ entries_of_pages pages)
+      → main_entry ∷ entries_of_pages pages ≡ rows_with_a → HasPage after known → ArePrintedPages run main.path 1 after pages → ⊥
+  second_page are joined is (no_row says) = only_main joined
+  second_page are joined is (one_page {pages} front last says more) =
       let page : List Entry = front ++ last ∷ [] in
-      let first = first_is page pages are text says in
-      missing_second page first are text (second_case front last pages [] (joined_are (page ∷ pages) are text).0 first is more)
+      let inside : (row : Entry) → Contains page row → Contains (main_entry ∷ (page ++ entries_of_pages pages)) row =
+      λ row there. member_tail main_entry row (page ++ entries_of_pages pages) (Contains-append_left page (entries_of_pages pages) row there) in
+      let same = page_is (main_entry ∷ (page ++ entries_of_pages pages)) page known are inside proper says is in
+      never front last same
+      (λ row there. subst (λ (es : List Entry). Contains es row) joined (inside row (subst (λ (es : List Entry). Contains es row) (sym same) there)))
 
-  other_first : {pages : List (List Entry)} → AreJoined pages → IsText pages
-      → ListEnds (Some (codes "m")) (Some 1) run (text_outcome (codes "b.c v1.0.0\n"))
-      → PageCase run main.path only_m pages → ⊥
-  other_first are text is (none_left none) = cc none
-  other_first are text is (some_left {pages} front last says more) =
+  first_page : {after : Option (List ℕ)} {pages : List (List Entry)} → HasRows (entries_of_pages pages) → entries_of_pages pages ≡ rows_with_a
+      → HasPage after (main_entry ∷ []) → HasPage (Some (codes "m")) known → ArePrintedPages run main.path 1 after pages → ⊥
+  first_page are joined first second (no_row says) = cc joined
+  first_page are joined first second (one_page {pages} front last says more) =
       let page : List Entry = front ++ last ∷ [] in
-      let first = first_is page pages are text says in
-      other_second page first are text (second_case front last pages (codes "b.c v1.0.0\n") (joined_are (page ∷ pages) are text).0 first is more)
+      let same = page_is (page ++ entries_of_pages pages) page (main_entry ∷ []) are
+      (λ row there. Contains-append_left page (entries_of_pages pages) row there) m_proper says first in
+      let path : path_of main.path last.0 ≡ codes "m" = ap (λ (row : Entry). path_of main.path row.0) (same_from_push front [] last main_entry same).1 ∙ own in
+      second_page (subst (λ (es : List Entry). HasRows (es ++ entries_of_pages pages)) same are)
+      (ap (λ (es : List Entry). es ++ entries_of_pages pages) (sym same) ∙ joined) second
+      (subst (λ (p : List ℕ). ArePrintedPages run main.path 1 (Some p) pages) path more)
+
+no_pages : (known : List Entry) → AreProperRows known → AreNoPage known → (run : Given) → ListEnds None (Some 1) run (text_outcome (codes "m\n"))
+    → ListEnds (Some (codes "m")) (Some 1) run (text_outcome (list_text (codes "m") known)) → JoinsPages 1 run list_of_a → ⊥
+no_pages known proper never run first second (main, table, pages, found, are, paged, text) =
+    let (own, same) = whole_is run main table (entries_of_pages pages) found are (ap text_outcome (text ∙ sym (texts_join main.path pages))) in
+    first_page run main table found own known proper never are same first second paged
 
 pub page_is_missing : PageIsMissing
-page_is_missing run first second (main, table, pages, found, are, paged, text) =
-    missing_first run main table found are text second (page_case run main.path only_m first paged)
+page_is_missing = no_pages [] (each_of IsProperRow [] tt) (λ front last is inside. no_last front last is)
 
 pub page_has_another_row : PageHasAnotherRow
-page_has_another_row run first second (main, table, pages, found, are, paged, text) =
-    other_first run main table found are text second (page_case run main.path only_m first paged)
+page_has_another_row =
+    no_pages (row_at b_one ∷ []) (each_of IsProperRow (row_at b_one ∷ []) (b_proper, tt))
+    (λ front last is inside. b_is_no_row (inside (row_at b_one) (member_head (row_at b_one) [])))

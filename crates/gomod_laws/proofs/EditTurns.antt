@@ -28,8 +28,8 @@ use Rattle.gomod_run.proofs.FolderNames.{read_document}
 use Rattle.gomod_words.specs.Usage.{texts_in}
 use Rattle.gomod_laws.specs.Runs.{IsEdited}
 use Rattle.gomod_laws.proofs.FormattingBlanks.{no_fault_again, same_said}
-use Rattle.gomod_laws.proofs.FormattingProofs.{not_printed}
 use Rattle.gomod_laws.proofs.FormattingRead.{layout_read}
+use Rattle.gomod_run.proofs.PrintedList.{not_refused}
 
 -- the lines that operations leave
 abbrev pub turned : List (List ℕ) → List (Line Placed) → List (Line Placed)
@@ -94,7 +94,7 @@ IsNext first texts text lines operation = (edit_in first ≡ Some operation) × 
 next : (first : List ℕ) (texts : List (List ℕ)) (text : List ℕ) (lines : List (Line Placed))
     → PrintsFrom (first ∷ texts) text lines → (operation : Operation) × IsNext first texts text lines operation
 next first texts text lines from = elim (turn_of first) [
-  | is_refused kind is ↦ absurd (not_printed text (edit_line (from.number, kind)) (sym from.prints ∙ refused_turn from.number kind first texts lines is))
+  | is_refused kind is ↦ absurd (not_refused _ _ (sym from.prints ∙ refused_turn from.number kind first texts lines is) refl)
   | is_taken operation written fit ↦
       let edit : IsEditOf operation lines = ((first, written), fit, from.sound.0, from.sound.1) in
       let prints = sym (taken_turn from.number first texts lines operation written fit) ∙ from.prints in
@@ -123,7 +123,7 @@ pub edited_from : (operations : Vec (String Global)) (earlier rest : List (List 
     → texts_in operations ≡ earlier ++ rest → IsEdited operations file text
     → (lines : List (Line Placed)) × IsMainOf file lines × PrintsFrom rest text (turned earlier lines)
 edited_from operations earlier rest file text given prints = elim (subst (λ (ts : List (List ℕ)). EditEnds ts file (text_outcome text)) given prints.0) [
-  | bad_main place malformed says ↦ absurd (not_printed text (main_line place) says)
+  | bad_main place malformed says ↦ absurd (not_refused _ _ says refl)
   | applied lines main says ↦ (lines, main, after_all earlier rest text lines (record { sound = read_sound file lines main; number = 1; prints = sym says }))
 ]
 

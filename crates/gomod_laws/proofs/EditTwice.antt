@@ -13,18 +13,12 @@ use Rattle.gomod_words.specs.Usage.{texts_in}
 use Rattle.gomod_words.specs.declared.usage.Command.TheVariants.{Edit}
 use Rattle.gomod_laws.specs.EditTwiceLaws.{AreOneOrRefuseALater, LastTwiceIsOnce, RefuseALater, RepeatsOne, TwiceIsOnceOrRefused, TwicePrintsAsOnce}
 use Rattle.gomod_laws.proofs.Ended.{Ends}
-use Rattle.gomod_laws.proofs.VersionRuns.{refusal_prints_nothing}
 use Rattle.gomod_laws.proofs.EditTurns.{AreSoundLines, edit_sound, is_refused, is_taken, outcome_from, read_sound, refused_turn, taken_turn, turn_of}
+use Rattle.gomod_run.proofs.PrintedList.{not_refused}
 
 -- the outcomes are one, or a later operation is refused in both; they are one if there is no later operation
 abbrev AreAlike : List (List ℕ) → ℕ → Outcome → Outcome → Type 0
 AreAlike later number first second = ((later ≡ []) → first ≡ second) × AreOneOrRefuseALater number first second
-
--- outcomes that are the same as others are alike if those are
-alike_as : (later : List (List ℕ)) (number : ℕ) (first second one other : Outcome) → first ≡ one → second ≡ other
-    → AreAlike later number one other → AreAlike later number first second
-alike_as later number first second one other first_is second_is are =
-    subst (λ (o : Outcome). AreAlike later number o second) (sym first_is) (subst (AreAlike later number one) (sym second_is) are)
 
 -- operations after one more than before
 later_alike : (later : List (List ℕ)) (before number : ℕ) (lines : List (Line Placed)) → before < number
@@ -42,8 +36,7 @@ later_alike (text ∷ later) before number lines low = elim (turn_of text) [
       } in
       ((λ nothing. absurd cc), inr refused)
   | is_taken operation written fit ↦
-      alike_as (text ∷ later) before _ _ _ _ (taken_turn number text later lines operation written fit)
-      (taken_turn (number + 1) text later lines operation written fit)
+      rw (taken_turn number text later lines operation written fit, taken_turn (number + 1) text later lines operation written fit)
       ((λ nothing. absurd cc), (later_alike later before (number + 1) (lines_after operation lines) (omega (arith, low))).1)
 ]
 
@@ -58,9 +51,12 @@ module _ (text : List ℕ) (later : List (List ℕ)) where
         ((λ nothing. same), inl same)
     | is_taken operation written fit ↦
         let after : List (Line Placed) = lines_after operation lines in
-        alike_as later number _ _ _ _ (taken_turn number text later lines operation written fit)
-        (taken_turn number text (text ∷ later) lines operation written fit ∙ taken_turn (number + 1) text later after operation written fit
-        ∙ ap (outcome_from ((number + 1) + 1) later) (second-operation operation lines ((text, written), fit, sound.0, sound.1)))
+        rw (
+          taken_turn number text later lines operation written fit,
+          taken_turn number text (text ∷ later) lines operation written fit,
+          taken_turn (number + 1) text later after operation written fit,
+          second-operation operation lines ((text, written), fit, sound.0, sound.1),
+        )
         (later_alike later number (number + 1) after (omega arith))
   ]
 
@@ -76,8 +72,10 @@ module _ (text : List ℕ) (later : List (List ℕ)) where
         ∙ sym (refused_turn number kind first (earlier ++ text ∷ text ∷ later) lines why) in
         ((λ nothing. same), inl same)
     | is_taken operation written fit ↦
-        alike_as later at _ _ _ _ (taken_turn number first (earlier ++ text ∷ later) lines operation written fit)
-        (taken_turn number first (earlier ++ text ∷ text ∷ later) lines operation written fit)
+        rw (
+          taken_turn number first (earlier ++ text ∷ later) lines operation written fit,
+          taken_turn number first (earlier ++ text ∷ text ∷ later) lines operation written fit,
+        )
         (all_alike earlier at (number + 1) (lines_after operation lines) (omega (arith, is))
         (edit_sound operation lines ((first, written), fit, sound.0, sound.1)))
   ]
@@ -93,7 +91,7 @@ runs_alike once twice file first second repeats one two = elim (subst (λ (ts : 
       ((λ nothing. same), inl same)
   | applied lines main says ↦
       let again = subst (λ (ts : List (List ℕ)). EditEnds ts file second) repeats.given_twice two in
-      alike_as repeats.later (length repeats.earlier + 1) _ _ _ _ says (edit_once _ file second _ again (applied lines main refl))
+      rw (says, edit_once _ file second _ again (applied lines main refl))
       (all_alike repeats.operation repeats.later repeats.earlier (length repeats.earlier + 1) 1 lines refl (read_sound file lines main))
 ]
 
@@ -101,8 +99,8 @@ pub twice_prints_as_once : TwicePrintsAsOnce
 twice_prints_as_once once twice file first second repeats one two prints = elim (runs_alike once twice file first second repeats one.0 two.0).1 [
   | inl same ↦ same
   | inr later ↦ absurd (elim prints [
-    | inl is ↦ refusal_prints_nothing first _ later.refused_once is
-    | inr is ↦ refusal_prints_nothing second _ later.refused_twice is
+    | inl is ↦ not_refused _ first later.refused_once is
+    | inr is ↦ not_refused _ second later.refused_twice is
   ])
 ]
 

@@ -5,6 +5,7 @@ use Rattle.std.specs.List.{IsDistinct}
 use Rattle.std.specs.declared.cmp.Ordering.TheVariants.{Less}
 use Rattle.std.proofs.lemmas.Bool.{false≢true}
 use Rattle.std.proofs.lemmas.Fmt.{decimal_digit}
+use Rattle.std.proofs.lemmas.List.{same_from_push}
 use Rattle.std.proofs.lemmas.Map.Keys.{IsDistinct-head}
 use Rattle.std.proofs.lemmas.Option.{cond_some, same_Some}
 use Rattle.gm_name.specs.Path.{is_fetchable}
@@ -21,11 +22,11 @@ use Rattle.gm_graph_cache.specs.declared.cache.class.Class.TheVariants.{Missing}
 use Rattle.gm_file.specs.declared.misreading.Misreading.TheVariants as misreading
 use Rattle.gm_graph_select.specs.declared.step.Step.TheVariants.{Main as FromMain, Of}
 use Rattle.gm_graph_select.specs.BuildList.{main_entry, path_cmp}
-use Rattle.gm_graph_select.proofs.Ascending.{member_cases, member_head, no_member}
+use Rattle.gm_graph_select.proofs.Ascending.{member_head, no_member, one_member}
 use Rattle.gm_graph.specs.Run.{AreFaults, AreOpened, AreRows, AreTooMany, IsDue, IsFault, IsNeeded, IsOpened, IsSettled, IsTop, IsVertex, from_deep, from_main, from_top}
-use Rattle.gm_graph_cache.specs.Sayings.{FileSays, Run, Says, answered, faulty as says_fault, run_of, sound, unaskable, wrong_path}
+use Rattle.gm_graph_cache.specs.Sayings.{FileSays, Run, Says, answered, faulty as says_fault, run_of, unaskable}
 use Rattle.gm_graph.specs.declared.fault.Fault.{Fault}
-use Rattle.gm_graph.proofs.LawProofs.{modules_say_one_thing}
+use Rattle.gm_graph_cache.proofs.Sayings.{class_same}
 use Rattle.gomod_run.specs.Queries.{AreFound, FilesReadAs, bad_main, bad_sums, device, faulty, no_fault, too_many}
 use Rattle.gomod_run.specs.ListQuery.{ListEnds, no_path}
 use Rattle.gomod_run.specs.Outcome.{text_outcome, refusal_outcome}
@@ -36,7 +37,8 @@ use Rattle.gomod_words.specs.declared.usage.Command.TheVariants.{List as Rows}
 use Rattle.gomod_laws.specs.ExampleRuns.{BadSumIsRefused, EmptyIsRefused, HasNoOutcome, IsListedAlone, RequiredIsAsked, alone, low_name, main_requiring, requiring, run_with_bad_sum, top_name, top_one}
 use Rattle.gomod_laws.specs.ExampleRuns as example
 use Rattle.gomod_laws.proofs.FilesOnce.{misread_or_main}
-use Rattle.gomod_laws.proofs.ExampleEdges.{none_opened, pairs_of}
+use Rattle.gomod_laws.proofs.ExampleEdges.{none_leads, none_opened, says_file}
+use Rattle.gomod_laws.proofs.WrittenLists.{each_of, pairs_of}
 use Rattle.gomod_laws.proofs.ExampleFiles.{empty_is_malformed, files_are_read}
 
 nothing_twice : IsDistinct same_name []
@@ -52,16 +54,12 @@ none_few : (xs : List ModuleVersion) → AreOpened lone xs → length xs ≤ 655
 none_few [] are = omega arith
 none_few (x ∷ xs) are = absurd (none_opened lone refl x (are.each x (member_head x xs)))
 
-none_leads : (x : ModuleVersion) → IsVertex lone x → ⊥
-none_leads x (FromMain, top) = no_member x top
-none_leads x (Of y, (opens, requires)) = none_opened lone refl y opens
-
 none_rows : AreRows lone (main_entry ∷ [])
 none_rows = record {
   selected = [];
   entries_are = refl;
   ascending = pairs_of (λ (a b : ModuleVersion). path_cmp a b ≡ Less) [] tt;
-  each = λ x. ((λ there. absurd (no_member x there)), λ is. absurd (none_leads x is.is_end));
+  each = λ x. ((λ there. absurd (no_member x there)), λ is. absurd (none_leads lone refl x is.is_end));
 }
 
 none_faulty : AreFaults lone []
@@ -124,14 +122,8 @@ module _ (asked : List (Name × Reply)) (silent : IsSilent (run_with asked)) whe
   abbrev run : Run
   run = run_with asked
 
-  is_top : IsTop run top_one
-  is_top = member_head top_one []
-
   top_is : (x : ModuleVersion) → IsTop run x → x ≡ top_one
-  top_is x there = elim (member_cases top_one x [] there) [
-    | inl same ↦ sym same
-    | inr none ↦ absurd (no_member x none)
-  ]
+  top_is x there = sym (one_member top_one x there)
 
   opened_is : (x : ModuleVersion) → IsOpened run x → x ≡ top_one
   opened_is x (inl top) = top_is x top
@@ -161,21 +153,16 @@ top_needed : (asked : List (Name × Reply)) → IsNeeded (run_with asked) top_na
 unfolding is_fetchable
 top_needed asked = (top_one, inl (member_head top_one []), refl, refl)
 
--- no file is valid if none is read as a valid one
-is_silent : (asked : List (Name × Reply))
-    → ((name : Name) (reply : Reply) (file : Dependency) → (run_with asked).answers name ≡ Some reply
-    → IsFileReading None name reply (Ok file) → ⊥) → IsSilent (run_with asked)
-is_silent asked unread x file says = by says refl
+-- no file is valid if each is answered to be missing
+absent_in : (asked : List (Name × Reply)) → ((name : Name) (reply : Reply) → (run_with asked).answers name ≡ Some reply
+    → reply ≡ absent) → IsSilent (run_with asked)
+absent_in asked gone x file says = by (says_file says file refl) refl
   where
-    by_file : {said : Result Dependency Class} → FileSays (run_with asked) (file_of main x) said → (other : Dependency) → said ≡ Ok other → ⊥
-    by_file (unaskable isnt) other same = cc same
-    by_file {said} (answered reply ask at is) other same =
-        unread (file_of main x) reply other at (subst (λ (r : Result Dependency Class). IsFileReading None (file_of main x) reply r) same is)
-
-    by : {said : Result Dependency Class} → Says (run_with asked) x said → said ≡ Ok file → ⊥
-    by (says_fault is) same = cc same
-    by (wrong_path other is right) same = cc same
-    by (sound {file = other} is right) same = by_file is other refl
+    by : {said : Result Dependency Class} → FileSays (run_with asked) (file_of main x) said → said ≡ Ok file → ⊥
+    by (unaskable isnt) same = cc same
+    by {said} (answered reply ask at is) same =
+        let missing : said ≡ Err Missing = subst (λ (r : Reply). IsFileReading None (file_of main x) r said) (gone (file_of main x) reply at) is in
+        cc (same, missing)
 
 -- a run of `list` on the two lines that found all, or too much
 module _ (asked : List (Name × Reply)) (refusals : List Name) (silent : IsSilent (run_with asked))
@@ -210,7 +197,7 @@ module _ (asked : List (Name × Reply)) (refusals : List Name) (silent : IsSilen
 -- ---- nothing is answered
 
 unanswered_silent : IsSilent (run_with [])
-unanswered_silent = is_silent [] (λ name reply file at is. cc at)
+unanswered_silent = absent_in [] (λ name reply at. absurd (cc at))
 
 not_asked : IsSettled (run_with []) [] → ⊥
 not_asked settled = no_member top_name ((settled.needed top_name).1 (top_needed []))
@@ -226,23 +213,10 @@ names_differ : top_name ≡ low_name → ⊥
 unfolding path_in
 names_differ e = let letter : 116 ≡ 108 = heads 116 108 _ _ (ap path_in e) in omega (arith, letter)
 
-one_of : (one other : Name) → one ∷ [] ≡ other ∷ [] → one ≡ other
-one_of one other e = cc e
-
 low_not_due : (name : Name) → IsDue (run_with []) name → low_name ∷ [] ≡ name ∷ [] → ⊥
-low_not_due name due failed = names_differ (need_is [] unanswered_silent name due.calls.needed ∙ sym (one_of low_name name failed))
+low_not_due name due failed = names_differ (need_is [] unanswered_silent name due.calls.needed ∙ sym ((same_from_push [] [] low_name name failed).1))
 
 -- ---- files are answered to be missing
-
-ok_is_missing : (file : Dependency) → ◌≡◌ {A = Result Dependency Class} (Ok file) (Err Missing) → ⊥
-ok_is_missing file e = cc e
-
--- the files of these names are
-absent_in : (asked : List (Name × Reply)) → ((name : Name) (reply : Reply) → (run_with asked).answers name ≡ Some reply
-    → reply ≡ absent) → IsSilent (run_with asked)
-absent_in asked gone =
-    is_silent asked
-    (λ name reply file at is. ok_is_missing file (subst (λ (r : Reply). IsFileReading None name r (Ok file)) (gone name reply at) is))
 
 two_absent : (first second : Bool) (reply : Reply) → (if first then Some absent else (if second then Some absent else None)) ≡ Some reply → reply ≡ absent
 two_absent true second reply at = sym (same_Some absent reply at)
@@ -279,20 +253,14 @@ once_asked = (tt, tt)
 top_not_due : (name : Name) → IsDue (run_with told) name → top_name ∷ [] ≡ name ∷ [] → ⊥
 top_not_due name due failed =
     let unasked : (run_with told).answers top_name ≡ None =
-    subst (λ (n : Name). (run_with told).answers n ≡ None) (sym (one_of top_name name failed)) due.unasked in
+    subst (λ (n : Name). (run_with told).answers n ≡ None) (sym ((same_from_push [] [] top_name name failed).1)) due.unasked in
     cc unasked
-
-named_needed : (name : Name) → Contains (top_name ∷ []) name → IsNeeded (run_with told) name
-named_needed name there = elim (member_cases top_name name [] there) [
-  | inl same ↦ subst (IsNeeded (run_with told)) same (top_needed told)
-  | inr none ↦ absurd (no_member name none)
-]
 
 missing_settled : IsSettled (run_with told) (top_name ∷ [])
 missing_settled = record {
   read = λ name reply at. (Err Missing, subst (λ (r : Reply). IsFileReading None name r (Err Missing)) (sym (told_absent name reply at)) refl);
   once = once_asked;
-  needed = λ name. (named_needed name, λ need. subst (Contains (top_name ∷ [])) (need_is told missing_silent name need) (member_head top_name []));
+  needed = λ name. (each_of (IsNeeded (run_with told)) (top_name ∷ []) (top_needed told, tt) name, λ need. subst (Contains (top_name ∷ [])) (need_is told missing_silent name need) (member_head top_name []));
   few = one_few told missing_silent;
 }
 
@@ -300,34 +268,23 @@ top_is_missing : Says (run_with told) top_one (Err Missing)
 unfolding is_fetchable
 top_is_missing = says_fault (answered absent refl refl refl)
 
-same_fault : (a b : Class) → ◌≡◌ {A = Result Dependency Class} (Err a) (Err b) → a ≡ b
-same_fault a b e = cc e
-
 abbrev fault_with : ModuleVersion → Class → Fault
 fault_with x class = record { vertex = x; class = class }
 
 abbrev top_fault : Fault
 top_fault = fault_with top_one Missing
 
-member_faulty : (one : Fault) → Contains (top_fault ∷ []) one → IsFault (run_with told) one
-member_faulty one there = elim (member_cases top_fault one [] there) [
-  | inl same ↦ subst (IsFault (run_with told)) same (inl (member_head top_one []), top_is_missing)
-  | inr none ↦ absurd (no_member one none)
-]
-
 faulty_member : (one : Fault) → IsFault (run_with told) one → Contains (top_fault ∷ []) one
 faulty_member one (opens, says) =
     let own : one.vertex ≡ top_one = opened_is told missing_silent one.vertex opens in
-    let class : Missing ≡ one.class = same_fault Missing one.class
-    (modules_say_one_thing (run_with told) top_one (Err Missing) (Err one.class) top_is_missing
-    (subst (λ (x : ModuleVersion). Says (run_with told) x (Err one.class)) own says)) in
+    let class : Missing ≡ one.class = class_same top_is_missing (subst (λ (x : ModuleVersion). Says (run_with told) x (Err one.class)) own says) in
     let same : top_fault ≡ one = ap₂ fault_with (sym own) class in
     subst (Contains (top_fault ∷ [])) same (member_head top_fault [])
 
 missing_faulty : AreFaults (run_with told) (top_fault ∷ [])
 missing_faulty = record {
   ascending = pairs_of (λ (a b : Fault). pair_cmp a.vertex b.vertex ≡ Less) (top_fault ∷ []) (tt, tt);
-  each = λ one. (member_faulty one, faulty_member one);
+  each = λ one. (each_of (IsFault (run_with told)) (top_fault ∷ []) ((inl (member_head top_one []), top_is_missing), tt) one, faulty_member one);
 }
 
 -- ---- the outcomes

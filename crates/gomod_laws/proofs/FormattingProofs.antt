@@ -24,6 +24,7 @@ use Rattle.gomod_laws.proofs.FormattingRead.{parsed_layout}
 use Rattle.gomod_laws.proofs.LineOrderProofs.{queries_move}
 use Rattle.gomod_laws.proofs.LineOrderRuns.{same_outcome}
 use Rattle.gomod_laws.proofs.LineOrderSame.{says_itself}
+use Rattle.gomod_run.proofs.PrintedList.{not_refused}
 
 -- ---- what a main file says
 
@@ -47,12 +48,9 @@ pub record IsLayoutOf (file text : List ℕ) : Type 0 where
   pub parsed : IsParsedAs file (Ok lines)
   pub text_is : text ≡ layout (plain_lines lines)
 
-pub not_printed : (text report : List ℕ) → text_outcome text ≡ refusal_outcome report → ⊥
-not_printed text report same = let e : 0 ≡ 1 = ap (λ (o : Outcome). o.status) same in omega (arith, e)
-
 laid : (file text : List ℕ) → FmtEnds file (text_outcome text) → IsLayoutOf file text
 laid file text (laid_out lines parsed says) = record { lines = lines; parsed = parsed; text_is = ap (λ (o : Outcome). o.text) says }
-laid file text (bad_syntax fault place parsed named says) = absurd (not_printed text (main_line place) says)
+laid file text (bad_syntax fault place parsed named says) = absurd (not_refused _ _ says refl)
 
 pub fmt_printed : (file text : List ℕ) → IsFormatted file text → IsLayoutOf file text
 fmt_printed file text has = laid file text has.0

@@ -15,9 +15,10 @@ use Rattle.gm_name.proofs.BaseVersions.{parts-spelled}
 use Rattle.gm_name.specs.VersionOrder.{version_total}
 use Rattle.gm_store.specs.Latest.{IsLatest, counts}
 use Rattle.gm_store.specs.Listed.{IsListable, IsListed, IsPseudoVersion}
-use Rattle.gm_graph_select.proofs.Ascending.{member_cases, member_head, member_tail, no_member}
+use Rattle.gm_graph_select.proofs.Ascending.{member_head, member_tail}
 use Rattle.gm_graph_select.proofs.Greatest.{not_above_itself}
 use Rattle.gomod_run.proofs.ListLines.{heads}
+use Rattle.gomod_laws.proofs.WrittenLists.{each_of}
 
 -- what a version says
 abbrev pub Parts : Type 0
@@ -88,26 +89,21 @@ one_ten_parts = parts-spelled one_ten (1, 10, 0, [], []) (lit< tt, lit< tt, lit<
 
 -- ---- their order
 
-decided : (v w : List ℕ) (p q : Parts) → parts_in v ≡ p → parts_in w ≡ q → precedence (parts_in v) (parts_in w) ≡ precedence p q
-decided v w p q e f = ap₂ precedence e f
-
-above : (v w : List ℕ) → precedence (parts_in v) (parts_in w) ≡ Greater → version_cmp v w ≡ Greater
-above v w e = ap (λ (o : Ordering). ordering_then o (slice_cmp nat_cmp v w)) e
-
-below : (v w : List ℕ) → precedence (parts_in v) (parts_in w) ≡ Less → version_cmp v w ≡ Less
-below v w e = ap (λ (o : Ordering). ordering_then o (slice_cmp nat_cmp v w)) e
+-- versions are ordered by what they say, and then by their bytes
+ordered : (v w : List ℕ) {p q : Parts} → parts_in v ≡ p → parts_in w ≡ q → version_cmp v w ≡ ordering_then (precedence p q) (slice_cmp nat_cmp v w)
+ordered v w e f = ap₂ (λ (p q : Parts). ordering_then (precedence p q) (slice_cmp nat_cmp v w)) e f
 
 pub one_one_is_above : version_cmp one_one one_zero ≡ Greater
-one_one_is_above = above one_one one_zero (decided one_one one_zero (1, 1, 0, [], []) (1, 0, 0, [], []) one_one_parts one_zero_parts ∙ refl)
+one_one_is_above = ordered one_one one_zero one_one_parts one_zero_parts
 
-pub one_zero_is_below : version_cmp one_zero one_one ≡ Less
-one_zero_is_below = below one_zero one_one (decided one_zero one_one (1, 0, 0, [], []) (1, 1, 0, [], []) one_zero_parts one_one_parts ∙ refl)
+one_zero_is_below : version_cmp one_zero one_one ≡ Less
+one_zero_is_below = ordered one_zero one_one one_zero_parts one_one_parts
 
 pub one_ten_is_above : version_cmp one_ten one_nine ≡ Greater
-one_ten_is_above = above one_ten one_nine (decided one_ten one_nine (1, 10, 0, [], []) (1, 9, 0, [], []) one_ten_parts one_nine_parts ∙ refl)
+one_ten_is_above = ordered one_ten one_nine one_ten_parts one_nine_parts
 
 pub same_precedence : precedence (parts_in one_zero) (parts_in one_zero) ≡ Equal
-same_precedence = decided one_zero one_zero (1, 0, 0, [], []) (1, 0, 0, [], []) one_zero_parts one_zero_parts ∙ refl
+same_precedence = ap₂ precedence one_zero_parts one_zero_parts
 
 pub versions_differ : one_zero ≡ one_one → ⊥
 versions_differ e = let digit : 48 ≡ 49 = heads 48 49 _ _ (ap (drop 3) e) in omega (arith, digit)
@@ -166,12 +162,6 @@ pub one_one_is_latest : IsLatest (one_zero ∷ one_one ∷ []) one_one
 one_one_is_latest = inl (record {
   listed = member_tail one_zero one_one (one_one ∷ []) (member_head one_one []);
   counted = one_one_counts;
-  greatest = λ other there counted. elim (member_cases one_zero other (one_one ∷ []) there) [
-    | inl same ↦ subst (λ (v : List ℕ). is_gt (version_cmp v one_one) ≡ false) same (ap is_gt one_zero_is_below)
-    | inr later ↦ elim (member_cases one_one other [] later) [
-      | inl same ↦ subst (λ (v : List ℕ). is_gt (version_cmp v one_one) ≡ false) same
-          (not_above_itself (version_cmp one_one one_one) (version_total.antisymm one_one one_one))
-      | inr none ↦ absurd (no_member other none)
-    ]
-  ];
+  greatest = λ other there counted. each_of (λ v. is_gt (version_cmp v one_one) ≡ false) (one_zero ∷ one_one ∷ [])
+      (ap is_gt one_zero_is_below, (not_above_itself (version_cmp one_one one_one) (version_total.antisymm one_one one_one), tt)) other there;
 })

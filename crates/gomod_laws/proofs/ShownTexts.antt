@@ -1,7 +1,7 @@
 -- What a query prints determines the main module's path, and the rows, edges and steps of its run.
-use Rattle.std.proofs.Common.{◌≡◌, ◌≢◌, ◌∙◌, ◌∷◌, ◌++◌, ℕ, List, [], None, Option, Contains, ap, append_assoc, arith, codes, length, length-append, map, refl, subst, sym}
+use Rattle.std.proofs.Common.{◌≡◌, ◌∙◌, ◌∷◌, ◌++◌, ℕ, List, [], Option, Contains, ap, append_assoc, arith, codes, inl, inr, length, length-append, map, refl, subst, sym}
+use Rattle.std.proofs.lemmas.List.Elements.{Contains-push_cases}
 use Rattle.gm_name.specs.Path.{IsPath}
-use Rattle.gm_name.specs.Version.{IsVersion}
 use Rattle.gm_name.specs.ModuleVersion.{ModuleVersion}
 use Rattle.gm_file.specs.Main.{Main, replacement_in}
 use Rattle.gm_graph_select.specs.declared.step.Edge.{Edge}
@@ -10,41 +10,34 @@ use Rattle.gm_graph_select.specs.declared.step.Step.TheVariants.{Main as FromMai
 use Rattle.gm_graph_select.specs.Graph.{Edges, edge}
 use Rattle.gm_graph_select.specs.BuildList.{entry_of, main_entry}
 use Rattle.gm_graph.specs.Entries.{Entry}
-use Rattle.gm_graph_select.specs.Chains.{IsChain, begins, goes_on}
-use Rattle.gm_graph_select.proofs.Ascending.{member_head}
+use Rattle.gm_graph.specs.Run.{AreEdges, AreRows, IsEdge}
+use Rattle.gm_graph_cache.specs.Sayings.{run_of}
+use Rattle.gm_graph_select.proofs.Ascending.{member_head, one_member}
 use Rattle.gm_store_sums.specs.Sums.{Sums}
 use Rattle.gomod_run.specs.Queries.{AreFound, Given}
+use Rattle.gomod_run.specs.QueryLaws.{IsWalk, further, here}
 use Rattle.gomod_run.specs.Outcome.{Outcome, text_outcome}
 use Rattle.gomod_run.specs.PrintedLines.{AreProperEdges, AreProperRows, AreProperSteps, IsProperStep}
 use Rattle.gomod_run.specs.ChainQuery.{chain_text}
 use Rattle.gomod_run.specs.GraphQuery.{graph_text}
 use Rattle.gomod_run.specs.ListQuery.{list_text}
 use Rattle.gomod_run.specs.LineParts.{step_text, vertex_text}
-use Rattle.gomod_run.proofs.GraphLines.{text_says_edges, text_says_steps}
-use Rattle.gomod_run.proofs.ListLines.{Lacks, both_lack, cut_at, has_it, path_has_no_blank, text_says_rows, version_has_no_blank}
-use Rattle.gomod_run.proofs.RunNames.{run_has_names, run_has_proper_edges, run_has_proper_rows, run_has_proper_steps}
-use Rattle.gomod_run.proofs.PrintedList.{all_rows}
-use Rattle.gomod_laws.specs.Shown.{ShowsEdges, ShowsRows, ShowsSteps}
+use Rattle.gomod_run.proofs.GraphLines.{text_says_edges, text_says_steps, vertex_lacks}
+use Rattle.gomod_run.proofs.ListLines.{Lacks, cut_at, has_it, path_has_no_blank, text_says_rows}
+use Rattle.gomod_run.proofs.RunNames.{end_name, run_has_names, run_has_proper_edges, run_has_proper_rows}
 use Rattle.gm_file_edit.proofs.NoLineFeeds.{path-plain}
 
 -- ---- texts
-
-at_is_no_blank : ◌≢◌ {A = ℕ} 64 32
-at_is_no_blank e = omega (arith, e)
-
-vertex_lacks : (x : ModuleVersion) → IsPath x.0 → IsVersion x.1 → Lacks 32 (vertex_text x)
-vertex_lacks x p v = both_lack 32 (x.0 ++ codes "@") x.1
-    (both_lack 32 x.0 (codes "@") (path_has_no_blank x.0 p) (at_is_no_blank, tt)) (version_has_no_blank x.1 v)
 
 vertex_has_it : (x : ModuleVersion) → Lacks 64 (vertex_text x) → ⊥
 vertex_has_it x none = has_it 64 x.0 x.1 (subst (Lacks 64) (append_assoc x.0 (codes "@") x.1) none)
 
 step_lacks : (main : List ℕ) (step : Step) → IsPath main → IsProperStep step → Lacks 32 (step_text main step)
 step_lacks main FromMain is proper = path_has_no_blank main is
-step_lacks main (Of x) is proper = vertex_lacks x proper.0 proper.1
+step_lacks main (Of x) is proper = vertex_lacks 32 (record { at = λ e. omega (arith, e); path = refl; version = refl }) x proper
 
 -- the first lines of a list, a graph and a chain
-first_row : (main : List ℕ) (rows : List Entry) → list_text main (main_entry ∷ rows) ≡ main ++ (10 ∷ list_text main rows)
+pub first_row : (main : List ℕ) (rows : List Entry) → list_text main (main_entry ∷ rows) ≡ main ++ (10 ∷ list_text main rows)
 first_row main rows =
     append_assoc (main ++ []) (codes "\n") (list_text main rows) ∙ append_assoc main [] (10 ∷ list_text main rows)
 
@@ -71,85 +64,85 @@ step_is_main : (main path : List ℕ) (step : Step) → Lacks 64 path → step_t
 step_is_main main path FromMain none is = is
 step_is_main main path (Of x) none is = absurd (vertex_has_it x (subst (Lacks 64) (sym is) none))
 
-chain_begins : {E : Edges} {s : Step} {steps : List Step} → IsChain E s steps → (rest : List Step) × (steps ≡ FromMain ∷ rest)
-chain_begins begins = ([], refl)
-chain_begins (goes_on {s} {y} {steps} chain before) =
-    let (rest, is) = chain_begins chain in (rest ++ Of y ∷ [], ap (λ (ss : List Step). ss ++ Of y ∷ []) is)
-
 pub same_text : (a b : List ℕ) → text_outcome a ≡ text_outcome b → a ≡ b
 same_text a b is = ap (λ (o : Outcome). o.text) is
 
--- ---- a run
+-- ---- walks
 
-module _ (run : Given) (main : Main) where
-  own_path : (table : Option Sums) → AreFound run main table [] → IsPath main.path
-  own_path table found = (run_has_names run main table found.read).0
+module _ (E : Edges) where
+  pub walk_begins : {s : Step} {steps : List Step} → IsWalk E s steps → (rest : List Step) × (steps ≡ FromMain ∷ rest)
+  walk_begins here = ([], refl)
+  walk_begins (further {s} {y} {steps} walk is) =
+      let (rest, begins) = walk_begins walk in (rest ++ Of y ∷ [], ap (λ (ss : List Step). ss ++ Of y ∷ []) begins)
 
-  -- ---- rows
+  -- an edge leads to each step other than the main module
+  pub walk_step : {s : Step} {steps : List Step} → IsWalk E s steps → (x : ModuleVersion) → Contains steps (Of x) → (t : Step) × E t x
+  walk_step here x there = let never : FromMain ≡ Of x = one_member FromMain (Of x) there in absurd (cc never)
+  walk_step (further {s} {y} {steps} walk is) x there =
+      let earlier : Contains steps (Of x) → (t : Step) × E t x = λ inside. walk_step walk x inside in
+      elim (Contains-push_cases steps (Of y) (Of x) there) [
+        | inl inside ↦ earlier inside
+        | inr same ↦ (let name : y ≡ x = cc same in (s, rw name at is))
+      ]
 
-  module _ (path : List ℕ) (rows shown : List Entry)
-      (shows : ShowsRows run main None None rows (text_outcome (list_text path shown))) where
-    rows_text : list_text path shown ≡ list_text main.path rows
-    rows_text = same_text (list_text path shown) (list_text main.path rows) (all_rows main rows None (text_outcome (list_text path shown)) shows.prints)
+-- ---- a run that found no fault
 
-    pub main_of_list : (more : List Entry) → shown ≡ main_entry ∷ more → Lacks 10 path → main.path ≡ path
-    main_of_list more is none =
-        let others : List Entry = map (entry_of (replacement_in main)) shows.are.selected in
-        let text : main.path ++ (10 ∷ list_text main.path others) ≡ path ++ (10 ∷ list_text path more) =
-        sym (first_row main.path others) ∙ ap (list_text main.path) (sym shows.are.entries_are) ∙ sym rows_text
-        ∙ ap (list_text path) is ∙ first_row path more in
-        (cut_at 10 main.path path (list_text main.path others) (list_text path more)
-        (path-plain main.path (own_path shows.table shows.found)) none text).0
+module _ (run : Given) (main : Main) (table : Option Sums) (found : AreFound run main table []) where
+  abbrev edges_of_run : Edges
+  edges_of_run = IsEdge (run_of main table run.answers.asked)
 
-    pub rows_of_list : AreProperRows shown → main.path ≡ path → rows ≡ shown
-    rows_of_list proper own =
-        text_says_rows main.path (own_path shows.table shows.found) rows shown (run_has_proper_rows run main shows.table rows shows.found.read shows.are) proper
-        (sym rows_text ∙ ap (λ (m : List ℕ). list_text m shown) (sym own))
+  pub own_path : IsPath main.path
+  own_path = (run_has_names run main table found.read).0
 
-  -- ---- edges
+  -- Rows whose text is that of rows which begin with the main module's are those, and the main module's path is the same.
+  pub rows_are : (path : List ℕ) (rows more : List Entry) → Lacks 10 path → AreProperRows (main_entry ∷ more)
+      → AreRows (run_of main table run.answers.asked) rows
+      → list_text main.path rows ≡ list_text path (main_entry ∷ more) → (main.path ≡ path) × (rows ≡ main_entry ∷ more)
+  rows_are path rows more none proper are text =
+      let others : List Entry = map (entry_of (replacement_in main)) are.selected in
+      let own = (cut_at 10 main.path path (list_text main.path others) (list_text path more) (path-plain main.path own_path) none
+      (sym (first_row main.path others) ∙ ap (list_text main.path) (sym are.entries_are) ∙ text ∙ first_row path more)).0 in (
+        own,
+        text_says_rows main.path own_path rows (main_entry ∷ more) (run_has_proper_rows run main table rows found.read are) proper
+            (text ∙ ap (λ (m : List ℕ). list_text m (main_entry ∷ more)) (sym own)),
+      )
 
-  module _ (path : List ℕ) (edges shown : List Edge)
-      (shows : ShowsEdges run main edges (text_outcome (graph_text path shown))) where
-    graph_is : graph_text path shown ≡ graph_text main.path edges
-    graph_is = same_text (graph_text path shown) (graph_text main.path edges) shows.prints
+  -- the same of edges,
+  pub edges_are : (path : List ℕ) (edges more : List Edge) (y : ModuleVersion) → Lacks 32 path → Lacks 64 path
+      → AreProperEdges (edge FromMain y ∷ more) → AreEdges (run_of main table run.answers.asked) edges
+      → graph_text main.path edges ≡ graph_text path (edge FromMain y ∷ more)
+      → (main.path ≡ path) × (edges ≡ edge FromMain y ∷ more)
+  edges_are path edges more y blank sign proper are text =
+      let names = run_has_proper_edges run main table edges found.read are in
+      let own = by_first edges names (text ∙ first_edge path FromMain y more) in (
+        own,
+        text_says_edges main.path own_path edges (edge FromMain y ∷ more) names proper
+            (text ∙ ap (λ (m : List ℕ). graph_text m (edge FromMain y ∷ more)) (sym own)),
+      )
+    where
+      by_first : (es : List Edge) → AreProperEdges es → graph_text main.path es ≡ path ++ (32 ∷ after_first path y more) → main.path ≡ path
+      by_first [] names begins = absurd (some_text path (after_first path y more) 32 begins)
+      by_first (one ∷ es) names begins =
+          step_is_main main.path path one.from sign
+          (cut_at 32 (step_text main.path one.from) path (after_first main.path one.to es) (after_first path y more)
+          (step_lacks main.path one.from own_path (names one (member_head one es)).0) blank
+          (sym (first_edge main.path one.from one.to es) ∙ begins)).0
 
-    by_first : (es : List Edge) → edges ≡ es → (rest : List ℕ) → Lacks 32 path → Lacks 64 path
-        → graph_text main.path es ≡ path ++ (32 ∷ rest) → main.path ≡ path
-    by_first [] is rest blank sign text = absurd (some_text path rest 32 text)
-    by_first (one ∷ es) is rest blank sign text =
-        let proper = run_has_proper_edges run main shows.table edges shows.found.read shows.are one
-        (subst (λ (all : List Edge). Contains all one) (sym is) (member_head one es)) in
-        let cut = cut_at 32 (step_text main.path one.from) path (after_first main.path one.to es) rest
-        (step_lacks main.path one.from (own_path shows.table shows.found) proper.0) blank (sym (first_edge main.path one.from one.to es) ∙ text) in
-        step_is_main main.path path one.from sign cut.0
+  -- and of the steps of a walk
+  module _ {s : Step} (steps : List Step) (walk : IsWalk edges_of_run s steps) where
+    steps_proper : AreProperSteps steps
+    steps_proper FromMain there = tt
+    steps_proper (Of y) there =
+        let (t, is) = walk_step edges_of_run walk y there in
+        end_name (run_of main table run.answers.asked) run.file found.read.main_file t y is
 
-    pub main_of_graph : (y : ModuleVersion) (more : List Edge) → shown ≡ edge FromMain y ∷ more → Lacks 32 path → Lacks 64 path → main.path ≡ path
-    main_of_graph y more is blank sign =
-        by_first edges refl (after_first path y more) blank sign (sym graph_is ∙ ap (graph_text path) is ∙ first_edge path FromMain y more)
+    pub known_steps : (known : List Step) → AreProperSteps known → chain_text main.path steps ≡ chain_text main.path known → steps ≡ known
+    known_steps known proper text = text_says_steps main.path own_path steps known steps_proper proper text
 
-    pub edges_of_graph : AreProperEdges shown → main.path ≡ path → edges ≡ shown
-    edges_of_graph proper own =
-        text_says_edges main.path (own_path shows.table shows.found) edges shown
-        (run_has_proper_edges run main shows.table edges shows.found.read shows.are) proper
-        (sym graph_is ∙ ap (λ (m : List ℕ). graph_text m shown) (sym own))
-
-  -- ---- steps
-
-  module _ (target path : List ℕ) (steps shown : List Step)
-      (shows : ShowsSteps run main target steps (text_outcome (chain_text path shown))) where
-    chain_is : chain_text path shown ≡ chain_text main.path steps
-    chain_is = same_text (chain_text path shown) (chain_text main.path steps) shows.prints
-
-    pub main_of_chain : (more : List Step) → shown ≡ FromMain ∷ more → Lacks 10 path → main.path ≡ path
-    main_of_chain more is none =
-        let (rest, first) = chain_begins shows.are in
-        let text : main.path ++ (10 ∷ chain_text main.path rest) ≡ path ++ (10 ∷ chain_text path more) =
-        sym (first_step main.path rest) ∙ ap (chain_text main.path) (sym first) ∙ sym chain_is ∙ ap (chain_text path) is ∙ first_step path more in
-        (cut_at 10 main.path path (chain_text main.path rest) (chain_text path more)
-        (path-plain main.path (own_path shows.table shows.found)) none text).0
-
-    pub steps_of_chain : AreProperSteps shown → main.path ≡ path → steps ≡ shown
-    steps_of_chain proper own =
-        text_says_steps main.path (own_path shows.table shows.found) steps shown
-        (run_has_proper_steps run main shows.table shows.last steps shows.found.read shows.are) proper
-        (sym chain_is ∙ ap (λ (m : List ℕ). chain_text m shown) (sym own))
+    pub steps_are : (path : List ℕ) (more : List Step) → Lacks 10 path → AreProperSteps (FromMain ∷ more)
+        → chain_text main.path steps ≡ chain_text path (FromMain ∷ more) → (main.path ≡ path) × (steps ≡ FromMain ∷ more)
+    steps_are path more none proper text =
+        let (rest, begins) = walk_begins edges_of_run walk in
+        let own = (cut_at 10 main.path path (chain_text main.path rest) (chain_text path more) (path-plain main.path own_path) none
+        (sym (first_step main.path rest) ∙ ap (chain_text main.path) (sym begins) ∙ text ∙ first_step path more)).0 in
+        (own, known_steps (FromMain ∷ more) proper (text ∙ ap (λ (m : List ℕ). chain_text m (FromMain ∷ more)) (sym own)))

@@ -11,13 +11,10 @@ use Rattle.gomod_run.proofs.AllAsked.{refusal_status}
 use Rattle.gomod_run.proofs.Uniqueness.{listed_once}
 use Rattle.gomod_laws.specs.Runs.{HasPrinted}
 use Rattle.gomod_laws.specs.VersionLaws.{AreUnretracted, RetractedAreLeftOut}
+use Rattle.gomod_run.proofs.PrintedList.{not_refused}
 
 abbrev Pairs : Type 0
 Pairs = List (Name × Reply)
-
--- a refusal prints nothing
-pub refusal_prints_nothing : (outcome : Outcome) (report : List ℕ) → outcome ≡ refusal_outcome report → HasPrinted outcome → ⊥
-refusal_prints_nothing outcome report is prints = let one : 1 ≡ 0 = sym (ap {B = ℕ} (λ (o : Outcome). o.status) is) ∙ prints in cc one
 
 -- where `versions` prints, it prints the versions that are shown
 pub shown_printed : (path : List ℕ) (all : Bool) (answers : AnswersByName) (outcome : Outcome) → HasPrinted outcome → VersionsEnds path all answers [] outcome
@@ -25,7 +22,7 @@ pub shown_printed : (path : List ℕ) (all : Bool) (answers : AnswersByName) (ou
 shown_printed path all answers outcome prints (device name need unanswered failed says) = absurd (cc failed)
 shown_printed path all answers outcome prints (no_list refused none) =
     let code = refusal_status path (is_fetchable path) (answers (list_file path)) outcome refused in absurd (omega (arith, code, prints))
-shown_printed path all answers outcome prints (bad_file versions latest reply class says none told) = absurd (refusal_prints_nothing outcome _ told prints)
+shown_printed path all answers outcome prints (bad_file versions latest reply class says none told) = absurd (not_refused _ outcome told prints)
 shown_printed path all answers outcome prints (printed shown are none told) = (shown, are, told)
 
 -- without `--retracted`, those that are not retracted are shown
@@ -39,9 +36,9 @@ unretracted_shown path asked shown (not_retracted versions latest reply file int
 -- with `--retracted`, each version is printed that the list names
 module _ (path : List ℕ) (answers : AnswersByName) (list : List ℕ) (versions : List (List ℕ)) (outcome : Outcome) (listed : AreListed path list versions)
     (same : (reply : Reply) → answers (list_file path) ≡ Some reply → reply ≡ bytes list) where
-  not_refused : (answer : Option Reply) → ((reply : Reply) → answer ≡ Some reply → reply ≡ bytes list) → list_refusal path true answer ≡ Some outcome → ⊥
-  not_refused None same is = cc is
-  not_refused (Some reply) same is =
+  has_list : (answer : Option Reply) → ((reply : Reply) → answer ≡ Some reply → reply ≡ bytes list) → list_refusal path true answer ≡ Some outcome → ⊥
+  has_list None same is = cc is
+  has_list (Some reply) same is =
       let e : None ≡ Some outcome = sym (ap (λ (r : Reply). list_refusal path true (Some r)) (same reply refl)) ∙ is in cc e
 
   all_shown : (shown : List (List ℕ)) → AreShown path true answers shown → shown ≡ versions
@@ -52,7 +49,7 @@ module _ (path : List ℕ) (answers : AnswersByName) (list : List ℕ) (versions
   all_printed : is_fetchable path ≡ true → VersionsEnds path true answers [] outcome → outcome ≡ text_outcome (versions_line path versions)
   all_printed fetchable (device name need unanswered failed says) = absurd (cc failed)
   all_printed fetchable (no_list refused none) =
-      absurd (not_refused (answers (list_file path)) same (subst
+      absurd (has_list (answers (list_file path)) same (subst
       (λ (b : Bool). list_refusal path b (answers (list_file path)) ≡ Some outcome) fetchable refused))
   all_printed fetchable (bad_file others latest reply class says none told) = absurd (false≢true (sym says.chosen.filtered))
   all_printed fetchable (printed shown are none told) = told ∙ ap (λ (vs : List (List ℕ)). text_outcome (versions_line path vs)) (all_shown shown are)
