@@ -40,7 +40,7 @@ module _ {X : Type 0} (p : X → Bool) where
 -- ---- what is excluded
 
 still_passes : (a b : Bool) → (b ≡ true → a ≡ true) → not a ≡ true → not b ≡ true
-still_passes a true more e = absurd (false≢true (subst (λ (c : Bool). not c ≡ true) (more refl) e))
+still_passes a true more e = absurd (false≢true (rw (more refl) at e))
 still_passes a false more e = refl
 
 pub excluded_more : (first second : Main) → ((x : ModuleVersion) → Contains second.excludes x → Contains first.excludes x)
@@ -54,6 +54,5 @@ pub kept_more : (first second : Main) → ((x : ModuleVersion) → Contains seco
     → (xs ys : List ModuleVersion) (x : ModuleVersion) → (Contains xs x → Contains ys x)
     → Contains (without_excluded first xs) x → Contains (without_excluded second ys) x
 kept_more first second excludes xs ys x more there =
-    let (among, passes) = from_filtered (λ y. not (is_excluded first y)) xs x there in
-    in_filtered (λ y. not (is_excluded second y)) ys x (more among)
-    (still_passes (is_excluded first x) (is_excluded second x) (excluded_more first second excludes x) passes)
+    let (among, passes) = from_filtered (λ y. not (is_excluded first y)) _ x there in
+    in_filtered (λ y. not (is_excluded second y)) _ x (more among) (still_passes _ _ (excluded_more first second excludes x) passes)

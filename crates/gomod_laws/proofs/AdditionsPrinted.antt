@@ -35,23 +35,23 @@ module _ (first second : Main) (more : SaysMore first second) (t u : Option Sums
   next = run_of second u later
 
   top_more : (x : ModuleVersion) → IsTop one x → IsTop next x
-  top_more x top = kept_more first second more.excludes first.requirements second.requirements x (more.requires x) top
+  top_more x top = kept_more first second more.excludes _ _ x (more.requires x) top
 
   requires_more : RequiresToo one next
   requires_more x y file is be has there = (
     says x be (Ok file) has,
-    kept_more first second more.excludes file.requirements file.requirements y (λ among. among) there,
+    kept_more first second more.excludes _ file.requirements y (λ among. among) there,
   )
 
   opened_more : (x : ModuleVersion) → IsOpened one x → IsOpened next x
-  opened_more x is = opened_too one next more.unpruned (λ y top. inl (top_more y top)) requires_more x is
+  opened_more x is = opened_too _ next more.unpruned (λ y top. inl (top_more y top)) requires_more x is
 
   edge_more : (s : Step) (y : ModuleVersion) → IsEdge one s y → IsEdge next s y
-  edge_more s y is = edge_too one next more.unpruned (λ z top. inl (top_more z top)) requires_more top_more s y is
+  edge_more s y is = edge_too _ _ more.unpruned (λ z top. inl (top_more z top)) requires_more top_more s y is
 
   not_lower : IsFew next → (rows others : List Entry) → AreRows one rows → AreRows next others → AreNotLower rows others
   not_lower few rows others list other x right there =
-      let is = row_selected list x right there in
+      let is = row_selected list x _ there in
       let (s, leads) = is.is_end in
       let are = greatest next few others other in
       let (y, inside, path, high) = are.satisfied x (s, edge_more s x leads) (λ e. is.not_main (e ∙ sym more.path)) in
@@ -74,10 +74,10 @@ module _ {command : Command} (prints : Prints) {file other : List ℕ} {sums : O
   both_print is be ends =
       let run = run_over file sums runs.asked in
       let after = run_over other sums runs.later in
-      let (u, found, others) = printed_by prints after second next runs.second_says be ends in
+      let (u, found, others) = printed_by _ _ _ _ runs.second_says be ends in
       let (t, valid, those) =
-      prints_too run after first second u found runs.first_says refl runs.alike more.replaces
-      (λ v says x is. opened_more first second more v u runs.asked runs.later says x is) refl prints one is in
+      prints_too _ after first second u found runs.first_says refl runs.alike more.replaces
+      (λ v says x is. opened_more first second more v u runs.asked runs.later says x is) refl _ one is in
       record {
         table = t;
         found = valid;
@@ -97,7 +97,7 @@ list_lowers_nothing file other sums first second one next runs more ends =
       others,
       record { table = both.table; found = both.found; are = are; prints = text },
       record { table = both.later; found = both.later_found; are = others_are; prints = others_text },
-      not_lower first second more both.table both.later runs.asked runs.later both.says both.later_found.settled.few rows others are others_are,
+      not_lower _ _ more _ _ _ _ both.says both.later_found.settled.few _ others are others_are,
     )
 
 pub graph_keeps_lines : GraphKeepsLines
@@ -109,5 +109,5 @@ graph_keeps_lines file other sums first second one next runs more ends =
       others,
       record { table = both.table; found = both.found; are = are; prints = text },
       record { table = both.later; found = both.later_found; are = others_are; prints = others_text },
-      λ e there. (others_are.each e).1 (edge_more first second more both.table both.later runs.asked runs.later both.says e.from e.to ((are.each e).0 there)),
+      λ e there. (others_are.each e).1 (edge_more first second more both.table both.later runs.asked runs.later both.says _ _ ((are.each e).0 there)),
     )

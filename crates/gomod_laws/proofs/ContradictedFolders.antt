@@ -13,6 +13,6 @@ asked_for = (0, omega arith, refl)
 
 pub asked_files_can_differ : FileIsAskedForInOne
 asked_files_can_differ = (
-  λ same. no_member file_of_a ((same file_of_a).1 asked_for),
-  λ same. no_member file_of_a ((same file_of_a).0 asked_for),
+  λ same. no_member _ ((same file_of_a).1 asked_for),
+  λ same. no_member _ ((same file_of_a).0 asked_for),
 )

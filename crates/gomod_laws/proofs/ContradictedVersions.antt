@@ -9,7 +9,6 @@ use Rattle.gm_file.specs.Directives.{VersionInterval, pair}
 use Rattle.gm_file.specs.Shown.{is_at_most, is_retracted, shown_of}
 use Rattle.gm_store.specs.Asked.{Name, Reply, bytes}
 use Rattle.gm_store.specs.Listed.{IsListed}
-use Rattle.gm_graph_cache.specs.Reading.{AreRetractedBy}
 use Rattle.gm_graph_cache.proofs.OneReading.{one_retracted}
 use Rattle.gm_graph_select.proofs.Ascending.{member_head, no_member, one_member}
 use Rattle.gomod_run.specs.Outcome.{Outcome, text_outcome}
@@ -48,35 +47,32 @@ module _ (asked : List (Name × Reply)) (one other : Outcome) (law : LeavesOutRe
 
   all_are : (known : List (List ℕ)) → AreVersions known → other ≡ text_outcome (versions_line (codes "a.b") known) → law.versions ≡ known
   all_are known are is =
-      line_says_versions (codes "a.b") law.versions known listed_are_versions are
-      (same_text (versions_line (codes "a.b") law.versions) (versions_line (codes "a.b") known) (sym law.other_prints ∙ is))
+      line_says_versions (codes "a.b") law.versions known listed_are_versions are (same_text _ _ (sym law.other_prints ∙ is))
 
   from_all : (versions shown : List (List ℕ)) → AreVersions versions → AreUnretracted asked (codes "a.b") versions shown → AreVersions shown
-  from_all versions shown are (inl (none, nothing)) = subst AreVersions (sym nothing) (λ version there. absurd (no_member version there))
+  from_all versions shown are (inl (none, nothing)) = subst AreVersions (sym nothing) (λ version there. absurd (no_member _ there))
   from_all versions shown are (inr (latest, intervals, greatest, says, is)) =
-      subst AreVersions (sym is)
-      (λ version there. are version (from_filtered (λ v. not (is_retracted intervals v)) versions version there).0)
+      subst AreVersions (sym is) (λ version there. are version (from_filtered (λ v. not (is_retracted intervals v)) _ _ there).0)
 
   rest_are : (known : List (List ℕ)) → AreVersions known → one ≡ text_outcome (versions_line (codes "a.b") known) → law.shown ≡ known
   rest_are known are is =
-      line_says_versions (codes "a.b") law.shown known (from_all law.versions law.shown listed_are_versions law.unretracted) are
-      (same_text (versions_line (codes "a.b") law.shown) (versions_line (codes "a.b") known) (sym law.one_prints ∙ is))
+      line_says_versions (codes "a.b") law.shown known (from_all _ _ listed_are_versions law.unretracted) are
+      (same_text _ _ (sym law.one_prints ∙ is))
 
 -- the latest version's file retracts one thing
 retracts_once : (asked : List (Name × Reply)) (path version : List ℕ) (xs ys : List VersionInterval)
     → Retracts asked path version xs → Retracts asked path version ys → xs ≡ ys
 retracts_once asked path version xs ys (reply, file, answered, finds, are) (other, also, known, says, is) =
-    let same : reply ≡ other = same_Some reply other (sym answered ∙ known) in
-    one_retracted other xs ys (subst (λ (r : Reply). AreRetractedBy r xs) same are) is
+    let same : reply ≡ other = same_Some _ _ (sym answered ∙ known) in
+    one_retracted _ _ _ (rw same at are) is
 
 -- what is shown of both, if the latest one retracts these
 shown_of_both : (asked : List (Name × Reply)) (shown : List (List ℕ)) (intervals : List VersionInterval) → Retracts asked (codes "a.b") one_one intervals
     → AreUnretracted asked (codes "a.b") both shown → shown ≡ shown_of intervals both
 shown_of_both asked shown intervals retracts (inl (none, nothing)) = absurd (cc none)
 shown_of_both asked shown intervals retracts (inr (latest, others, greatest, says, is)) =
-    let own : latest ≡ one_one = latest_once both latest one_one greatest one_one_is_latest in
-    let same : others ≡ intervals = retracts_once asked (codes "a.b") one_one others intervals
-    (subst (λ (v : List ℕ). Retracts asked (codes "a.b") v others) own says) retracts in
+    let own = latest_once _ _ _ greatest one_one_is_latest in
+    let same = retracts_once asked (codes "a.b") one_one _ _ (rw own at says) retracts in
     is ∙ ap (λ (xs : List VersionInterval). shown_of xs both) same
 
 at_most_itself : is_at_most one_zero one_zero ≡ true
@@ -87,14 +83,14 @@ holds_itself v is = rw is refl
 
 pub retracted_is_shown : RetractedIsShown
 retracted_is_shown asked retracts law =
-    let all = all_are asked both_of_a both_of_a law both both_known refl in
+    let all = all_are asked both_of_a both_of_a law _ both_known refl in
     let rest = rest_are asked both_of_a both_of_a law both both_known refl in
     let intervals = pair one_zero one_zero ∷ [] in
-    let shown : law.shown ≡ shown_of intervals both =
-    shown_of_both asked law.shown intervals retracts (subst (λ (vs : List (List ℕ)). AreUnretracted asked (codes "a.b") vs law.shown) all law.unretracted) in
+    let shown =
+    shown_of_both asked _ _ retracts (rw all at law.unretracted) in
     let there : Contains (shown_of intervals both) one_zero =
     subst (λ (vs : List (List ℕ)). Contains vs one_zero) (sym rest ∙ shown) (member_head one_zero (one_one ∷ [])) in
-    let kept : not (is_retracted intervals one_zero) ≡ true = (from_filtered (λ v. not (is_retracted intervals v)) both one_zero there).1 in
+    let kept : not (is_retracted intervals one_zero) ≡ true = (from_filtered (λ v. not (is_retracted intervals v)) both _ there).1 in
     let gone : not (is_retracted intervals one_zero) ≡ false = ap not (holds_itself one_zero at_most_itself) in
     false≢true (sym gone ∙ kept)
 
@@ -102,20 +98,19 @@ pub unretracted_is_left_out : UnretractedIsLeftOut
 unretracted_is_left_out asked retracts law =
     let none : List VersionInterval = [] in
     let first = text_outcome (codes "a.b v1.1.0\n") in
-    let all = all_are asked first both_of_a law both both_known refl in
+    let all = all_are asked first both_of_a law _ both_known refl in
     let rest = rest_are asked first both_of_a law (one_one ∷ []) one_known refl in
-    let shown : law.shown ≡ shown_of none both =
-    shown_of_both asked law.shown none retracts (subst (λ (vs : List (List ℕ)). AreUnretracted asked (codes "a.b") vs law.shown) all law.unretracted) in
-    let there : Contains (shown_of none both) one_zero = in_filtered (λ v. not (is_retracted none v)) both one_zero
-    (member_head one_zero (one_one ∷ [])) refl in
+    let shown =
+    shown_of_both asked _ _ retracts (rw all at law.unretracted) in
+    let there = in_filtered (λ v. not (is_retracted none v)) both _ (member_head one_zero (one_one ∷ [])) refl in
     let only : Contains (one_one ∷ []) one_zero = subst (λ (vs : List (List ℕ)). Contains vs one_zero) (sym shown ∙ rest) there in
-    versions_differ (sym (one_member one_one one_zero only))
+    versions_differ (sym (one_member _ _ only))
 
 pub listed_is_missing : ListedIsMissing
 listed_is_missing asked one answered law =
     let other = text_outcome (codes "a.b v1.1.0\n") in
     let all = all_are asked one other law (one_one ∷ []) one_known refl in
-    let list : law.listed.list ≡ both_listed = same_bytes law.listed.list both_listed (sym law.listed.answered ∙ answered) in
-    let named : IsListed (codes "a.b") law.listed.list one_zero = subst (λ (text : List ℕ). IsListed (codes "a.b") text one_zero) (sym list) one_zero_listed in
-    let only : Contains (one_one ∷ []) one_zero = subst (λ (vs : List (List ℕ)). Contains vs one_zero) all ((law.listed.are.members one_zero).1 named) in
-    versions_differ (sym (one_member one_one one_zero only))
+    let list : law.listed.list ≡ both_listed = same_bytes _ _ (sym law.listed.answered ∙ answered) in
+    let named : IsListed (codes "a.b") law.listed.list one_zero = rw list one_zero_listed in
+    let only : Contains (one_one ∷ []) one_zero = rw all at ((law.listed.are.members one_zero).1 named) in
+    versions_differ (sym (one_member _ _ only))

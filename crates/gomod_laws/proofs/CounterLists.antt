@@ -1,7 +1,7 @@
 -- What the laws on `list` conclude is false of lists that contradict them.
-use Rattle.std.proofs.Common.{◌≡◌, ◌≢◌, ◌∙◌, ◌∷◌, ◌++◌, ℕ, false, List, [], Option, Some, None, Contains, ap, append-nil, arith, codes, inl, inr, length, map, refl, subst, sym}
+use Rattle.std.proofs.Common.{◌≡◌, ◌≢◌, ◌∙◌, ◌∷◌, ◌++◌, ℕ, false, List, [], Option, Some, None, Contains, ap, arith, codes, length, map, refl, subst, sym}
 use Rattle.std.specs.Prelude.{nat_lt}
-use Rattle.std.specs.List.{AllByRecursion, flat_map}
+use Rattle.std.specs.List.{AllByRecursion}
 use Rattle.std.specs.Ordering.{is_gt}
 use Rattle.std.proofs.lemmas.Bool.{false≢true}
 use Rattle.std.proofs.lemmas.List.{same_from_push}
@@ -13,7 +13,7 @@ use Rattle.gm_file.specs.Main.{Main, IsMainFile, replacement_in}
 use Rattle.gm_store_sums.specs.Sums.{Sums}
 use Rattle.gm_file.specs.Directives.{Right}
 use Rattle.gm_graph.specs.Run.{AreRows}
-use Rattle.gm_graph_cache.specs.Sayings.{Run, run_of}
+use Rattle.gm_graph_cache.specs.Sayings.{run_of}
 use Rattle.gm_graph_select.specs.declared.step.Step.TheVariants.{Main as FromMain, Of}
 use Rattle.gm_graph_select.specs.BuildList.{entry_of, main_entry, path_of}
 use Rattle.gm_graph.specs.Entries.{Entry}
@@ -24,7 +24,6 @@ use Rattle.gomod_run.specs.Queries.{AreFound, Given}
 use Rattle.gomod_run.specs.ListQuery.{ListEnds, no_path, path_listed, path_unlisted, up_to, list_text}
 use Rattle.gomod_run.specs.Outcome.{Outcome, text_outcome}
 use Rattle.gomod_run.specs.PrintedLines.{AreProperRows, IsProperRow}
-use Rattle.gomod_run.specs.Reports.{not_listed_line}
 use Rattle.gomod_run.proofs.GreatestRows.{as_build_list}
 use Rattle.gomod_run.proofs.ListLines.{Lacks, cut_at, lacks, path_has_no_blank, text_says_rows}
 use Rattle.gomod_run.proofs.OneRead.{one_main}
@@ -90,7 +89,7 @@ module _ (run : Given) (main : Main) (table : Option Sums) (rows : List Entry) (
   some_are : (shown known : List Entry) → ((row : Entry) → Contains shown row → Contains rows row) → AreProperRows known
       → list_text main.path shown ≡ list_text main.path known → shown ≡ known
   some_are shown known inside proper e =
-      text_says_rows main.path (own_path run main table found) shown known
+      text_says_rows _ (own_path run main table found) shown known
       (λ row there. run_has_proper_rows run main table rows found.read are row (inside row there)) proper e
 
 -- ---- build lists
@@ -112,10 +111,10 @@ vertices_are replaces [] [] e = refl
 vertices_are replaces [] (y ∷ ys) e = absurd (cc e)
 vertices_are replaces (x ∷ xs) [] e = absurd (cc e)
 vertices_are replaces (x ∷ xs) (y ∷ ys) e =
-    let head = heads_same (entry_of replaces x) (row_at y) (map (entry_of replaces) xs) (map row_at ys) e in
-    let same : x ≡ y = of_name x y (ap (λ (row : Entry). row.0) head) in
-    let rest = tails_same (entry_of replaces x) (row_at y) (map (entry_of replaces) xs) (map row_at ys) e in
-    ap (λ (z : ModuleVersion). z ∷ xs) same ∙ ap (λ (zs : List ModuleVersion). y ∷ zs) (vertices_are replaces xs ys rest)
+    let head = heads_same _ _ _ _ e in
+    let same = of_name x y (ap (λ (row : Entry). row.0) head) in
+    let rest = tails_same _ _ _ _ e in
+    ap (λ (z : ModuleVersion). z ∷ xs) same ∙ ap (λ (zs : List ModuleVersion). y ∷ zs) (vertices_are _ _ _ rest)
 
 names_proper : (known : List ModuleVersion) → AllByRecursion IsName known → AllByRecursion IsProperRow (map row_at known)
 names_proper [] names = tt
@@ -133,14 +132,13 @@ selects : (run : Given) (text : List ℕ) (known : List ModuleVersion) → AllBy
     → text ≡ list_text (codes "m") (main_entry ∷ map row_at known)
     → ShowsBuildList run (text_outcome text) → Selects run known
 selects run text known names is (main, table, selected, found, greatest, says) =
-    let r : Run = run_of main table run.answers.asked in
-    let rows : List Entry = main_entry ∷ map (entry_of (replacement_in main)) selected in
-    let are : AreRows r rows = as_build_list r selected greatest in
-    let proper : AreProperRows (main_entry ∷ map row_at known) = each_of IsProperRow (main_entry ∷ map row_at known) (refl, names_proper known names) in
-    let (own, same) = rows_are run main table rows found are (map row_at known) proper (sym (same_text text (list_text main.path rows) says) ∙ is) in
-    let modules : selected ≡ known = vertices_are (replacement_in main) selected known
-    (tails_same main_entry main_entry (map (entry_of (replacement_in main)) selected) (map row_at known) same) in
-    record { main = main; table = table; found = found; own = own; greatest = subst (λ (xs : List ModuleVersion). AreGreatest r xs) modules greatest }
+    let r = run_of main table run.answers.asked in
+    let rows = main_entry ∷ map (entry_of (replacement_in main)) selected in
+    let are = as_build_list r selected greatest in
+    let proper = each_of IsProperRow (main_entry ∷ map row_at known) (refl, names_proper _ names) in
+    let (own, same) = rows_are run _ table _ found are _ proper (sym (same_text _ _ says) ∙ is) in
+    let modules = vertices_are _ _ _ (tails_same _ _ _ _ same) in
+    record { main = main; table = table; found = found; own = own; greatest = rw modules at greatest }
 
 a_name : IsName a_one
 a_name = (a_is_path, one_zero_is)
@@ -153,12 +151,12 @@ two_name = (a_is_path, one_one_is)
 
 pub path_is_twice : PathIsTwice
 path_is_twice run shows =
-    let s = selects run (codes "m\na.b v1.0.0\na.b v1.1.0\n") (a_one ∷ a_two ∷ []) (a_name, (two_name, tt)) refl shows in
+    let s = selects _ _ (a_one ∷ a_two ∷ []) (a_name, (two_name, tt)) refl shows in
     let below = s.greatest.ascending 0 1 a_one (omega arith) (omega arith) in cc below
 
 pub rows_are_unordered : RowsAreUnordered
 rows_are_unordered run shows =
-    let s = selects run (codes "m\nb.c v1.0.0\na.b v1.0.0\n") (b_one ∷ a_one ∷ []) (b_name, (a_name, tt)) refl shows in
+    let s = selects _ _ (b_one ∷ a_one ∷ []) (b_name, (a_name, tt)) refl shows in
     let below = s.greatest.ascending 0 1 a_one (omega arith) (omega arith) in cc below
 
 first_lacks : Lacks 10 (codes "a.b v1.0.0")
@@ -166,63 +164,62 @@ first_lacks = lacks 10 (λ b. nat_lt 10 b) refl (codes "a.b v1.0.0") refl
 
 pub main_is_missing : MainIsMissing
 main_is_missing run (main, table, selected, found, greatest, says) =
-    let rows : List Entry = main_entry ∷ map (entry_of (replacement_in main)) selected in
+    let rows = main_entry ∷ map (entry_of (replacement_in main)) selected in
     let is = own_path run main table found in
     let rest = list_text main.path (map (entry_of (replacement_in main)) selected) in
     let text : codes "a.b v1.0.0" ++ (10 ∷ []) ≡ main.path ++ (10 ∷ rest) =
-    same_text (codes "a.b v1.0.0\n") (list_text main.path rows) says ∙ first_row main.path (map (entry_of (replacement_in main)) selected) in
-    let own = (cut_at 10 (codes "a.b v1.0.0") main.path [] rest first_lacks (path-plain main.path is) text).0 in
-    let plain : Lacks 32 (codes "a.b v1.0.0") = subst (Lacks 32) (sym own) (path_has_no_blank main.path is) in
+    same_text _ _ says ∙ first_row main.path (map (entry_of (replacement_in main)) selected) in
+    let own = (cut_at 10 (codes "a.b v1.0.0") main.path [] rest first_lacks (path-plain _ is) text).0 in
+    let plain : Lacks 32 (codes "a.b v1.0.0") = subst (Lacks 32) (sym own) (path_has_no_blank _ is) in
     plain.1.1.1.0 refl
 
 same_main : (run : Given) (main other : Main) (table : Option Sums) → AreFound run other table [] → IsMainFile run.file main → main ≡ other
-same_main run main other table found is = one_main run.file main other is found.read.main_file
+same_main run main other table found is = one_main _ _ _ is found.read.main_file
 
 a_is_not_main : (path : List ℕ) → path ≡ codes "m" → codes "a.b" ≡ path → ⊥
 a_is_not_main path own e = let first : ◌≡◌ {A = ℕ} 97 109 = cc (e ∙ own) in omega (arith, first)
 
 pub row_is_too_low : RowIsTooLow
 row_is_too_low run main is top shows =
-    let s = selects run (codes "m\na.b v1.0.0\n") (a_one ∷ []) (a_name, tt) refl shows in
-    let here : IsRequiredBy s.main a_two = subst (λ (m : Main). IsRequiredBy m a_two) (same_main run main s.main s.table s.found is) top in
-    let (x, there, path, high) = s.greatest.satisfied a_two (FromMain, here) (a_is_not_main s.main.path s.own) in
-    two_is_above (rw (sym (one_member a_one x there)) at high)
+    let s = selects _ _ (a_one ∷ []) (a_name, tt) refl shows in
+    let here : IsRequiredBy s.main a_two = rw (same_main run main s.main s.table s.found is) at top in
+    let (x, there, path, high) = s.greatest.satisfied a_two (FromMain, here) (a_is_not_main _ s.own) in
+    two_is_above (rw (sym (one_member _ x there)) at high)
 
 pub required_has_no_row : RequiredHasNoRow
 required_has_no_row run main is top shows =
     let s = selects run (codes "m\n") [] tt refl shows in
-    let here : IsRequiredBy s.main a_one = subst (λ (m : Main). IsRequiredBy m a_one) (same_main run main s.main s.table s.found is) top in
-    let (x, there, path, high) = s.greatest.satisfied a_one (FromMain, here) (a_is_not_main s.main.path s.own) in
+    let here : IsRequiredBy s.main a_one = rw (same_main run main s.main s.table s.found is) at top in
+    let (x, there, path, high) = s.greatest.satisfied a_one (FromMain, here) (a_is_not_main _ s.own) in
     no_member x there
 
 pub row_is_not_required : RowIsNotRequired
 row_is_not_required run main is nothing shows =
-    let s = selects run (codes "m\na.b v1.0.0\n") (a_one ∷ []) (a_name, tt) refl shows in
-    let none : s.main.requirements ≡ [] = ap (λ (m : Main). m.requirements) (sym (same_main run main s.main s.table s.found is)) ∙ nothing in
-    none_leads (run_of s.main s.table run.answers.asked) none a_one (s.greatest.required a_one (member_head a_one []))
+    let s = selects _ _ (a_one ∷ []) (a_name, tt) refl shows in
+    let none : s.main.requirements ≡ [] = ap (λ (m : Main). m.requirements) (sym (same_main _ _ _ _ s.found is)) ∙ nothing in
+    none_leads _ none _ (s.greatest.required a_one (member_head a_one []))
 
 -- ---- parts
 
 whole_is : (run : Given) (main : Main) (table : Option Sums) (rows : List Entry) → AreFound run main table []
     → AreRows (run_of main table run.answers.asked) rows
     → list_of_a ≡ text_outcome (list_text main.path rows) → (main.path ≡ codes "m") × (rows ≡ rows_with_a)
-whole_is run main table rows found are says =
-    rows_are run main table rows found are (row_at a_one ∷ []) with_a_proper (sym (same_text (codes "m\na.b v1.0.0\n") (list_text main.path rows) says))
+whole_is run main table rows found are says = rows_are run _ table _ found are _ with_a_proper (sym (same_text _ _ says))
 
 pub part_has_another_row : PartHasAnotherRow
 part_has_another_row after limit run (main, table, rows, found, are, says, prints) =
-    let (own, same) = whole_is run main table rows found are says in
-    let (shown, text, inside) = printed_rows main rows after limit (text_outcome (codes "b.c v1.0.0\n")) refl prints in
-    let is : shown ≡ row_at b_one ∷ [] = some_are run main table rows found are shown (row_at b_one ∷ []) inside
+    let (own, same) = whole_is _ _ _ _ found are says in
+    let (shown, text, inside) = printed_rows _ _ _ _ _ refl prints in
+    let is = some_are run _ table _ found are _ (row_at b_one ∷ []) inside
     (each_of IsProperRow (row_at b_one ∷ []) (b_proper, tt)) (sym text) in
-    let there : Contains shown (row_at b_one) = subst (λ (es : List Entry). Contains es (row_at b_one)) (sym is) (member_head (row_at b_one) []) in
-    b_is_no_row (subst (λ (es : List Entry). Contains es (row_at b_one)) same (inside (row_at b_one) there))
+    let there : Contains shown (row_at b_one) = rw is (member_head (row_at b_one) []) in
+    b_is_no_row (rw same at (inside (row_at b_one) there))
 
 pub part_is_too_long : PartIsTooLong
 part_is_too_long run (main, table, rows, found, are, says, prints) =
-    let (own, same) = whole_is run main table rows found are says in
+    let (own, same) = whole_is _ _ _ _ found are says in
     let one : list_of_a ≡ text_outcome (list_text (codes "m") (up_to (Some 1) rows_with_a)) =
-    all_rows main rows (Some 1) list_of_a prints ∙ ap (λ (m : List ℕ). text_outcome (list_text m (up_to (Some 1) rows)))
+    all_rows _ _ _ _ prints ∙ ap (λ (m : List ℕ). text_outcome (list_text m (up_to (Some 1) rows)))
     own ∙ ap (λ (es : List Entry). text_outcome (list_text (codes "m") (up_to (Some 1) es))) same in
     let size : ◌≡◌ {A = ℕ} 13 2 = ap (λ (o : Outcome). length o.text) one in
     omega (arith, size)
@@ -230,31 +227,28 @@ part_is_too_long run (main, table, rows, found, are, says, prints) =
 -- what follows a row of a list is in what follows the first row
 later_rows : (before rest : List Entry) (entry first row : Entry) (others : List Entry)
     → before ++ entry ∷ rest ≡ first ∷ others → Contains rest row → Contains others row
-later_rows [] rest entry first row others e there = subst (λ (es : List Entry). Contains es row) (tails_same entry first rest others e) there
+later_rows [] rest entry first row others e there = rw (tails_same entry first rest others e) at there
 later_rows (x ∷ before) rest entry first row others e there =
     subst (λ (es : List Entry). Contains es row) (tails_same x first (before ++ entry ∷ rest) others e)
-    (Contains-append_right before (entry ∷ rest) row (member_tail entry row rest there))
+    (Contains-append_right before _ _ (member_tail entry _ _ there))
 
 main_is_not_later : Contains (row_at a_one ∷ []) main_entry → ⊥
-main_is_not_later there = main_is_no_row a_one (sym (one_member (row_at a_one) main_entry there))
+main_is_not_later there = main_is_no_row _ (sym (one_member _ _ there))
 
 pub part_is_the_whole : PartIsTheWhole
 part_is_the_whole path limit run (main, table, rows, found, are, says, no_path none tells) = cc none
 part_is_the_whole path limit run (main, table, rows, found, are, says, path_unlisted other is (none, tells)) =
     not_refused _ _ tells refl
 part_is_the_whole path limit run (main, table, rows, found, are, says, path_listed other rest at_path (entry, at) tells) =
-    let (own, same) = whole_is run main table rows found are says in
+    let (own, same) = whole_is _ _ _ _ found are says in
     let inside : (row : Entry) → Contains (up_to limit rest) row → Contains rows row =
-    λ row there. subst (λ (es : List Entry). Contains es row) (sym at.parts)
-    (Contains-append_right at.before (entry ∷ rest) row
+    λ row there. rw at.parts (Contains-append_right at.before (entry ∷ rest) row
     (member_tail entry row rest (limited_member limit rest row there))) in
     let text : list_text main.path (up_to limit rest) ≡ list_text main.path rows_with_a =
     sym (same_text (codes "m\na.b v1.0.0\n") (list_text main.path (up_to limit rest)) tells) ∙ ap (λ (m : List ℕ). list_text m rows_with_a) (sym own) in
     let is : up_to limit rest ≡ rows_with_a = some_are run main table rows found are (up_to limit rest) rows_with_a inside with_a_proper text in
-    let there : Contains (up_to limit rest) main_entry = subst (λ (es : List Entry). Contains es main_entry) (sym is)
-    (member_head main_entry (row_at a_one ∷ [])) in
-    main_is_not_later (later_rows at.before rest entry main_entry main_entry (row_at a_one ∷ []) (sym at.parts ∙ same)
-    (limited_member limit rest main_entry there))
+    let there : Contains (up_to limit rest) main_entry = rw is (member_head main_entry (row_at a_one ∷ [])) in
+    main_is_not_later (later_rows _ _ _ _ _ _ (sym at.parts ∙ same) (limited_member limit rest main_entry there))
 
 -- ---- pages
 
@@ -285,18 +279,18 @@ module _ (run : Given) (main : Main) (table : Option Sums) (found : AreFound run
   page_is : {after : Option (List ℕ)} (rows page shown : List Entry) → HasRows rows → ((row : Entry) → Contains page row → Contains rows row)
       → AreProperRows shown → ListEnds after (Some 1) run (text_outcome (list_text main.path page)) → HasPage after shown → page ≡ shown
   page_is {after} rows page shown are inside named says is =
-      let text = same_text (list_text main.path page) (list_text (codes "m") shown)
+      let text = same_text _ _
       (one_outcome (Rows after (Some 1)) run (text_outcome (list_text main.path page)) (text_outcome (list_text (codes "m") shown)) says is) in
-      some_are run main table rows found are page shown inside named (text ∙ ap (λ (m : List ℕ). list_text m shown) (sym own))
+      some_are run _ table _ found are _ _ inside named (text ∙ ap (λ (m : List ℕ). list_text m shown) (sym own))
 
   second_page : {after : Option (List ℕ)} {pages : List (List Entry)} → HasRows (main_entry ∷ entries_of_pages pages)
       → main_entry ∷ entries_of_pages pages ≡ rows_with_a → HasPage after known → ArePrintedPages run main.path 1 after pages → ⊥
   second_page are joined is (no_row says) = only_main joined
   second_page are joined is (one_page {pages} front last says more) =
-      let page : List Entry = front ++ last ∷ [] in
+      let page = front ++ last ∷ [] in
       let inside : (row : Entry) → Contains page row → Contains (main_entry ∷ (page ++ entries_of_pages pages)) row =
-      λ row there. member_tail main_entry row (page ++ entries_of_pages pages) (Contains-append_left page (entries_of_pages pages) row there) in
-      let same = page_is (main_entry ∷ (page ++ entries_of_pages pages)) page known are inside proper says is in
+      λ row there. member_tail main_entry _ _ (Contains-append_left _ (entries_of_pages pages) _ there) in
+      let same = page_is _ _ _ are inside proper says is in
       never front last same
       (λ row there. subst (λ (es : List Entry). Contains es row) joined (inside row (subst (λ (es : List Entry). Contains es row) (sym same) there)))
 
@@ -304,22 +298,19 @@ module _ (run : Given) (main : Main) (table : Option Sums) (found : AreFound run
       → HasPage after (main_entry ∷ []) → HasPage (Some (codes "m")) known → ArePrintedPages run main.path 1 after pages → ⊥
   first_page are joined first second (no_row says) = cc joined
   first_page are joined first second (one_page {pages} front last says more) =
-      let page : List Entry = front ++ last ∷ [] in
-      let same = page_is (page ++ entries_of_pages pages) page (main_entry ∷ []) are
-      (λ row there. Contains-append_left page (entries_of_pages pages) row there) m_proper says first in
+      let page = front ++ last ∷ [] in
+      let same = page_is _ _ _ are (λ row there. Contains-append_left _ (entries_of_pages pages) _ there) m_proper says first in
       let path : path_of main.path last.0 ≡ codes "m" = ap (λ (row : Entry). path_of main.path row.0) (same_from_push front [] last main_entry same).1 ∙ own in
-      second_page (subst (λ (es : List Entry). HasRows (es ++ entries_of_pages pages)) same are)
-      (ap (λ (es : List Entry). es ++ entries_of_pages pages) (sym same) ∙ joined) second
-      (subst (λ (p : List ℕ). ArePrintedPages run main.path 1 (Some p) pages) path more)
+      second_page (rw same at are) (ap (λ (es : List Entry). es ++ entries_of_pages pages) (sym same) ∙ joined) second (rw path at more)
 
 no_pages : (known : List Entry) → AreProperRows known → AreNoPage known → (run : Given) → ListEnds None (Some 1) run (text_outcome (codes "m\n"))
     → ListEnds (Some (codes "m")) (Some 1) run (text_outcome (list_text (codes "m") known)) → JoinsPages 1 run list_of_a → ⊥
 no_pages known proper never run first second (main, table, pages, found, are, paged, text) =
-    let (own, same) = whole_is run main table (entries_of_pages pages) found are (ap text_outcome (text ∙ sym (texts_join main.path pages))) in
-    first_page run main table found own known proper never are same first second paged
+    let (own, same) = whole_is _ _ _ _ found are (ap text_outcome (text ∙ sym (texts_join main.path pages))) in
+    first_page _ _ table found own _ proper never are same first second paged
 
 pub page_is_missing : PageIsMissing
-page_is_missing = no_pages [] (each_of IsProperRow [] tt) (λ front last is inside. no_last front last is)
+page_is_missing = no_pages [] (each_of IsProperRow [] tt) (λ front last is inside. no_last _ _ is)
 
 pub page_has_another_row : PageHasAnotherRow
 page_has_another_row =

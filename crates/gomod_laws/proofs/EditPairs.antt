@@ -1,5 +1,5 @@
 -- Two operations of `edit`: one that the other undoes, and two in either order.
-use Rattle.std.proofs.Common.{◌≡◌, ◌≤◌, ◌∙◌, ◌++◌, ℕ, true, List, [], ◌∷◌, length, Option, Some, ap, refl, subst, sym}
+use Rattle.std.proofs.Common.{◌≡◌, ◌≤◌, ◌∙◌, ◌++◌, ℕ, true, List, [], ◌∷◌, length, Some, ap, refl, subst, sym}
 use Rattle.std.specs.Global.{Global, Vec}
 use Rattle.std.specs.List.{filter_map, list_any}
 use Rattle.std.specs.List.Sorted.{IsPermutation}
@@ -24,7 +24,7 @@ use Rattle.gm_file.specs.Main.{IsMainOf}
 use Rattle.gomod_run.specs.Queries.{longest}
 use Rattle.gomod_run.specs.Outcome.{text_outcome}
 use Rattle.gomod_run.proofs.OneRead.{same_lines}
-use Rattle.gomod_run.specs.Edit.{EditEnds, applied, bad_main}
+use Rattle.gomod_run.specs.Edit.{applied, bad_main}
 use Rattle.gomod_laws.specs.EditPairLaws.{EitherOrderChangesNoBuild, UndoneIsFormatted}
 use Rattle.gomod_laws.specs.LineOrderLaws.{HoldTheSame}
 use Rattle.gomod_laws.specs.Runs.{IsEdited}
@@ -48,19 +48,19 @@ drop_fits (Drop t) = tt
 
 pub undone_is_formatted : UndoneIsFormatted
 undone_is_formatted operations put file edited_to formatted are fit targets one other =
-    elim (subst (λ (ts : List (List ℕ)). EditEnds ts file edited_to) are.given one.0) [
-      | bad_main place malformed says ↦ absurd (misread_or_lines file place targets.lines malformed targets.is_main)
+    elim (rw are.given at one.0) [
+      | bad_main place malformed says ↦ absurd (misread_or_lines _ _ _ malformed targets.is_main)
       | applied lines main says ↦
-          let sound = read_sound file lines main in
+          let sound = read_sound _ _ main in
           let absent : list_any (about put) (directives_of lines) ≡ false =
           ap (λ (ls : List (Line Word)). list_any (about put) (directives Strict ls))
-          (same_lines file lines targets.lines main.0 targets.is_main.0) ∙ targets.none in
-          let undo_fits = subst (λ (o : Option Operation). IfSome o (λ undo. is_fit undo ≡ true)) are.undoes (drop_fits put) in
+          (same_lines _ _ _ main.0 targets.is_main.0) ∙ targets.none in
+          let undo_fits = rw are.undoes at (drop_fits put) in
           let states : edited_to ≡ text_outcome (layout (plain_lines lines)) =
-          says ∙ taken_turn 1 are.first (are.second ∷ []) lines put are.puts fit
+          says ∙ taken_turn 1 _ (are.second ∷ []) lines _ are.puts fit
           ∙ taken_turn 2 are.second [] (lines_after put lines) are.undo are.drops undo_fits
           ∙ ap text_outcome (drop-undoes-layout put are.undo lines ((are.first, are.puts), fit, sound.0, sound.1) are.undoes absent) in
-          (states ∙ fmt_is file lines formatted main.0 other.0, layout (plain_lines lines), states)
+          (states ∙ fmt_is _ _ _ main.0 other.0, layout (plain_lines lines), states)
     ]
 
 -- ---- two operations in either order
@@ -73,25 +73,24 @@ last_two : (operations : Vec (String Global)) (file text : List ℕ) (earlier : 
     → (lines doc : List (Line Placed)) × IsMainOf file lines × IsEditOf one (turned earlier lines) × IsMainOf text doc
     × (directives_of doc ≡ directives_of (lines_after other (lines_after one (turned earlier lines))))
 last_two operations file text earlier first second one other given first_is second_is prints short =
-    let (lines, main, from) = edited_from operations earlier (first ∷ second ∷ []) file text given prints in
-    let then = next_is first (second ∷ []) text (turned earlier lines) one first_is from in
+    let (lines, main, from) = edited_from operations _ _ _ _ given prints in
+    let then = next_is _ _ _ _ _ first_is from in
     let last = next_is second [] text (lines_after one (turned earlier lines)) other second_is then.2 in
-    let (doc, reread, said) = text_lines (lines_after other (lines_after one (turned earlier lines))) text last.2 prints.1 short in
+    let (doc, reread, said) = text_lines _ _ last.2 prints.1 short in
     (lines, doc, main, then.1, reread, said)
 
 pub either_order_changes_no_build : EitherOrderChangesNoBuild
 either_order_changes_no_build command operations swapped one other file text also sums asked answered before after query
     swap apart prints too short low alike run rerun =
-    let (lines, doc, main, edit, reread, said) = last_two operations file text swap.earlier swap.first swap.second one
-    other swap.given swap.first_is swap.second_is prints short in
+    let (lines, doc, main, edit, reread, said) = last_two operations _ _ _ _ _ _
+    _ swap.given swap.first_is swap.second_is prints short in
     let (others, again, main_too, edit_too, reread_too, said_too) =
-    last_two swapped file also swap.earlier swap.second swap.first other one swap.in_other_order swap.second_is
+    last_two swapped _ _ _ _ _ _ _ swap.in_other_order swap.second_is
     swap.first_is too low in
-    let front : List (Line Placed) = turned swap.earlier lines in
-    let beside : List (Line Placed) = turned swap.earlier others in
-    let same : plain_lines beside ≡ plain_lines front = in_turn_same (filter_map edit_in swap.earlier) others lines
-    (same_lines file others lines main_too.0 main.0) in
-    let ends = said_too ∙ ap (directives Strict) (edited-same one (lines_after other beside) (lines_after other front) (edited-same other beside front same)) in
+    let front = turned swap.earlier lines in
+    let beside = turned swap.earlier others in
+    let same = in_turn_same (filter_map edit_in swap.earlier) _ _ (same_lines _ _ _ main_too.0 main.0) in
+    let ends = said_too ∙ ap (directives Strict) (edited-same one _ _ (edited-same other _ _ same)) in
     let orders = either-order one other front edit (edit_too.0, edit_too.1, edit.2, edit.3) apart in
     let are : IsPermutation (directives_of doc) (directives_of again) =
     subst (λ (ds : List Directive). IsPermutation ds (directives_of again)) (sym said)

@@ -20,10 +20,10 @@ use Rattle.gm_file_edit.specs.Kinds.{is_fit}
 use Rattle.gm_file_edit_laws.specs.Laws.{IsEditOf, directives_of}
 use Rattle.gm_file_edit.proofs.EditedSound.{edited-document}
 use Rattle.gm_file_edit.proofs.Written.{written-sound}
-use Rattle.gomod_run.specs.Edit.{EditEnds, applied, bad_main, lines_after_all, edits_outcome, refusal_of, refusals_from}
+use Rattle.gomod_run.specs.Edit.{applied, bad_main, lines_after_all, edits_outcome, refusal_of, refusals_from}
 use Rattle.gomod_run.specs.Outcome.{Outcome, text_outcome, refusal_outcome}
 use Rattle.gomod_run.specs.Queries.{longest}
-use Rattle.gomod_run.specs.Reports.{edit_line, main_line}
+use Rattle.gomod_run.specs.Reports.{edit_line}
 use Rattle.gomod_run.proofs.FolderNames.{read_document}
 use Rattle.gomod_words.specs.Usage.{texts_in}
 use Rattle.gomod_laws.specs.Runs.{IsEdited}
@@ -45,10 +45,10 @@ AreSoundLines lines = IsDocument (plain_lines lines) × (fault_of Strict (plain_
 
 -- the lines of a main file
 pub read_sound : (file : List ℕ) (lines : List (Line Placed)) → IsMainOf file lines → AreSoundLines lines
-read_sound file lines (parsed, faultless) = (read_document file (plain_lines lines) parsed.1.reads, faultless)
+read_sound file lines (parsed, faultless) = (read_document _ _ parsed.1.reads, faultless)
 
 pub edit_sound : (edit : Operation) (lines : List (Line Placed)) → IsEditOf edit lines → AreSoundLines (lines_after edit lines)
-edit_sound edit lines is = edited-document edit lines (written-sound is.0.0 edit is.0.1) is.1 is.2 is.3
+edit_sound edit lines is = edited-document _ _ (written-sound _ _ is.0.1) is.1 is.2 is.3
 
 -- ---- one operation
 
@@ -94,25 +94,25 @@ IsNext first texts text lines operation = (edit_in first ≡ Some operation) × 
 next : (first : List ℕ) (texts : List (List ℕ)) (text : List ℕ) (lines : List (Line Placed))
     → PrintsFrom (first ∷ texts) text lines → (operation : Operation) × IsNext first texts text lines operation
 next first texts text lines from = elim (turn_of first) [
-  | is_refused kind is ↦ absurd (not_refused _ _ (sym from.prints ∙ refused_turn from.number kind first texts lines is) refl)
+  | is_refused kind is ↦ absurd (not_refused _ _ (sym from.prints ∙ refused_turn from.number _ _ texts lines is) refl)
   | is_taken operation written fit ↦
       let edit : IsEditOf operation lines = ((first, written), fit, from.sound.0, from.sound.1) in
-      let prints = sym (taken_turn from.number first texts lines operation written fit) ∙ from.prints in
-      (operation, (written, edit, record { sound = edit_sound operation lines edit; number = from.number + 1; prints = prints }))
+      let prints = sym (taken_turn from.number _ texts lines _ written fit) ∙ from.prints in
+      (operation, (written, edit, record { sound = edit_sound _ _ edit; number = from.number + 1; prints = prints }))
 ]
 
 pub next_is : (first : List ℕ) (texts : List (List ℕ)) (text : List ℕ) (lines : List (Line Placed))
     (operation : Operation) → edit_in first ≡ Some operation → PrintsFrom (first ∷ texts) text lines
     → IsNext first texts text lines operation
 next_is first texts text lines operation written from =
-    let (other, is) = next first texts text lines from in
+    let (other, is) = next _ _ _ _ from in
     subst (IsNext first texts text lines) (same_Some _ _ (sym is.0 ∙ written)) is
 
 after_all : (earlier rest : List (List ℕ)) (text : List ℕ) (lines : List (Line Placed))
     → PrintsFrom (earlier ++ rest) text lines → PrintsFrom rest text (turned earlier lines)
 after_all [] rest text lines from = from
 after_all (first ∷ earlier) rest text lines from =
-    let (operation, is) = next first (earlier ++ rest) text lines from in
+    let (operation, is) = next _ _ _ _ from in
     let turn : turned (first ∷ earlier) lines ≡ turned earlier (lines_after operation lines) = rw is.0 refl in
     subst (PrintsFrom rest text) (sym turn) (after_all earlier rest text (lines_after operation lines) is.2)
 
@@ -122,9 +122,9 @@ after_all (first ∷ earlier) rest text lines from =
 pub edited_from : (operations : Vec (String Global)) (earlier rest : List (List ℕ)) (file text : List ℕ)
     → texts_in operations ≡ earlier ++ rest → IsEdited operations file text
     → (lines : List (Line Placed)) × IsMainOf file lines × PrintsFrom rest text (turned earlier lines)
-edited_from operations earlier rest file text given prints = elim (subst (λ (ts : List (List ℕ)). EditEnds ts file (text_outcome text)) given prints.0) [
+edited_from operations earlier rest file text given prints = elim (rw given at prints.0) [
   | bad_main place malformed says ↦ absurd (not_refused _ _ says refl)
-  | applied lines main says ↦ (lines, main, after_all earlier rest text lines (record { sound = read_sound file lines main; number = 1; prints = sym says }))
+  | applied lines main says ↦ (lines, main, after_all earlier rest text lines (record { sound = read_sound _ _ main; number = 1; prints = sym says }))
 ]
 
 -- a text that is the layout of sound lines reads as lines that hold the same directives
@@ -132,9 +132,9 @@ pub text_lines : (lines : List (Line Placed)) (text : List ℕ) → PrintsFrom [
     → (doc : List (Line Placed)) × IsMainOf text doc × (directives_of doc ≡ directives_of lines)
 text_lines lines text from utf8 short =
     let is : layout (plain_lines lines) ≡ text = ap (λ (o : Outcome). o.text) from.prints in
-    let read = layout_read (plain_lines lines) from.sound.0 (subst IsUtf8 (sym is) utf8) (subst (λ (t : List ℕ). length t ≤ longest) (sym is) short) in
+    let read = layout_read _ from.sound.0 (subst IsUtf8 (sym is) utf8) (rw is short) in
     let parsed : IsParsedAs text (Ok read.doc) = subst (λ (t : List ℕ). IsParsedAs t (Ok read.doc)) is read.parsed in (
       read.doc,
-      (parsed, no_fault_again (plain_lines lines) (plain_lines read.doc) read.same_filled from.sound.1),
+      (parsed, no_fault_again _ _ read.same_filled from.sound.1),
       same_said (plain_lines lines) (plain_lines read.doc) read.same_filled,
     )

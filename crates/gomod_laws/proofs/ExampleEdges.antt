@@ -1,12 +1,11 @@
 -- The edges of a run in which one file is answered.
-use Rattle.std.proofs.Common.{◌≡◌, ◌∷◌, zero, suc, List, [], Result, Ok, Contains, ap, arith, inl, inr, refl, subst, sym}
+use Rattle.std.proofs.Common.{◌≡◌, ◌∷◌, List, [], Result, Ok, Contains, ap, arith, inl, inr, refl, subst, sym}
 use Rattle.std.specs.declared.cmp.Ordering.TheVariants.{Less}
 use Rattle.std.proofs.lemmas.Option.{cond_some}
 use Rattle.gm_name.specs.Path.{is_fetchable}
 use Rattle.gm_name.specs.ModuleVersion.{ModuleVersion}
 use Rattle.gm_file.specs.Fields.{Dependency}
-use Rattle.gm_file.specs.Main.{without_excluded}
-use Rattle.gm_store.specs.Asked.{Name, bytes, folder_file, list_file, mod_file, same_name}
+use Rattle.gm_store.specs.Asked.{Name, folder_file, list_file, mod_file}
 use Rattle.gm_store.proofs.NameOrder.{names_equal}
 use Rattle.gm_graph_cache.specs.declared.cache.class.Class.{Class}
 use Rattle.gm_graph_cache.specs.Reading.{file_of}
@@ -18,7 +17,7 @@ use Rattle.gm_graph_select.specs.declared.step.Step.{Step}
 use Rattle.gm_graph_select.specs.declared.step.Step.TheVariants.{Main as FromMain, Of}
 use Rattle.gm_graph_select.specs.Graph.{edge, edge_cmp}
 use Rattle.gm_graph_select.proofs.Ascending.{member_head, no_member, one_member}
-use Rattle.gomod_laws.specs.ExampleRuns.{ThreeEdgesLead, edges, low_one, mid_ten, top_file, top_name, top_one, top_text, with_top}
+use Rattle.gomod_laws.specs.ExampleRuns.{ThreeEdgesLead, edges, low_one, mid_ten, top_file, top_name, top_one, with_top}
 use Rattle.gomod_laws.proofs.WrittenLists.{each_of, pairs_of}
 use Rattle.gomod_laws.proofs.ExampleFiles.{files_are_read}
 
@@ -43,20 +42,20 @@ module _ (requirements : List ModuleVersion) where
 
   top_says : Says run top_one (Ok top_file)
   unfolding is_fetchable
-  top_says = sound (answered (bytes top_text) refl refl files_are_read.required) refl
+  top_says = sound (answered _ refl refl files_are_read.required) refl
 
   file_is_top : (name : Name) {said : Result Dependency Class} → FileSays run name said → (file : Dependency) → said ≡ Ok file → name ≡ top_name
   file_is_top name (unaskable isnt) file same = absurd (cc same)
-  file_is_top name (answered reply may at is) file same = names_equal name top_name (cond_some (same_name name top_name) (bytes top_text) reply at).0
+  file_is_top name (answered reply may at is) file same = names_equal _ _ (cond_some _ _ _ at).0
 
   top_requires : Requires run top_one mid_ten
   top_requires = (top_file, top_says, member_head mid_ten [])
 
   requires_is : (x y : ModuleVersion) → Requires run x y → (x ≡ top_one) × (y ≡ mid_ten)
   requires_is x y (file, says, there) =
-      let is : x ≡ top_one = ap own (file_is_top (file_of run.main x) (says_file says file refl) file refl) in
-      let same : file ≡ top_file = file_same (subst (λ (m : ModuleVersion). Says run m (Ok file)) is says) top_says in
-      (is, sym (one_member mid_ten y (subst (λ (f : Dependency). Contains (without_excluded run.main f.requirements) y) same there)))
+      let is : x ≡ top_one = ap own (file_is_top _ (says_file says file refl) file refl) in
+      let same = file_same (rw is at says) top_says in
+      (is, sym (one_member _ y (rw same at there)))
 
 -- ---- the edges
 
@@ -70,7 +69,7 @@ edge_member : (s : Step) (y : ModuleVersion) → IsEdge top_run s y → HasEdge 
 edge_member FromMain y top = each_of (HasEdge FromMain) (top_one ∷ low_one ∷ []) ((1, omega arith, refl), ((0, omega arith, refl), tt)) y top
 edge_member (Of x) y (opens, requires) =
     let (from, to) = requires_is (top_one ∷ low_one ∷ []) x y requires in
-    subst (λ (z : ModuleVersion). HasEdge (Of z) y) (sym from) (subst (HasEdge (Of top_one)) (sym to) (2, omega arith, refl))
+    rw from (subst (HasEdge (Of top_one)) (sym to) (2, omega arith, refl))
 
 abbrev Leads : Edge → Type 0
 Leads one = IsEdge top_run one.from one.to
@@ -90,22 +89,22 @@ edges_are = record {
 -- ---- a main module that requires nothing opens nothing
 
 none_at_top : (run : Run) → run.main.requirements ≡ [] → (x : ModuleVersion) → IsTop run x → ⊥
-none_at_top run none x top = no_member x (subst (λ (ys : List ModuleVersion). Contains (without_excluded run.main ys) x) none top)
+none_at_top run none x top = no_member x (rw none at top)
 
 pub none_opened : (run : Run) → run.main.requirements ≡ [] → (x : ModuleVersion) → IsOpened run x → ⊥
 none_opened run none x (inl top) = none_at_top run none x top
 none_opened run none x (inr (from_main unpruned top)) = none_at_top run none x top
 none_opened run none y (inr (from_top {x = x} file top says unpruned there)) = none_at_top run none x top
-none_opened run none y (inr (from_deep {x = x} deep requires)) = none_opened run none x (inr deep)
+none_opened run none y (inr (from_deep {x = x} deep requires)) = none_opened _ none x (inr deep)
 
 pub none_leads : (run : Run) → run.main.requirements ≡ [] → (x : ModuleVersion) → IsVertex run x → ⊥
 none_leads run none x (FromMain, top) = none_at_top run none x top
-none_leads run none x (Of y, (opens, requires)) = none_opened run none y opens
+none_leads run none x (Of y, (opens, requires)) = none_opened _ none y opens
 
 pub three_edges_lead : ThreeEdgesLead
 three_edges_lead = record {
   are = edges_are;
   by_source = refl;
   idle_requires = top_requires [];
-  not_unopened = λ leads. none_opened (with_top []) refl top_one leads.0;
+  not_unopened = λ leads. none_opened _ refl _ leads.0;
 }

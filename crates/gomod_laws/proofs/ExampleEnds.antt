@@ -16,14 +16,13 @@ use Rattle.gm_file.specs.Fields.{Dependency}
 use Rattle.gm_store.specs.Asked.{Name, Reply, mod_file, folder_file, list_file, absent, names_in, same_name}
 use Rattle.gm_store_sums.specs.Sums.{Sums}
 use Rattle.gm_file.specs.Main.{Main}
-use Rattle.gm_graph_cache.specs.Reading.{IsFileReading, file_of}
+use Rattle.gm_graph_cache.specs.Reading.{file_of}
 use Rattle.gm_graph_cache.specs.declared.cache.class.Class.{Class}
 use Rattle.gm_graph_cache.specs.declared.cache.class.Class.TheVariants.{Missing}
 use Rattle.gm_file.specs.declared.misreading.Misreading.TheVariants as misreading
-use Rattle.gm_graph_select.specs.declared.step.Step.TheVariants.{Main as FromMain, Of}
 use Rattle.gm_graph_select.specs.BuildList.{main_entry, path_cmp}
 use Rattle.gm_graph_select.proofs.Ascending.{member_head, no_member, one_member}
-use Rattle.gm_graph.specs.Run.{AreFaults, AreOpened, AreRows, AreTooMany, IsDue, IsFault, IsNeeded, IsOpened, IsSettled, IsTop, IsVertex, from_deep, from_main, from_top}
+use Rattle.gm_graph.specs.Run.{AreFaults, AreOpened, AreRows, AreTooMany, IsDue, IsFault, IsNeeded, IsOpened, IsSettled, IsTop, from_deep, from_main, from_top}
 use Rattle.gm_graph_cache.specs.Sayings.{FileSays, Run, Says, answered, faulty as says_fault, run_of, unaskable}
 use Rattle.gm_graph.specs.declared.fault.Fault.{Fault}
 use Rattle.gm_graph_cache.proofs.Sayings.{class_same}
@@ -52,27 +51,27 @@ lone = run_of (main_requiring []) None []
 
 none_few : (xs : List ModuleVersion) → AreOpened lone xs → length xs ≤ 65536
 none_few [] are = omega arith
-none_few (x ∷ xs) are = absurd (none_opened lone refl x (are.each x (member_head x xs)))
+none_few (x ∷ xs) are = absurd (none_opened _ refl x (are.each x (member_head x xs)))
 
 none_rows : AreRows lone (main_entry ∷ [])
 none_rows = record {
   selected = [];
   entries_are = refl;
   ascending = pairs_of (λ (a b : ModuleVersion). path_cmp a b ≡ Less) [] tt;
-  each = λ x. ((λ there. absurd (no_member x there)), λ is. absurd (none_leads lone refl x is.is_end));
+  each = λ x. ((λ there. absurd (no_member x there)), λ is. absurd (none_leads _ refl x is.is_end));
 }
 
 none_faulty : AreFaults lone []
 none_faulty = record {
   ascending = pairs_of (λ (a b : Fault). pair_cmp a.vertex b.vertex ≡ Less) [] tt;
-  each = λ one. ((λ there. absurd (no_member one there)), λ is. absurd (none_opened lone refl one.vertex is.0));
+  each = λ one. ((λ there. absurd (no_member _ there)), λ is. absurd (none_opened _ refl _ is.0));
 }
 
 none_settled : IsSettled lone []
 none_settled = record {
   read = λ name reply at. absurd (cc at);
   once = nothing_twice;
-  needed = λ name. ((λ there. absurd (no_member name there)), λ need. absurd (none_opened lone refl need.0 need.1));
+  needed = λ name. ((λ there. absurd (no_member _ there)), λ need. absurd (none_opened _ refl _ need.1));
   few = none_few;
 }
 
@@ -92,7 +91,7 @@ is_listed_alone = record {
 
 bad_sum_reported : ListEnds None None run_with_bad_sum (refusal_outcome (codes "go.sum:1: BadSum\n"))
 bad_sum_reported =
-    bad_sums (main_requiring []) (codes "go.sum:1: BadSum\n") files_are_read.one
+    bad_sums _ (codes "go.sum:1: BadSum\n") files_are_read.one
     (inr (omega arith, 1, (omega arith, refl), rw (decimal_digit 1 (lit< tt)) refl)) (refl, refl) refl
 
 pub bad_sum_is_refused : BadSumIsRefused
@@ -123,7 +122,7 @@ module _ (asked : List (Name × Reply)) (silent : IsSilent (run_with asked)) whe
   run = run_with asked
 
   top_is : (x : ModuleVersion) → IsTop run x → x ≡ top_one
-  top_is x there = sym (one_member top_one x there)
+  top_is x there = sym (one_member _ x there)
 
   opened_is : (x : ModuleVersion) → IsOpened run x → x ≡ top_one
   opened_is x (inl top) = top_is x top
@@ -141,10 +140,10 @@ module _ (asked : List (Name × Reply)) (silent : IsSilent (run_with asked)) whe
       absurd (false≢true (sym (IsDistinct-head pair_eq x (y ∷ xs) are.once).0 ∙ same))
 
   one_few : (xs : List ModuleVersion) → AreOpened run xs → length xs ≤ 65536
-  one_few xs are = let one = one_at_most xs are in omega (arith, one)
+  one_few xs are = let one = one_at_most _ are in omega (arith, one)
 
   not_too_many : AreTooMany run → ⊥
-  not_too_many (xs, long, are) = let one = one_at_most xs are in omega (arith, one, long)
+  not_too_many (xs, long, are) = let one = one_at_most _ are in omega (arith, one, long)
 
   need_is : (name : Name) → IsNeeded run name → top_name ≡ name
   need_is name (x, opens, is, askable) = ap (file_of main) (sym (opened_is x opens)) ∙ is
@@ -161,7 +160,7 @@ absent_in asked gone x file says = by (says_file says file refl) refl
     by : {said : Result Dependency Class} → FileSays (run_with asked) (file_of main x) said → said ≡ Ok file → ⊥
     by (unaskable isnt) same = cc same
     by {said} (answered reply ask at is) same =
-        let missing : said ≡ Err Missing = subst (λ (r : Reply). IsFileReading None (file_of main x) r said) (gone (file_of main x) reply at) is in
+        let missing : said ≡ Err Missing = rw (gone (file_of main x) reply at) at is in
         cc (same, missing)
 
 -- a run of `list` on the two lines that found all, or too much
@@ -169,7 +168,7 @@ module _ (asked : List (Name × Reply)) (refusals : List Name) (silent : IsSilen
     (not_settled : IsSettled (run_with asked) (names_in asked) → refusals ≡ [] → ⊥)
     (not_due : (name : Name) → IsDue (run_with asked) name → refusals ≡ name ∷ [] → ⊥) where
   the_main : (again : Main) (table : Option Sums) → FilesReadAs requiring None again table → (again ≡ main) × (table ≡ None)
-  the_main again None read = (one_main requiring again main read.main_file files_are_read.two, refl)
+  the_main again None read = (one_main _ _ _ read.main_file files_are_read.two, refl)
   the_main again (Some table) read = absurd read.sums
 
   abbrev run_by : Main → Option Sums → Run
@@ -178,20 +177,19 @@ module _ (asked : List (Name × Reply)) (refusals : List Name) (silent : IsSilen
   -- what holds of the run by another reading of the files holds of this one
   here : (P : Run → Type 0) (again : Main) (table : Option Sums) → FilesReadAs requiring None again table → P (run_by again table) → P (run_with asked)
   here P again table read is =
-      let same = the_main again table read in
-      subst (λ (m : Main). P (run_of m None asked)) same.0 (subst (λ (t : Option Sums). P (run_of again t asked)) same.1 is)
+      let same = the_main _ _ read in
+      rw same.0 at (rw same.1 at is)
 
   not_found : (again : Main) (table : Option Sums) (faults : List Fault) → AreFound (example.run_without_sums requiring asked refusals) again table faults → ⊥
   not_found again table faults found =
-      not_settled (here (λ (r : Run). IsSettled r (names_in asked)) again table found.read found.settled) found.none_failed
+      not_settled (here (λ (r : Run). IsSettled r (names_in asked)) _ _ found.read found.settled) found.none_failed
 
   no_outcome : HasNoOutcome asked refusals
-  no_outcome outcome (bad_main place misread none says) = misread_or_main requiring place main misread files_are_read.two
+  no_outcome outcome (bad_main place misread none says) = misread_or_main _ _ _ misread files_are_read.two
   no_outcome outcome (bad_sums again report is misread none says) = misread
-  no_outcome outcome (device again table name read due failed says) =
-      not_due name (here (λ (r : Run). IsDue r name) again table read due) failed
-  no_outcome outcome (too_many again table read all many none says) = not_too_many asked silent (here AreTooMany again table read many)
-  no_outcome outcome (faulty again table first others found says) = not_found again table (first ∷ others) found
+  no_outcome outcome (device again table name read due failed says) = not_due name (here (λ (r : Run). IsDue r name) _ _ read due) failed
+  no_outcome outcome (too_many again table read all many none says) = not_too_many _ silent (here AreTooMany _ _ read many)
+  no_outcome outcome (faulty again table first others found says) = not_found _ _ _ found
   no_outcome outcome (no_fault again table found shows) = not_found again table [] found
 
 -- ---- nothing is answered
@@ -200,7 +198,7 @@ unanswered_silent : IsSilent (run_with [])
 unanswered_silent = absent_in [] (λ name reply at. absurd (cc at))
 
 not_asked : IsSettled (run_with []) [] → ⊥
-not_asked settled = no_member top_name ((settled.needed top_name).1 (top_needed []))
+not_asked settled = no_member _ ((settled.needed top_name).1 (top_needed []))
 
 -- ---- the device failed on a file that is not due
 
@@ -211,7 +209,7 @@ path_in (list_file path) = []
 
 names_differ : top_name ≡ low_name → ⊥
 unfolding path_in
-names_differ e = let letter : 116 ≡ 108 = heads 116 108 _ _ (ap path_in e) in omega (arith, letter)
+names_differ e = let letter = heads _ _ _ _ (ap path_in e) in omega (arith, letter)
 
 low_not_due : (name : Name) → IsDue (run_with []) name → low_name ∷ [] ≡ name ∷ [] → ⊥
 low_not_due name due failed = names_differ (need_is [] unanswered_silent name due.calls.needed ∙ sym ((same_from_push [] [] low_name name failed).1))
@@ -219,21 +217,21 @@ low_not_due name due failed = names_differ (need_is [] unanswered_silent name du
 -- ---- files are answered to be missing
 
 two_absent : (first second : Bool) (reply : Reply) → (if first then Some absent else (if second then Some absent else None)) ≡ Some reply → reply ≡ absent
-two_absent true second reply at = sym (same_Some absent reply at)
-two_absent false true reply at = sym (same_Some absent reply at)
+two_absent true second reply at = sym (same_Some _ _ at)
+two_absent false true reply at = sym (same_Some _ _ at)
 two_absent false false reply at = absurd (cc at)
 
 abbrev two : Name → List (Name × Reply)
 two second = (top_name, absent) ∷ (second, absent) ∷ []
 
 two_silent : (second : Name) → IsSilent (run_with (two second))
-two_silent second = absent_in (two second) (λ name reply at. two_absent (same_name name top_name) (same_name name second) reply at)
+two_silent second = absent_in (two second) (λ name reply at. two_absent _ _ _ at)
 
 low_not_needed : IsSettled (run_with (two low_name)) (top_name ∷ low_name ∷ []) → ⊥
-low_not_needed settled = names_differ (need_is (two low_name) (two_silent low_name) low_name ((settled.needed low_name).0 (1, omega arith, refl)))
+low_not_needed settled = names_differ (need_is (two low_name) (two_silent low_name) _ ((settled.needed low_name).0 (1, omega arith, refl)))
 
 top_not_twice : IsSettled (run_with (two top_name)) (top_name ∷ top_name ∷ []) → ⊥
-top_not_twice settled = false≢true (sym (IsDistinct-head same_name top_name (top_name ∷ []) settled.once).0)
+top_not_twice settled = false≢true (sym (IsDistinct-head _ _ _ settled.once).0)
 
 -- ---- the answer is that there is no file
 
@@ -241,7 +239,7 @@ abbrev told : List (Name × Reply)
 told = (top_name, absent) ∷ []
 
 told_absent : (name : Name) (reply : Reply) → (run_with told).answers name ≡ Some reply → reply ≡ absent
-told_absent name reply at = sym (cond_some (same_name name top_name) absent reply at).1
+told_absent name reply at = sym (cond_some _ _ _ at).1
 
 missing_silent : IsSilent (run_with told)
 missing_silent = absent_in told told_absent
@@ -258,9 +256,9 @@ top_not_due name due failed =
 
 missing_settled : IsSettled (run_with told) (top_name ∷ [])
 missing_settled = record {
-  read = λ name reply at. (Err Missing, subst (λ (r : Reply). IsFileReading None name r (Err Missing)) (sym (told_absent name reply at)) refl);
+  read = λ name reply at. (Err Missing, rw (told_absent name reply at) refl);
   once = once_asked;
-  needed = λ name. (each_of (IsNeeded (run_with told)) (top_name ∷ []) (top_needed told, tt) name, λ need. subst (Contains (top_name ∷ [])) (need_is told missing_silent name need) (member_head top_name []));
+  needed = λ name. (each_of (IsNeeded (run_with told)) (top_name ∷ []) (top_needed told, tt) name, λ need. subst (Contains (top_name ∷ [])) (need_is told missing_silent _ need) (member_head top_name []));
   few = one_few told missing_silent;
 }
 
@@ -276,9 +274,9 @@ top_fault = fault_with top_one Missing
 
 faulty_member : (one : Fault) → IsFault (run_with told) one → Contains (top_fault ∷ []) one
 faulty_member one (opens, says) =
-    let own : one.vertex ≡ top_one = opened_is told missing_silent one.vertex opens in
-    let class : Missing ≡ one.class = class_same top_is_missing (subst (λ (x : ModuleVersion). Says (run_with told) x (Err one.class)) own says) in
-    let same : top_fault ≡ one = ap₂ fault_with (sym own) class in
+    let own = opened_is told missing_silent _ opens in
+    let class = class_same top_is_missing (rw own at says) in
+    let same = ap₂ fault_with (sym own) class in
     subst (Contains (top_fault ∷ [])) same (member_head top_fault [])
 
 missing_faulty : AreFaults (run_with told) (top_fault ∷ [])
@@ -302,11 +300,11 @@ pub required_is_asked : RequiredIsAsked
 required_is_asked = record {
   missing = faulty main None top_fault []
       (record { read = files; settled = missing_settled; faults_are = missing_faulty; none_failed = refl }) refl;
-  device = device main None top_name files
+  device = device _ _ top_name files
       (record { calls = record { read = λ name reply at. absurd (cc at); needed = top_needed [] }; unasked = refl }) refl refl;
-  unasked = no_outcome [] [] unanswered_silent (λ settled none. not_asked settled) (λ name due failed. none_failed name failed);
-  undue = no_outcome [] (low_name ∷ []) unanswered_silent (λ settled none. some_failed low_name none) low_not_due;
-  answered = no_outcome told (top_name ∷ []) missing_silent (λ settled none. some_failed top_name none) top_not_due;
-  no_more = no_outcome (two low_name) [] (two_silent low_name) (λ settled none. low_not_needed settled) (λ name due failed. none_failed name failed);
-  not_twice = no_outcome (two top_name) [] (two_silent top_name) (λ settled none. top_not_twice settled) (λ name due failed. none_failed name failed);
+  unasked = no_outcome [] [] unanswered_silent (λ settled none. not_asked settled) (λ name due failed. none_failed _ failed);
+  undue = no_outcome [] (low_name ∷ []) unanswered_silent (λ settled none. some_failed _ none) low_not_due;
+  answered = no_outcome told (top_name ∷ []) missing_silent (λ settled none. some_failed _ none) top_not_due;
+  no_more = no_outcome (two low_name) [] (two_silent low_name) (λ settled none. low_not_needed settled) (λ name due failed. none_failed _ failed);
+  not_twice = no_outcome (two top_name) [] (two_silent top_name) (λ settled none. top_not_twice settled) (λ name due failed. none_failed _ failed);
 }

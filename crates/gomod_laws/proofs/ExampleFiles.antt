@@ -5,7 +5,6 @@ use Rattle.std.specs.Str.{bytes_eq}
 use Rattle.std.proofs.lemmas.Str.{IsUtf8-nil}
 use Rattle.gm_name.specs.Element.{has_outer_dot, is_dotted_name, is_element, is_reserved, is_shortened, stem}
 use Rattle.gm_name.specs.Names.{does_fit, is_path, is_version}
-use Rattle.gm_name.specs.Version.{parts_in}
 use Rattle.gm_name.proofs.NameTests.{path-tested, version-tested}
 use Rattle.gm_syntax.specs.Document.{Line, ReadsLines, Whole, start}
 use Rattle.gm_syntax.specs.Layout.{layout_from}
@@ -106,15 +105,15 @@ fits_plain parts minor is = rw is refl
 
 one_zero_fits_top : does_fit (codes "top.org") (codes "v1.0.0") ≡ true
 unfolding does_fit
-one_zero_fits_top = fits_plain (parts_in (codes "v1.0.0")) 0 one_zero_parts
+one_zero_fits_top = fits_plain _ 0 one_zero_parts
 
 one_ten_fits_mid : does_fit (codes "mid.org") (codes "v1.10.0") ≡ true
 unfolding does_fit
-one_ten_fits_mid = fits_plain (parts_in (codes "v1.10.0")) 10 one_ten_parts
+one_ten_fits_mid = fits_plain _ _ one_ten_parts
 
 one_one_fits_low : does_fit (codes "low.org") (codes "v1.1.0") ≡ true
 unfolding does_fit
-one_one_fits_low = fits_plain (parts_in (codes "v1.1.0")) 1 one_one_parts
+one_one_fits_low = fits_plain _ 1 one_one_parts
 
 -- ---- what the files say
 

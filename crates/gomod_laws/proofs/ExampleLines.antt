@@ -1,5 +1,5 @@
 -- Lines of bare words, and how their text is read.
-use Rattle.std.proofs.Common.{◌≡◌, ◌≢◌, ◌<◌, ◌≤◌, ◌∷◌, ℕ, Bool, true, false, IsTrue, IsUtf8, List, [], None, Ok, arith, get_or, length, lit<, refl, subst, suc, sym, zero}
+use Rattle.std.proofs.Common.{◌≡◌, ◌≢◌, ◌<◌, ◌≤◌, ◌∷◌, ℕ, Bool, true, false, IsTrue, IsUtf8, List, [], None, Ok, arith, get_or, length, lit<, refl, subst, suc, zero}
 use Rattle.std.specs.Prelude.{◌&&◌, map, nat_lt, not}
 use Rattle.std.specs.List.{AllByRecursion, list_all}
 use Rattle.std.proofs.lemmas.Bool.{false≢true, not-true}
@@ -37,7 +37,7 @@ word_bytes [] all = tt
 word_bytes (b ∷ text) all = (word_byte b (first_so _ _ all), word_bytes text (second_so _ _ all))
 
 no_arrow : (text : List ℕ) → list_all is_byte_of_path text ≡ true → BeginsWithArrow text → ⊥
-no_arrow text all (rest, is) = false≢true (subst (λ (t : List ℕ). list_all is_byte_of_path t ≡ true) is all)
+no_arrow text all (rest, is) = false≢true (rw is at all)
 
 -- a text without a slash opens no comment
 no_comment : (text : List ℕ) → Lacks 47 text → HoldsNoComment text
@@ -53,19 +53,19 @@ abbrev is_plain : List ℕ → Bool
 is_plain text = nat_lt 0 (length text) && (list_all is_byte_of_path text && list_all is_path_byte text)
 
 word_is : (text : List ℕ) → text ≢ [] → list_all is_byte_of_path text ≡ true → list_all is_path_byte text ≡ true → IsWord (bare text)
-word_is text some paths elements = ((text, (is_bare, refl)), lacks 10 is_path_byte refl text elements)
+word_is text some paths elements = ((text, (is_bare, refl)), lacks 10 _ refl _ elements)
   where
     is_bare : IsBare text
     is_bare = record {
       filled = some;
-      word_bytes = word_bytes text paths;
-      no_comment = no_comment text (lacks 47 is_path_byte refl text elements);
-      no_arrow = no_arrow text paths;
+      word_bytes = word_bytes _ paths;
+      no_comment = no_comment _ (lacks 47 _ refl _ elements);
+      no_arrow = no_arrow _ paths;
     }
 
 plain_word : (text : List ℕ) → is_plain text ≡ true → IsWord (bare text)
 plain_word [] is = absurd (false≢true is)
-plain_word (b ∷ text) is = word_is (b ∷ text) (λ e. cc e) (first_so _ _ (second_so _ _ is)) (second_so _ _ (second_so _ _ is))
+plain_word (b ∷ text) is = word_is _ (λ e. cc e) (first_so _ _ (second_so _ _ is)) (second_so _ _ (second_so _ _ is))
 
 plain_words : (texts : List (List ℕ)) → list_all is_plain texts ≡ true → AllByRecursion IsWord (map bare texts)
 plain_words [] all = tt
@@ -95,7 +95,7 @@ line_stands (first ∷ texts) is =
 lines_stand : (at : Place) → at.inside ≡ false → (texts : List (List (List ℕ))) → list_all is_plain_line texts ≡ true → AreLines at (map line texts)
 lines_stand at outside [] all = outside
 lines_stand at outside (one ∷ texts) all = (
-  subst (λ (inside : Bool). IsValidLine inside (line one)) (sym outside) (line_stands one (first_so _ _ all)),
+  rw outside (line_stands _ (first_so _ _ all)),
   lines_stand (after at (line one)) outside texts (second_so _ _ all),
 )
 
@@ -114,19 +114,19 @@ all_below [] all = tt
 all_below (b ∷ text) all = (byte_below b (first_so _ _ all), all_below text (second_so _ _ all))
 
 pub ascii_utf8 : (text : List ℕ) → list_all (λ b. nat_lt b 128) text ≡ true → IsUtf8 text
-ascii_utf8 text all = IsUtf8-from_ascii text (ascii text (all_below text all))
+ascii_utf8 text all = IsUtf8-from_ascii _ (ascii _ (all_below _ all))
 
 -- plain lines are what their text is read as, if they are laid out as it
 pub laid_parsed : (text : List ℕ) (texts : List (List (List ℕ))) → list_all is_plain_line texts ≡ true
     → layout (map line texts) ≡ text → layout_lines initial_state (map line texts) ≡ map line texts
     → length text ≤ longest → list_all (λ b. nat_lt b 128) text ≡ true → IsParsedAs text (Ok (placeless (map line texts)))
 laid_parsed text texts plain laid same short ascii =
-    let ls : List (Line Word) = map line texts in
-    let stable = (is_stable ls (lines_stand start refl texts plain)).reads in
+    let ls = map line texts in
+    let stable = (is_stable _ (lines_stand start refl _ plain)).reads in
     let laid_out : ReadsLines start (lines_of (layout ls)) ls Whole =
     subst (λ (others : List (Line Word)). ReadsLines start (lines_of (layout ls)) others Whole) same stable in
-    let read : ReadsLines start (lines_of text) ls Whole = subst (λ (t : List ℕ). ReadsLines start (lines_of t) ls Whole) laid laid_out in
+    let read : ReadsLines start (lines_of text) ls Whole = rw laid at laid_out in
     let reads : ReadsLines start (lines_of text) (plain_lines (placeless ls)) Whole =
-    subst (λ (others : List (Line Word)). ReadsLines start (lines_of text) others Whole) (sym (plain_placeless ls))
+    rw (plain_placeless ls)
     read in
-    reading_parsed text (Ok (placeless ls)) ((short, ascii_utf8 text ascii), reading_of text (plain_lines (placeless ls)) Whole reads)
+    reading_parsed text (Ok (placeless ls)) ((short, ascii_utf8 _ ascii), reading_of _ _ _ reads)

@@ -1,13 +1,12 @@
 -- What becomes of small outputs, and of files that are read.
-use Rattle.std.proofs.Common.{rules, ◌≡◌, ◌⊎◌, ◌∙◌, ◌∷◌, ◌<◌, ℕ, Bool, List, [], Option, None, Some, Result, Ok, Err, ap, arith, codes, drop, false, inl, inr, length, min, refl, subst, sym, take, take_all, true}
+use Rattle.std.proofs.Common.{rules, ◌≡◌, ◌⊎◌, ◌∙◌, ◌∷◌, ◌<◌, ℕ, Bool, List, [], Option, None, Some, Result, ap, arith, codes, drop, false, inl, inr, length, min, refl, subst, sym, take, take_all, true}
 use Rattle.std.proofs.lemmas.List.{length-take}
 use Rattle.std.specs.Global.{Vec}
 use Rattle.std.proofs.lemmas.Str.{IsUtf8-nil, is_utf8-from_IsUtf8}
 use Rattle.std.specs.Str.{chars, is_utf8}
-use Rattle.gm_store.specs.Openings.{IsReadFrom, MayRead, Opening, opened}
+use Rattle.gm_store.specs.Openings.{IsReadFrom, MayRead, opened}
 use Rattle.gm_store.specs.Taken.{SinkState}
 use Rattle.gm_store.specs.declared.reading.ReadFault.{ReadFault}
-use Rattle.gm_store.specs.declared.reading.ReadFault.TheVariants.{Device}
 use Rattle.gomod_run.specs.Outcome.{Outcome, failure_outcome, out_of_memory, text_outcome}
 use Rattle.gomod_run.proofs.Answered.{nothing_is_printed, version_is_printed}
 use Rattle.gomod_run.specs.Program.{IsOutcomeUnless, IsUnread, any_input, anything, usage_error}
@@ -16,7 +15,7 @@ use Rattle.gomod_words.specs.Usage.{unreadable_text, version_line}
 use Rattle.gomod_run.specs.Written.{EndsAsStated, IsWritten}
 use Rattle.gomod_run.proofs.ListLines.{heads}
 use Rattle.gomod_laws.proofs.ExampleLines.{ascii_utf8}
-use Rattle.gomod_laws.specs.ExampleOutputs.{EndIsStated, EndsBy, FileIsRead, InputIsHeld, InputIsUnread, PrintsText, WithInput, WordsAreGiven, also_unreadable, empty, version_flag, other, text, unreadable, with_bad_line, with_no_memory, with_other, with_text}
+use Rattle.gomod_laws.specs.ExampleOutputs.{EndIsStated, EndsBy, FileIsRead, InputIsHeld, InputIsUnread, PrintsText, WithInput, WordsAreGiven, also_unreadable, empty, version_flag, other, text, unreadable, with_no_memory, with_text}
 
 -- ---- a run ends
 
@@ -25,8 +24,8 @@ module _ (out report : SinkState) (status : ℕ) where
   not_ended : ¬ (IsWritten (text_outcome text) empty out empty report status) → ¬ (IsWritten out_of_memory empty out empty report status)
       → EndsAsStated PrintsText empty out empty report status → ⊥
   not_ended not_printed not_memory ends = elim ends.as_stated [
-    | inl same ↦ not_printed (subst (λ (o : Outcome). IsWritten o empty out empty report status) same ends.written)
-    | inr same ↦ not_memory (subst (λ (o : Outcome). IsWritten o empty out empty report status) same ends.written)
+    | inl same ↦ not_printed (rw same at ends.written)
+    | inr same ↦ not_memory (rw same at ends.written)
   ]
 
 prints : IsWritten (text_outcome text) empty with_text empty empty 0
@@ -39,19 +38,19 @@ pub end_is_stated : EndIsStated
 end_is_stated = record {
   prints = record { outcome = text_outcome text; as_stated = inl refl; utf8 = ascii_utf8 text refl; written = prints };
   no_memory = record { outcome = out_of_memory; as_stated = inr refl; utf8 = IsUtf8-nil; written = tells };
-  other_text = λ status. not_ended with_other empty status (search rules) (search rules);
-  reports = λ status. not_ended empty with_bad_line status (search rules) (search rules);
-  nothing = λ status. not_ended empty empty status (search rules) (search rules);
-  done_without_memory = not_ended empty with_no_memory 0 (search rules) (search rules);
+  other_text = λ status. not_ended _ _ status (search rules) (search rules);
+  reports = λ status. not_ended _ _ status (search rules) (search rules);
+  nothing = λ status. not_ended _ _ status (search rules) (search rules);
+  done_without_memory = not_ended _ _ 0 (search rules) (search rules);
 }
 
 -- ---- a file is read
 
 limit_of : (bytes : List ℕ) → length bytes < 10 → take 16777217 bytes ≡ bytes
-limit_of bytes short = take_all 16777217 bytes (omega (arith, short))
+limit_of bytes short = take_all 16777217 _ (omega (arith, short))
 
 not_given : (bytes known : List ℕ) → length known < 10 → ¬ (bytes ≡ known) → ¬ (bytes ≡ take 16777217 known)
-not_given bytes known short differ is = differ (is ∙ limit_of known short)
+not_given bytes known short differ is = differ (is ∙ limit_of _ short)
 
 other_differs : (bytes : List ℕ) → bytes ≡ other → ¬ (bytes ≡ text)
 other_differs bytes own same = search rules
@@ -67,9 +66,9 @@ too_many all bytes many own is =
 pub file_is_read : FileIsRead
 file_is_read = record {
   given = λ bytes is. is ∙ sym (limit_of text (omega arith));
-  another = λ bytes is. not_given bytes.items text (omega arith) (other_differs bytes.items is);
-  cut = λ bytes is. not_given bytes.items text (omega arith) (cut_differs bytes.items is);
-  too_many = λ all bytes many is. too_many all bytes.items many is;
+  another = λ bytes is. not_given _ _ (omega arith) (other_differs _ is);
+  cut = λ bytes is. not_given _ _ (omega arith) (cut_differs _ is);
+  too_many = λ all bytes many is. too_many _ _ many is;
   fails = refl;
   unfailing = search rules;
   out_of_memory = tt;
@@ -84,11 +83,11 @@ file_is_read = record {
 
 -- what reading it came to if it was taken
 read_of : (may_fail : Bool) (read : Result (Vec ℕ) ReadFault) → MayRead (WithInput may_fail (codes "-")) read → IsReadFrom (opened (Some text) may_fail) read
-read_of may_fail read (opening, inl (dash, is), comes) = subst (λ (o : Opening). IsReadFrom o read) is comes
+read_of may_fail read (opening, inl (dash, is), comes) = rw is at comes
 read_of may_fail read (opening, inr (isnt, any), comes) = absurd (isnt refl)
 
 unfailing : ¬ (IsUnread (WithInput false) (Some (codes "-")) (failure_outcome (codes "gomod: cannot read -\n")))
-unfailing unread = let wrong : false ≡ true = read_of false (Err Device) unread.0 in cc wrong
+unfailing unread = let wrong = read_of _ _ unread.0 in cc wrong
 
 no_memory_line : ¬ (out_of_memory ≡ failure_outcome (codes "gomod: cannot read -\n"))
 no_memory_line same = search rules
@@ -109,8 +108,8 @@ input_is_unread = record {
 pub input_is_held : InputIsHeld
 input_is_held = record {
   given = λ list is. (opened (Some text) false, inl (refl, refl), is ∙ sym (limit_of text (omega arith)));
-  another = λ list is read. not_given list.items text (omega arith) (other_differs list.items is) (read_of false (Ok list) read);
-  cut = λ list is read. not_given list.items text (omega arith) (cut_differs list.items is) (read_of false (Ok list) read);
+  another = λ list is read. not_given _ _ (omega arith) (other_differs _ is) (read_of _ _ read);
+  cut = λ list is read. not_given _ _ (omega arith) (cut_differs _ is) (read_of _ _ read);
   nothing = λ never. never;
   unnamed = λ list never. never;
   held = λ list. refl;
@@ -123,7 +122,7 @@ input_is_held = record {
 
 -- ASCII is UTF-8, and a byte 255 is not
 version_readable : first_unreadable (version_flag ∷ []) ≡ None
-version_readable = rw (is_utf8-from_IsUtf8 version_flag (ascii_utf8 version_flag refl)) refl
+version_readable = rw (is_utf8-from_IsUtf8 _ (ascii_utf8 version_flag refl)) refl
 
 byte_unreadable : (words : List (List ℕ)) → first_unreadable (unreadable ∷ words) ≡ Some unreadable
 unfolding is_utf8 chars
@@ -131,21 +130,21 @@ byte_unreadable words = refl
 
 -- what the known words end in
 ends_by : (words : List (List ℕ)) (outcome : Outcome) → EndsBy words outcome → IsOutcomeUnless anything any_input words (first_unreadable words) outcome
-ends_by words outcome (given, same, ends) = subst (λ (ws : List (List ℕ)). IsOutcomeUnless anything any_input ws (first_unreadable ws) outcome) same ends
+ends_by words outcome (given, same, ends) = rw same at ends
 
 version_ends : (outcome : Outcome) → EndsBy (version_flag ∷ []) outcome → (outcome ≡ text_outcome version_line) ⊎ (outcome ≡ out_of_memory)
-version_ends outcome ends = version_is_printed (codes "gomod") version_flag outcome (inl refl)
+version_ends outcome ends = version_is_printed _ _ _ (inl refl)
     (subst (λ (found : Option (List ℕ)). IsOutcomeUnless anything any_input (version_flag ∷ []) found outcome)
-    version_readable (ends_by (version_flag ∷ []) outcome ends))
+    version_readable (ends_by _ _ ends))
 
 not_dropped : (outcome : Outcome) → outcome.status ≡ 2 → ¬ (EndsBy (version_flag ∷ []) outcome)
-not_dropped outcome usage ends = elim (version_ends outcome ends) [
+not_dropped outcome usage ends = elim (version_ends _ ends) [
   | inl is ↦ let wrong : 2 ≡ 0 = sym usage ∙ ap (λ (o : Outcome). o.status) is in omega (arith, wrong)
   | inr is ↦ let wrong : 2 ≡ 3 = sym usage ∙ ap (λ (o : Outcome). o.status) is in omega (arith, wrong)
 ]
 
 not_made_up : (line : List ℕ) → ¬ (line ≡ []) → ¬ (EndsBy [] (text_outcome line))
-not_made_up line some ends = elim (nothing_is_printed (codes "gomod") (text_outcome line) (ends_by [] (text_outcome line) ends)) [
+not_made_up line some ends = elim (nothing_is_printed _ _ (ends_by [] (text_outcome line) ends)) [
   | inl none ↦ some none.0
   | inr is ↦ let wrong : 0 ≡ 3 = ap (λ (o : Outcome). o.status) is in omega (arith, wrong)
 ]
@@ -153,12 +152,12 @@ not_made_up line some ends = elim (nothing_is_printed (codes "gomod") (text_outc
 shown_status : (words : List (List ℕ)) (word : List ℕ) (outcome : Outcome) → first_unreadable words ≡ Some word
     → EndsBy words outcome → outcome ≡ usage_error (unreadable_text word)
 shown_status words word outcome first ends = subst (λ (found : Option (List ℕ)).
-    IsOutcomeUnless anything any_input words found outcome) first (ends_by words outcome ends)
+    IsOutcomeUnless anything any_input words found outcome) first (ends_by _ _ ends)
 
 not_passed_over : ¬ (EndsBy (unreadable ∷ version_flag ∷ []) (text_outcome version_line))
 not_passed_over ends =
-    let wrong : 0 ≡ 2 = ap (λ (o : Outcome). o.status) (shown_status (unreadable ∷ version_flag ∷ []) unreadable
-    (text_outcome version_line) (byte_unreadable (version_flag ∷ [])) ends) in omega (arith, wrong)
+    let wrong : 0 ≡ 2 = ap (λ (o : Outcome). o.status) (shown_status _ _
+    _ (byte_unreadable (version_flag ∷ [])) ends) in omega (arith, wrong)
 
 unreadable_shown : IsOutcomeUnless anything any_input (unreadable ∷ version_flag ∷ [])
     (first_unreadable (unreadable ∷ version_flag ∷ [])) (usage_error (unreadable_text unreadable))
@@ -168,9 +167,9 @@ unreadable_shown = rw (byte_unreadable (version_flag ∷ [])) refl
 not_last : ¬ (EndsBy (unreadable ∷ also_unreadable ∷ []) (usage_error (unreadable_text also_unreadable)))
 unfolding lib.Utf8.encode
 not_last ends =
-    let same = shown_status (unreadable ∷ also_unreadable ∷ []) unreadable
-    (usage_error (unreadable_text also_unreadable)) (byte_unreadable (also_unreadable ∷ [])) ends in
-    let digit : 101 ≡ 102 = heads 101 102 _ _ (ap (λ (o : Outcome). drop 20 o.report) same) in omega (arith, digit)
+    let same = shown_status _ _
+    _ (byte_unreadable (also_unreadable ∷ [])) ends in
+    let digit = heads _ _ _ _ (ap (λ (o : Outcome). drop 20 o.report) same) in omega (arith, digit)
 
 pub words_are_given : WordsAreGiven
 words_are_given = record {

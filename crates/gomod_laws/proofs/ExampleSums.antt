@@ -4,7 +4,7 @@ use Rattle.std.specs.List.{starts_with}
 use Rattle.std.proofs.lemmas.Bool.{false≢true}
 use Rattle.gm_store_sums.specs.Sums.{IsSum, SaysOfHash}
 use Rattle.gm_store_sums.specs.declared.sum_table.Sum.{Sum}
-use Rattle.gm_store_sums.specs.declared.sum_table.Sum.TheVariants.{Good, Unlisted, Differs}
+use Rattle.gm_store_sums.specs.declared.sum_table.Sum.TheVariants.{Good, Differs}
 use Rattle.gm_graph_select.proofs.Ascending.{member_cases, no_member}
 use Rattle.gomod_run.proofs.OneRead.{one_says}
 use Rattle.gomod_run.proofs.ListLines.{heads}
@@ -14,8 +14,8 @@ use Rattle.gomod_laws.specs.ExampleSums.{SaysOnly, SumsSay, one_sum, two_sums}
 
 says_only : (text version hash : List ℕ) (sum : Sum) → SaysOfHash text (codes "a.b") version hash sum → SaysOnly text version hash sum
 says_only text version hash sum is other = (
-  λ says. one_says text (codes "a.b") version hash other sum says is,
-  λ same. subst (λ (one : Sum). SaysOfHash text (codes "a.b") version hash one) (sym same) is,
+  λ says. one_says _ _ _ _ _ _ says is,
+  λ same. rw same is,
 )
 
 -- ---- fields
@@ -39,11 +39,11 @@ not_blank : (name hash : List ℕ) → [] ≡ row name hash → ⊥
 not_blank name hash e = let none : 0 ≡ 3 = ap (λ (xs : List (List ℕ)). length xs) e in omega (arith, none)
 
 row_is : (name hash other_name other : List ℕ) → Contains (rows name hash) (row other_name other) → row name hash ≡ row other_name other
-row_is name hash other_name other there = elim (member_cases (row name hash) (row other_name other) ([] ∷ []) there) [
+row_is name hash other_name other there = elim (member_cases _ _ ([] ∷ []) there) [
   | inl same ↦ same
   | inr later ↦ elim (member_cases [] (row other_name other) [] later) [
-    | inl same ↦ absurd (not_blank other_name other same)
-    | inr none ↦ absurd (no_member (row other_name other) none)
+    | inl same ↦ absurd (not_blank _ _ same)
+    | inr none ↦ absurd (no_member _ none)
   ]
 ]
 
@@ -53,16 +53,16 @@ listed : IsSum one_sum (codes "a.b") (codes "v1.0.0") (codes "h1:A")
 listed = record { line = (0, omega arith, refl); kind = refl }
 
 no_other : (other : List ℕ) → IsSum one_sum (codes "a.b") (codes "v1.0.0") other → other ≡ codes "h1:A"
-no_other other is = sym (ap third (row_is (codes "v1.0.0/go.mod") (codes "h1:A") (codes "v1.0.0/go.mod") other is.line))
+no_other other is = sym (ap third (row_is _ _ _ _ is.line))
 
 letters_differ : codes "h1:A" ≡ codes "h1:B" → ⊥
-letters_differ e = let letter : 65 ≡ 66 = heads 65 66 _ _ (ap (drop 3) e) in omega (arith, letter)
+letters_differ e = let letter = heads _ _ _ _ (ap (drop 3) e) in omega (arith, letter)
 
 no_later : (other : List ℕ) → IsSum one_sum (codes "a.b") (codes "v1.1.0") other → ⊥
 no_later other is =
     let name : codes "v1.0.0/go.mod" ≡ codes "v1.1.0/go.mod" =
-    ap second (row_is (codes "v1.0.0/go.mod") (codes "h1:A") (codes "v1.1.0/go.mod") other is.line) in
-    let digit : 48 ≡ 49 = heads 48 49 _ _ (ap (drop 3) name) in omega (arith, digit)
+    ap second (row_is _ _ _ _ is.line) in
+    let digit = heads _ _ _ _ (ap (drop 3) name) in omega (arith, digit)
 
 -- ---- two lines, and lines that are passed over
 
@@ -72,12 +72,12 @@ also_listed = record { line = (1, omega arith, refl); kind = refl }
 not_of_files : (other : List ℕ) → IsSum (codes "a.b v1.0.0 h1:A\n") (codes "a.b") (codes "v1.0.0") other → ⊥
 not_of_files other is =
     let name : codes "v1.0.0" ≡ codes "v1.0.0/go.mod" =
-    ap second (row_is (codes "v1.0.0") (codes "h1:A") (codes "v1.0.0/go.mod") other is.line) in
+    ap second (row_is _ _ _ _ is.line) in
     let size : 6 ≡ 13 = ap (λ (text : List ℕ). length text) name in omega (arith, size)
 
 not_other_kind : (other : List ℕ) → IsSum (codes "a.b v1.0.0/go.mod h2:A\n") (codes "a.b") (codes "v1.0.0") other → ⊥
 not_other_kind other is =
-    let hash : codes "h2:A" ≡ other = ap third (row_is (codes "v1.0.0/go.mod") (codes "h2:A") (codes "v1.0.0/go.mod") other is.line) in
+    let hash : codes "h2:A" ≡ other = ap third (row_is _ _ _ _ is.line) in
     false≢true (subst (λ (text : List ℕ). starts_with nat_eq text (codes "h1:") ≡ true) (sym hash) is.kind)
 
 pub sums_say : SumsSay
@@ -85,9 +85,9 @@ sums_say = record {
   good = says_only one_sum (codes "v1.0.0") (codes "h1:A") Good (listed, no_other);
   differs = says_only one_sum (codes "v1.0.0") (codes "h1:B") Differs (codes "h1:A", listed, letters_differ);
   also_differs = says_only two_sums (codes "v1.0.0") (codes "h1:A") Differs (codes "h1:B", also_listed, λ e. letters_differ (sym e));
-  unlisted = says_only one_sum (codes "v1.1.0") (codes "h1:A") Unlisted no_later;
-  of_files = says_only (codes "a.b v1.0.0 h1:A\n") (codes "v1.0.0") (codes "h1:A") Unlisted not_of_files;
-  other_kind = says_only (codes "a.b v1.0.0/go.mod h2:A\n") (codes "v1.0.0") (codes "h2:A") Unlisted not_other_kind;
+  unlisted = says_only _ _ _ _ no_later;
+  of_files = says_only _ _ _ _ not_of_files;
+  other_kind = says_only _ _ _ _ not_other_kind;
   good_class = refl;
   differs_class = refl;
   unlisted_class = refl;

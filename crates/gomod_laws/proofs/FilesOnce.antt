@@ -18,7 +18,6 @@ use Rattle.gm_file.specs.Main.{IsMainFile, IsMainOf, Main}
 use Rattle.gm_file.specs.Misreading.{IsMisread}
 use Rattle.gm_file.specs.declared.misreading.Misreading.{Misreading}
 use Rattle.gm_file.specs.declared.misreading.Misreading.TheVariants as misreading
-use Rattle.gm_file_edit.specs.Edited.{lines_after}
 use Rattle.gm_file_edit.specs.Edits.{Edit as Change, edit_in}
 use Rattle.gm_file_edit.proofs.Places.{edited-same}
 use Rattle.gm_store_sums.specs.Sums.{Sums}
@@ -69,7 +68,7 @@ MadeOf make content made = (form : Form) × HasForm content form × (make (meani
 
 made_once : {A : Type 0} (make : Meaning → A) (content : List ℕ) (a b : A) → MadeOf make content a → MadeOf make content b → a ≡ b
 made_once make content a b (form, is, says) (other, be, tells) =
-    sym says ∙ ap (λ (f : Form). make (meaning_of f)) (one_form content form other is be) ∙ tells
+    sym says ∙ ap (λ (f : Form). make (meaning_of f)) (one_form _ _ _ is be) ∙ tells
 
 -- ---- `fmt`
 
@@ -79,18 +78,18 @@ fmt_of (Err place) = refusal_outcome (main_line place)
 
 placed : {outcome : Outcome} (here place : FaultPlace) → ◌≡◌ {A = Option FaultPlace} (Some here) (Some place) → outcome ≡ refusal_outcome (main_line place)
     → refusal_outcome (main_line here) ≡ outcome
-placed here place same says = ap (λ (p : FaultPlace). refusal_outcome (main_line p)) (same_Some here place same) ∙ sym says
+placed here place same says = ap (λ (p : FaultPlace). refusal_outcome (main_line p)) (same_Some _ _ same) ∙ sym says
 
 formatted : (file : List ℕ) (outcome : Outcome) → FmtEnds file outcome → MadeOf fmt_of file outcome
 formatted file outcome (laid_out lines parsed says) = (Ended (plain_lines lines) Whole, parsed, sym says)
 formatted file outcome (bad_syntax faults.NoMemory place read named says) = absurd read
-formatted file outcome (bad_syntax faults.TooMany place read named says) = (Long, read, placed (0, misreading.TooMany) place named says)
-formatted file outcome (bad_syntax faults.NotUtf8 place read named says) = (Garbled, read, placed (0, misreading.NotUtf8) place named says)
+formatted file outcome (bad_syntax faults.TooMany place read named says) = (Long, read, placed _ _ named says)
+formatted file outcome (bad_syntax faults.NotUtf8 place read named says) = (Garbled, read, placed _ _ named says)
 formatted file outcome (bad_syntax (faults.Syntax number kind) place (text, lines, is) named says) =
-    (Ended lines (Faulty number kind), (text, is), placed (number, misreading.Syntax kind) place named says)
+    (Ended lines (Faulty number kind), (text, is), placed _ _ named says)
 
 pub fmt_once : (file : List ℕ) (one other : Outcome) → FmtEnds file one → FmtEnds file other → one ≡ other
-fmt_once file one other is be = made_once fmt_of file one other (formatted file one is) (formatted file other be)
+fmt_once file one other is be = made_once fmt_of _ _ _ (formatted _ _ is) (formatted _ _ be)
 
 -- ---- a main module's file
 
@@ -106,23 +105,23 @@ misread_at : (number : ℕ) (kind : Misreading) → number ≡ 0 → ◌≡◌ {
 misread_at number kind none = ap (λ (n : ℕ). Err (n, kind)) (sym none)
 
 misread : (content : List ℕ) (place : FaultPlace) → IsMisread Strict content place.0 place.1 → MadeOf strict_of content (Err place)
-misread content (number, misreading.TooMany) is = (Long, is.1, misread_at number misreading.TooMany is.0)
-misread content (number, misreading.NotUtf8) is = (Garbled, is.1, misread_at number misreading.NotUtf8 is.0)
+misread content (number, misreading.TooMany) is = (Long, is.1, misread_at _ misreading.TooMany is.0)
+misread content (number, misreading.NotUtf8) is = (Garbled, is.1, misread_at _ misreading.NotUtf8 is.0)
 misread content (number, misreading.Syntax kind) is = (Ended is.1 (Faulty number kind), (is.0, is.2), refl)
 misread content (number, misreading.Directive kind) is = (Ended (plain_lines is.0) Whole, is.1, ap (unless_faulty (plain_lines is.0)) is.2)
 
 -- an invalid file has exactly one place that is reported
 pub one_place : (content : List ℕ) (a b : FaultPlace) → IsMisread Strict content a.0 a.1 → IsMisread Strict content b.0 b.1 → a ≡ b
-one_place content a b is be = let same = made_once strict_of content (Err a) (Err b) (misread content a is) (misread content b be) in cc
+one_place content a b is be = let same = made_once strict_of _ _ _ (misread _ a is) (misread _ b be) in cc
 
 pub misread_or_lines : (content : List ℕ) (place : FaultPlace) (lines : List (Line Placed))
     → IsMisread Strict content place.0 place.1 → IsMainOf content lines → ⊥
 misread_or_lines content place lines is (parsed, sound) =
     let read : MadeOf strict_of content (Ok (plain_lines lines)) = (Ended (plain_lines lines) Whole, parsed, ap (unless_faulty (plain_lines lines)) sound) in
-    let same = made_once strict_of content (Err place) (Ok (plain_lines lines)) (misread content place is) read in cc same
+    let same = made_once strict_of _ _ _ (misread _ _ is) read in cc same
 
 pub misread_or_main : (content : List ℕ) (place : FaultPlace) (main : Main) → IsMisread Strict content place.0 place.1 → IsMainFile content main → ⊥
-misread_or_main content place main is (lines, other, says) = misread_or_lines content place lines is other
+misread_or_main content place main is (lines, other, says) = misread_or_lines _ _ _ is other
 
 -- ---- `edit`
 
@@ -130,7 +129,7 @@ misread_or_main content place main is (lines, other, says) = misread_or_lines co
 pub in_turn_same : (edits : List Change) (one other : List (Line Placed)) → plain_lines one ≡ plain_lines other
     → plain_lines (lines_after_all edits one) ≡ plain_lines (lines_after_all edits other)
 in_turn_same [] one other same = same
-in_turn_same (edit ∷ edits) one other same = in_turn_same edits (lines_after edit one) (lines_after edit other) (edited-same edit one other same)
+in_turn_same (edit ∷ edits) one other same = in_turn_same edits _ _ (edited-same edit _ _ same)
 
 printed_same : (refusals : List (ℕ × List ℕ)) (one other : List (Line Placed)) → plain_lines one ≡ plain_lines other
     → edits_outcome refusals one ≡ edits_outcome refusals other
@@ -139,13 +138,12 @@ printed_same (refusal ∷ later) one other same = refl
 
 pub edit_once : (texts : List (List ℕ)) (file : List ℕ) (one other : Outcome) → EditEnds texts file one → EditEnds texts file other → one ≡ other
 edit_once texts file one other (bad_main here misread says) (bad_main there read tells) =
-    says ∙ ap (λ (place : FaultPlace). refusal_outcome (main_line place)) (one_place file here there misread read) ∙ sym tells
-edit_once texts file one other (bad_main here misread says) (applied lines main tells) = absurd (misread_or_lines file here lines misread main)
-edit_once texts file one other (applied lines main says) (bad_main there read tells) = absurd (misread_or_lines file there lines read main)
+    says ∙ ap (λ (place : FaultPlace). refusal_outcome (main_line place)) (one_place _ _ _ misread read) ∙ sym tells
+edit_once texts file one other (bad_main here misread says) (applied lines main tells) = absurd (misread_or_lines _ _ _ misread main)
+edit_once texts file one other (applied lines main says) (bad_main there read tells) = absurd (misread_or_lines _ _ _ read main)
 edit_once texts file one other (applied lines main says) (applied others again tells) =
     let edits = filter_map edit_in texts in
-    says ∙ printed_same (refusals_from 1 texts) (lines_after_all edits lines) (lines_after_all edits others)
-    (in_turn_same edits lines others (same_lines file lines others main.0 again.0)) ∙ sym tells
+    says ∙ printed_same (refusals_from 1 texts) _ _ (in_turn_same edits _ _ (same_lines _ _ _ main.0 again.0)) ∙ sym tells
 
 -- ---- a go.sum
 

@@ -50,22 +50,22 @@ Grows needs = (one other : AnswersByName) → Keeps one other → (name : Name) 
 pub needed_in_turn : (needs : AnswersByName → Name → Type 0) → Grows needs → {asked : Pairs} → AskedInTurn needs asked
     → (name : Name) → Contains (names_in asked) name
     → needs (answer_in asked) name
-needed_in_turn needs grows graph.nothing one there = absurd (no_member one there)
+needed_in_turn needs grows graph.nothing one there = absurd (no_member _ there)
 needed_in_turn needs grows (graph.more {pairs} {name} reply asks need unasked) one there =
-    let longer : Pairs = pairs ++ (name, reply) ∷ [] in
-    let still : (n : Name) → needs (answer_in pairs) n → needs (answer_in longer) n =
-    grows (answer_in pairs) (answer_in longer) (λ n r e. answer_stays pairs ((name, reply) ∷ []) n r e) in
-    elim (Contains-push_cases (names_in pairs) name one (subst (λ (names : List Name). Contains names one) (names_push pairs name reply) there)) [
-      | inl before ↦ still one (needed_in_turn needs grows asks one before)
+    let longer = pairs ++ (name, reply) ∷ [] in
+    let still =
+    grows (answer_in pairs) (answer_in longer) (λ n r e. answer_stays _ ((name, reply) ∷ []) n r e) in
+    elim (Contains-push_cases _ _ _ (rw (names_push pairs name reply) at there)) [
+      | inl before ↦ still one (needed_in_turn _ grows asks _ before)
       | inr same ↦ subst (needs (answer_in longer)) same (still name need)
     ]
 
 -- if no file is needed, none is asked for
 none_asked : {asked : Pairs} → AskedInTurn (λ answers name. ⊥) asked → (name : Name) → Contains (names_in asked) name → ⊥
-none_asked turn name there = needed_in_turn (λ answers name. ⊥) (λ one other keeps n need. need) turn name there
+none_asked turn name there = needed_in_turn (λ answers name. ⊥) (λ one other keeps n need. need) turn _ there
 
 pub answered_name : (asked : Pairs) (name : Name) (reply : Reply) → answer_in asked name ≡ Some reply → Contains (names_in asked) name
-answered_name asked name reply e = in_mapped (λ (pair : Name × Reply). pair.0) asked (name, reply) (answered_in asked name reply e)
+answered_name asked name reply e = in_mapped (λ (pair : Name × Reply). pair.0) _ _ (answered_in _ _ _ e)
 
 -- ---- an answer that was read is a file
 
@@ -105,31 +105,31 @@ latest_again path all one other name moved (versions, latest, same, is) = (
 
 pub versions_grow : (path : List ℕ) (all : Bool) → Grows (VersionsNeed path all)
 versions_grow path all one other keeps name (inl list) = inl list
-versions_grow path all one other keeps name (inr need) = inr (latest_again path all one other name (λ list. keeps (list_file path) (bytes list)) need)
+versions_grow path all one other keeps name (inr need) = inr (latest_again _ _ _ other _ (λ list. keeps (list_file path) (bytes list)) need)
 
 module _ (path : List ℕ) (all : Bool) (told : AnswersByName) (outcome : Outcome) (prints : HasPrinted outcome)
     (ends : VersionsEnds path all told [] outcome) where
   abbrev shown : List (List ℕ)
-  shown = (shown_printed path all told outcome prints ends).0
+  shown = (shown_printed _ _ _ _ prints ends).0
 
   are : AreShown path all told shown
-  are = (shown_printed path all told outcome prints ends).1
+  are = (shown_printed _ _ _ _ prints ends).1
 
   list_is_file : (reply : Reply) → told (list_file path) ≡ Some reply → IsFile reply
   list_is_file reply answered =
-      let (versions, is) = shown_listed path all told shown are in
-      (is.list, same_answer (told (list_file path)) reply (bytes is.list) answered is.answered)
+      let (versions, is) = shown_listed _ _ _ _ are in
+      (is.list, same_answer _ _ _ answered is.answered)
 
   pub needed_is_file : (name : Name) (reply : Reply) → VersionsNeed path all told name → told name ≡ Some reply → IsFile reply
-  needed_is_file name reply (inl (fetchable, same)) answered = list_is_file reply (subst (λ (n : Name). told n ≡ Some reply) same answered)
+  needed_is_file name reply (inl (fetchable, same)) answered = list_is_file _ (rw same at answered)
   needed_is_file name reply (inr (versions, latest, same, is)) answered = by shown are
     where
       by : (these : List (List ℕ)) → AreShown path all told these → IsFile reply
       by these (all_listed listed every) =
-          absurd (none_needed path all told these versions latest (one_listed path all told told (alike_itself path all told) is.listed listed) every is)
+          absurd (none_needed path _ told _ _ latest (one_listed _ all _ _ (alike_itself path all told) is.listed listed) every is)
       by these (not_retracted others last other file intervals says retracted hidden) =
-          let latest_same = (one_latest path all told told (alike_itself path all told) versions others latest last is says.chosen).1 in
-          let again : told (mod_file path last) ≡ Some reply = subst (λ (n : Name). told n ≡ Some reply) (same ∙ ap (mod_file path) latest_same) answered in
+          let latest_same = (one_latest _ _ _ _ (alike_itself path all told) _ _ _ _ is says.chosen).1 in
+          let again : told (mod_file path last) ≡ Some reply = rw (same ∙ ap (mod_file path) latest_same) at answered in
           let (content, content_is) = read_is_file None (mod_file path last) other file says.says in
           (content, same_answer (told (mod_file path last)) reply other again says.answered ∙ content_is)
 
@@ -138,8 +138,8 @@ module _ (path : List ℕ) (all : Bool) (told : AnswersByName) (outcome : Outcom
       → VersionsNeed path all other name → VersionsNeed path all told name
   needed_again other name alike (inl list) = inl list
   needed_again other name alike (inr need) =
-      let (others, listed) = shown_listed path all told shown are in
-      inr (latest_again path all other told name (λ list answered.
+      let (others, listed) = shown_listed _ _ _ _ are in
+      inr (latest_again _ _ _ told _ (λ list answered.
       listed.answered ∙ ap Some (sym (alike (bytes list) (bytes listed.list) answered listed.answered))) need)
 
 -- ---- queries
@@ -149,10 +149,10 @@ pub no_fault_read : (main : Main) (table : Option Sums) (asked : Pairs) → IsSe
     → AreFaults (run_of main table asked) [] → (name : Name) (reply : Reply) (class : Class) → answer_in asked name ≡ Some reply
     → IsFileReading table name reply (Err class) → ⊥
 no_fault_read main table asked settled none name reply class at is =
-    let (x, opens, file, askable) = (settled.needed name).0 (answered_name asked name reply at) in
+    let (x, opens, file, askable) = (settled.needed name).0 (answered_name _ _ _ at) in
     let one : Fault = record { vertex = x; class = class } in
-    let says : FileSays (run_of main table asked) name (Err class) = graph.answered reply askable at is in
-    no_member one ((none.each one).1 (opens, graph.faulty (rw file says)))
+    let says = graph.answered reply askable at is in
+    no_member _ ((none.each one).1 (opens, graph.faulty (rw file says)))
 
 -- what was asked for was read
 asked_is_file : (file : List ℕ) (sums : Option (List ℕ)) (asked : Pairs) (main : Main) (table : Option Sums)
@@ -169,9 +169,9 @@ names_into : (file : List ℕ) (sums : Option (List ℕ)) (asked told : Pairs) (
     → Contains (names_in asked) name → Contains (names_in told) name
 names_into file sums asked told main again t u alike found also name there =
     let agrees =
-    stores_agree (run_over file sums asked) (run_over file sums told) main again t u
+    stores_agree (run_over file sums asked) _ _ _ t u
     (record { file = refl; sums = refl; answers = alike; failed = refl }) found.read also.read also.settled in
-    (also.settled.needed name).1 (needed (run_of main t asked) (run_of again u told) agrees name ((found.settled.needed name).0 there))
+    (also.settled.needed name).1 (needed _ (run_of again u told) agrees _ ((found.settled.needed name).0 there))
 
 -- ---- any command
 
@@ -194,41 +194,41 @@ module _ (main : List ℕ) (sums : Option (List ℕ)) where
       → Ends command main sums asked outcome → HasPrinted outcome
       → (name : Name) (reply : Reply) → answer_in asked name ≡ Some reply → IsFile reply
   query_is_file command asked outcome query run prints name reply e =
-      let (says, table, found) = valid_files command main sums asked outcome query run prints in
-      asked_is_file main sums asked says table found name reply e
+      let (says, table, found) = valid_files _ _ _ _ _ query run prints in
+      asked_is_file _ _ _ _ _ found _ _ e
 
   -- a run that prints was answered with a file wherever it asked
   pub each_is_file : (command : Command) (asked : Pairs) (outcome : Outcome) → HasAskedAndPrinted command main sums asked outcome
       → (name : Name) (reply : Reply) → answer_in asked name ≡ Some reply → IsFile reply
-  each_is_file Fmt asked outcome run name reply e = absurd (none_asked run.in_turn name (answered_name asked name reply e))
-  each_is_file (Edit operations) asked outcome run name reply e = absurd (none_asked run.in_turn name (answered_name asked name reply e))
+  each_is_file Fmt asked outcome run name reply e = absurd (none_asked run.in_turn _ (answered_name _ _ _ e))
+  each_is_file (Edit operations) asked outcome run name reply e = absurd (none_asked run.in_turn _ (answered_name _ _ _ e))
   each_is_file (Versions path all) asked outcome run name reply e =
-      needed_is_file path all (answer_in asked) outcome run.prints run.ends name reply
-      (needed_in_turn (VersionsNeed path all) (versions_grow path all) run.in_turn name (answered_name asked name reply e)) e
-  each_is_file command asked outcome run name reply e = query_is_file command asked outcome refl run.ends run.prints name reply e
+      needed_is_file _ _ _ outcome run.prints run.ends _ _
+      (needed_in_turn _ (versions_grow path all) run.in_turn _ (answered_name _ _ _ e)) e
+  each_is_file command asked outcome run name reply e = query_is_file command asked outcome refl run.ends run.prints name _ e
 
   -- a file that one run asked for is one that the other asked for
   names_in_other : (command : Command) (asked told : Pairs) (a b : Outcome) → AnswerAlike asked told
       → HasAskedAndPrinted command main sums asked a → HasAskedAndPrinted command main sums told b
       → (name : Name) → Contains (names_in asked) name → Contains (names_in told) name
-  names_in_other Fmt asked told a b alike run again name there = absurd (none_asked run.in_turn name there)
-  names_in_other (Edit operations) asked told a b alike run again name there = absurd (none_asked run.in_turn name there)
+  names_in_other Fmt asked told a b alike run again name there = absurd (none_asked run.in_turn _ there)
+  names_in_other (Edit operations) asked told a b alike run again name there = absurd (none_asked run.in_turn _ there)
   names_in_other (Versions path all) asked told a b alike run again name there =
-      let need = needed_in_turn (VersionsNeed path all) (versions_grow path all) run.in_turn name there in
-      let too = needed_again path all (answer_in told) b again.prints again.ends (answer_in asked) name (alike (list_file path)) need in
+      let need = needed_in_turn _ (versions_grow path all) run.in_turn _ there in
+      let too = needed_again _ _ _ b again.prints again.ends _ _ (alike (list_file path)) need in
       let (reply, answered) = done_answers (Versions path all) (run_over main sums told) b again.ends again.prints name too in
-      answered_name told name reply answered
+      answered_name _ _ _ answered
   names_in_other command asked told a b alike run again name there =
-      let (says, t, found) = valid_files command main sums asked a refl run.ends run.prints in
-      let (tells, u, too) = valid_files command main sums told b refl again.ends again.prints in
-      names_into main sums asked told says tells t u alike found too name there
+      let (says, t, found) = valid_files command main sums _ a refl run.ends run.prints in
+      let (tells, u, too) = valid_files command _ _ _ b refl again.ends again.prints in
+      names_into _ _ _ _ _ _ t u alike found too _ there
 
   pub same_names : (command : Command) (asked told : Pairs) (a b : Outcome) → AnswerAlike asked told
       → HasAskedAndPrinted command main sums asked a → HasAskedAndPrinted command main sums told b
       → (name : Name) → Contains (names_in asked) name ↔ Contains (names_in told) name
   same_names command asked told a b alike run again name = (
-    names_in_other command asked told a b alike run again name,
-    names_in_other command told asked b a (alike_back asked told alike) again run name,
+    names_in_other _ _ _ a b alike run again name,
+    names_in_other _ _ _ b a (alike_back _ _ alike) again run name,
   )
 
 -- ---- one more folder
@@ -238,11 +238,10 @@ more_folders_change_nothing command main sums folders others marks more asked to
     let first : HasAskedAndPrinted command main sums asked one = record { ends = run.ends.0; in_turn = run.in_turn; prints = prints } in
     let alike : AnswerAlike told asked =
     λ name b a f e.
-    let (content, is) = each_is_file main sums command asked one first name a e in
+    let (content, is) = each_is_file _ _ _ _ _ first _ a e in
     let may : FolderMayAnswer folders marks name (Some (bytes content)) =
-    subst (λ (reply : Reply). FolderMayAnswer folders marks name (Some reply)) is
-    (run.answers name a (answered_in asked name a e)) in
-    found_again folders others marks more grows name content b may (again.answers name b (answered_in told name b f)) ∙ sym is in
-    let same : other ≡ one = same_outcome command main sums told asked other one alike again.ends.0 run.ends.0 in
+    rw is at (run.answers name a (answered_in _ _ a e)) in
+    found_again _ _ _ _ grows _ _ b may (again.answers name b (answered_in _ _ b f)) ∙ sym is in
+    let same = same_outcome _ _ _ _ _ _ _ alike again.ends.0 run.ends.0 in
     let also : HasPrinted other = ap (λ (o : Outcome). o.status) same ∙ prints in
-    (same, same_names main sums command told asked other one alike (record { ends = again.ends.0; in_turn = again.in_turn; prints = also }) first)
+    (same, same_names _ _ _ _ _ other _ alike (record { ends = again.ends.0; in_turn = again.in_turn; prints = also }) first)

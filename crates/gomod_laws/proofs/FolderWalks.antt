@@ -1,5 +1,5 @@
 -- A file that is found in folders in memory is found with one more folder after the last, too.
-use Rattle.std.proofs.Common.{◌≡◌, ◌≢◌, ◌∙◌, ◌++◌, ◌∷◌, ℕ, zero, suc, List, [], Option, Some, None, ap, append_assoc, subst, sym}
+use Rattle.std.proofs.Common.{◌≡◌, ◌≢◌, ◌∙◌, ◌++◌, ◌∷◌, ℕ, zero, suc, List, [], Option, Some, None, ap, append_assoc, sym}
 use Rattle.std.specs.Prelude.{map, slice_get}
 use Rattle.std.proofs.lemmas.List.{map-append}
 use Rattle.gm_store.specs.declared.fallback.step.Next.TheVariants.{Go, Take}
@@ -42,15 +42,15 @@ stops_again : (looks : List Seen) (marks : List Mark) (content : List ℕ) (fail
     → StopsAt looks marks (Some (bytes content)) failures
     → StopsAt (looks ++ look ∷ []) (marks ++ mark ∷ []) (Some (bytes content)) failures
 stops_again looks marks content failures look mark stop =
-    let is = only_found content stop.last _ stop.answers in
+    let is = only_found _ _ _ stop.answers in
     record {
       passed = stop.passed;
       last = stop.last;
       rest = stop.rest ++ look ∷ [];
       in_order = ap (λ (seen : List Seen). seen ++ look ∷ []) stop.in_order ∙ append_assoc stop.passed (stop.last ∷ stop.rest) (look ∷ []);
-      goes = λ k seen e. goes_again marks mark k seen (stop.goes k seen e);
-      stops = found_takes content stop.last _ is;
-      answers = found_answers content stop.last _ is;
+      goes = λ k seen e. goes_again _ mark k _ (stop.goes k seen e);
+      stops = found_takes _ _ _ is;
+      answers = found_answers _ _ _ is;
       counted = stop.counted;
     }
 
@@ -69,18 +69,14 @@ module _ (folders others : FoldersInMemory) (marks more : List Mark) (one : HasO
       let look : MemoryFolder → Seen = λ shelf. result_at shelf name in
       let longer : map look others.proxies.items ≡ map look folders.proxies.items ++ look one.folder ∷ [] =
       ap (map look) one.proxies ∙ map-append look folders.proxies.items (one.folder ∷ []) in
-      one_reply (map look folders.proxies.items ++ look one.folder ∷ []) (marks ++ one.mark ∷ []) (bytes content) reply failures count
-      (stops_again (map look folders.proxies.items) marks content failures (look one.folder) one.mark stop)
-      (subst (λ (looks : List Seen). StopsAt looks (marks ++ one.mark ∷ []) (Some reply) count) longer
-      (subst (λ (ms : List Mark). StopsAt (map look others.proxies.items) ms (Some reply) count) one.marks_are again))
+      one_reply _ _ _ _ _ _ (stops_again _ _ _ _ (look one.folder) one.mark stop) (rw longer at (rw one.marks_are at again))
 
   beside_main : (name : Name) (content : List ℕ) (reply : Reply) (failures count : ℕ)
       → StopsAt (result_at folders.beside name ∷ []) [] (Some (bytes content)) failures
       → StopsAt (result_at others.beside name ∷ []) [] (Some reply) count
       → reply ≡ bytes content
   beside_main name content reply failures count stop again =
-      one_reply (result_at folders.beside name ∷ []) [] (bytes content) reply failures count stop
-      (subst (λ (shelf : MemoryFolder). StopsAt (result_at shelf name ∷ []) [] (Some reply) count) one.beside again)
+      one_reply (result_at folders.beside name ∷ []) [] (bytes content) reply failures count stop (rw one.beside at again)
 
   -- the one answer to the name of a file that was found is that file
   pub found_again : (name : Name) (content : List ℕ) (reply : Reply)
@@ -88,13 +84,13 @@ module _ (folders others : FoldersInMemory) (marks more : List Mark) (one : HasO
       → reply ≡ bytes content
   found_again (mod_file path version) content reply (failures, may) (count, could) =
       let name = mod_file path version in
-      in_proxies name content reply failures count
+      in_proxies name _ _ _ _
       (held_stop folders name marks (Some (bytes content)) failures may) (held_stop others name more (Some reply) count could)
   found_again (list_file path) content reply (failures, may) (count, could) =
       let name = list_file path in
-      in_proxies name content reply failures count
+      in_proxies name _ _ _ _
       (held_stop folders name marks (Some (bytes content)) failures may) (held_stop others name more (Some reply) count could)
   found_again (folder_file text) content reply (failures, may) (count, could) =
       let name = folder_file text in
-      beside_main name content reply failures count
+      beside_main name _ _ _ _
       (held_stop folders name [] (Some (bytes content)) failures may) (held_stop others name [] (Some reply) count could)

@@ -65,9 +65,9 @@ module _ (lines again : List (Line Word)) (same : filled_lines again ≡ filled_
 
   pub no_fault_again : fault_of Strict lines ≡ None → fault_of Strict again ≡ None
   no_fault_again none =
-      let are = faultless-apart lines none in
+      let are = faultless-apart _ none in
       apart-faultless again (record {
-        alone = filled_alone None again (subst (AreAlone None) (sym same) (alone_filled None lines are.alone));
+        alone = filled_alone _ _ (subst (AreAlone None) (sym same) (alone_filled _ _ are.alone));
         apart = subst AreApart (sym same_said) are.apart;
         declared = ap (list_any is_module) same_said ∙ are.declared;
       })

@@ -1,18 +1,15 @@
 -- The proofs of the laws of formatting.
-use Rattle.std.proofs.Common.{◌≡◌, ◌≤◌, ℕ, List, [], length, None, Ok, refl, sym, ap, subst, ◌∙◌, IsUtf8, arith}
+use Rattle.std.proofs.Common.{◌≡◌, ◌≤◌, ℕ, List, [], length, None, Ok, refl, sym, ap, subst, ◌∙◌, IsUtf8}
 use Rattle.gm_syntax.specs.Document.{Line}
 use Rattle.gm_syntax.specs.Layout.{layout}
 use Rattle.gm_syntax.specs.LineViews.{plain_lines}
 use Rattle.gm_syntax.specs.Parsed.{IsParsedAs}
 use Rattle.gm_syntax.specs.Tokens.{Placed}
-use Rattle.gm_syntax.specs.Words.{Word}
 use Rattle.gm_file.specs.Directives.{Strict, directives}
-use Rattle.gm_file.specs.Faults.{fault_of}
 use Rattle.gm_file.specs.Fields.{first}
 use Rattle.gm_file.specs.Main.{Main, IsMainFile}
 use Rattle.gomod_run.specs.Queries.{longest}
-use Rattle.gomod_run.specs.Outcome.{Outcome, text_outcome, refusal_outcome}
-use Rattle.gomod_run.specs.Reports.{main_line}
+use Rattle.gomod_run.specs.Outcome.{Outcome, text_outcome}
 use Rattle.gomod_run.proofs.OneRead.{same_lines}
 use Rattle.gomod_words.specs.declared.usage.Command.TheVariants.{Fmt}
 use Rattle.gomod_run.specs.Fmt.{FmtEnds, bad_syntax, laid_out}
@@ -33,12 +30,12 @@ pub layout_main : (file : List ℕ) (lines : List (Line Placed)) (main : Main) �
     → IsUtf8 (layout (plain_lines lines)) → length (layout (plain_lines lines)) ≤ longest → IsMainFile file main
     → IsMainFile (layout (plain_lines lines)) main
 layout_main file lines main parsed utf8 short (others, (read, sound), says) =
-    let layout_is = parsed_layout file lines parsed utf8 short in
-    let same : plain_lines others ≡ plain_lines lines = same_lines file others lines read parsed in
-    let none = subst (λ (ls : List (Line Word)). fault_of Strict ls ≡ None) same sound in
+    let layout_is = parsed_layout _ _ parsed utf8 short in
+    let same = same_lines _ _ _ read parsed in
+    let none = rw same at sound in
     let said : directives Strict (plain_lines layout_is.doc) ≡ directives Strict (plain_lines others) =
     same_said (plain_lines lines) (plain_lines layout_is.doc) layout_is.same_filled ∙ ap (directives Strict) (sym same) in
-    (layout_is.doc, (layout_is.parsed, no_fault_again (plain_lines lines) (plain_lines layout_is.doc) layout_is.same_filled none), ap main_said said ∙ says)
+    (layout_is.doc, (layout_is.parsed, no_fault_again _ _ layout_is.same_filled none), ap main_said said ∙ says)
 
 -- ---- what `fmt` prints
 
@@ -53,25 +50,24 @@ laid file text (laid_out lines parsed says) = record { lines = lines; parsed = p
 laid file text (bad_syntax fault place parsed named says) = absurd (not_refused _ _ says refl)
 
 pub fmt_printed : (file text : List ℕ) → IsFormatted file text → IsLayoutOf file text
-fmt_printed file text has = laid file text has.0
+fmt_printed file text has = laid _ _ has.0
 
 pub formatting_changes_no_build : FormattingChangesNoBuild
 formatting_changes_no_build command file text main sums asked answered before after query is formatted short alike one two =
-    let found = fmt_printed file text formatted in
-    let low : length (layout (plain_lines found.lines)) ≤ longest = subst (λ (t : List ℕ). length t ≤ longest) found.text_is short in
-    let also : IsMainFile text main = subst (λ (t : List ℕ). IsMainFile t main) (sym found.text_is)
-    (layout_main file found.lines main found.parsed (subst IsUtf8 found.text_is formatted.1) low is) in
-    same_outcome command file text sums asked answered before after query (queries_move file text sums main main is also (says_itself main)) alike one.0 two.0
+    let found = fmt_printed _ _ formatted in
+    let low : length (layout (plain_lines found.lines)) ≤ longest = rw found.text_is at short in
+    let also : IsMainFile text main = rw found.text_is (layout_main _ _ _ found.parsed (subst IsUtf8 found.text_is formatted.1) low is) in
+    same_outcome _ _ _ _ _ _ _ _ query (queries_move file text sums main main is also (says_itself main)) alike one.0 two.0
 
 -- the only outcome of `fmt` is the layout of the lines
 pub fmt_is : (file : List ℕ) (lines : List (Line Placed)) (outcome : Outcome) → IsParsedAs file (Ok lines)
     → Ends Fmt file None [] outcome → text_outcome (layout (plain_lines lines)) ≡ outcome
-fmt_is file lines outcome parsed has = fmt_once file (text_outcome (layout (plain_lines lines))) outcome (laid_out lines parsed refl) has
+fmt_is file lines outcome parsed has = fmt_once _ _ _ (laid_out _ parsed refl) has
 
 pub layouts_are_formatted : LayoutsAreFormatted
 layouts_are_formatted file text formatted first short again =
-    let found = fmt_printed file text first in
-    let low : length (layout (plain_lines found.lines)) ≤ longest = subst (λ (t : List ℕ). length t ≤ longest) found.text_is short in
-    let read = parsed_layout file found.lines found.parsed (subst IsUtf8 found.text_is first.1) low in
+    let found = fmt_printed _ _ first in
+    let low : length (layout (plain_lines found.lines)) ≤ longest = rw found.text_is at short in
+    let read = parsed_layout _ _ found.parsed (subst IsUtf8 found.text_is first.1) low in
     let parsed : IsParsedAs text (Ok read.doc) = subst (λ (t : List ℕ). IsParsedAs t (Ok read.doc)) (sym found.text_is) read.parsed in
-    sym (fmt_is text read.doc formatted parsed again.0) ∙ ap text_outcome (read.same_layout ∙ sym found.text_is)
+    sym (fmt_is _ _ _ parsed again.0) ∙ ap text_outcome (read.same_layout ∙ sym found.text_is)

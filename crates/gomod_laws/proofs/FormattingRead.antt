@@ -1,5 +1,5 @@
 -- The layout of a document that was read is a document that reads as the same lines, but for blank ones.
-use Rattle.std.proofs.Common.{◌≡◌, ◌≤◌, ℕ, List, [], ◌∷◌, length, map, Ok, IsUtf8, refl, sym, ap, subst, ◌∙◌}
+use Rattle.std.proofs.Common.{◌≡◌, ◌≤◌, ℕ, List, [], ◌∷◌, length, map, Ok, IsUtf8, refl, ap, ◌∙◌}
 use Rattle.gm_syntax.specs.Document.{Line, Blank, Comment, Open, Close, Entry, AreLines, ReadsLines, Whole, map_line, start}
 use Rattle.gm_syntax.specs.Layout.{filled_lines, initial_state, layout}
 use Rattle.gm_syntax.proofs.LayoutLines.{layout_lines}
@@ -46,20 +46,20 @@ pub record IsLayoutRead (lines : List (Line Word)) : Type 0 where
 
 pub layout_read : (lines : List (Line Word)) → AreLines start lines → IsUtf8 (layout lines) → length (layout lines) ≤ 16777216 → IsLayoutRead lines
 layout_read lines document utf8 short =
-    let laid : List (Line Word) = layout_lines initial_state lines in
-    let stable = is_stable lines document in
-    let doc : List (Line Placed) = placeless laid in
-    let back : plain_lines doc ≡ laid = plain_placeless laid in
+    let laid = layout_lines initial_state lines in
+    let stable = is_stable _ document in
+    let doc = placeless laid in
+    let back = plain_placeless laid in
     let reads : ReadsLines start (lines_of (layout lines)) (plain_lines doc) Whole =
-    subst (λ (ls : List (Line Word)). ReadsLines start (lines_of (layout lines)) ls Whole) (sym back)
+    rw back
     stable.reads in
     record {
       doc = doc;
-      parsed = reading_parsed (layout lines) (Ok doc) ((short, utf8), reading_of (layout lines) (plain_lines doc) Whole reads);
+      parsed = reading_parsed (layout lines) (Ok doc) ((short, utf8), reading_of _ _ _ reads);
       same_filled = ap filled_lines back ∙ stable.same_lines;
       same_layout = ap layout back ∙ stable.same_bytes;
     }
 
 pub parsed_layout : (file : List ℕ) (doc : List (Line Placed)) → IsParsedAs file (Ok doc)
     → IsUtf8 (layout (plain_lines doc)) → length (layout (plain_lines doc)) ≤ 16777216 → IsLayoutRead (plain_lines doc)
-parsed_layout file doc is utf8 short = layout_read (plain_lines doc) (read_document file (plain_lines doc) is.1.reads) utf8 short
+parsed_layout file doc is utf8 short = layout_read _ (read_document _ _ is.1.reads) utf8 short

@@ -1,10 +1,9 @@
 -- The path a.b and the versions v1.0.0 and v1.1.0, of which the counterexamples are, and v1.9.0 and v1.10.0 of the
 -- examples.
-use Rattle.std.proofs.Common.{◌≡◌, ◌∙◌, ◌∷◌, ◌++◌, ◌+◌, ◌<◌, ◌==◌, ℕ, true, false, List, [], ap, ap₂, arith, codes, drop, inl, inr, length, length-append, lit<, refl, subst, sym}
+use Rattle.std.proofs.Common.{◌≡◌, ◌∙◌, ◌∷◌, ◌++◌, ◌<◌, ◌==◌, ℕ, true, false, List, [], ap, ap₂, arith, codes, drop, inl, length, length-append, lit<, refl, sym}
 use Rattle.std.specs.Cmp.Lexicographic.{slice_cmp}
 use Rattle.std.specs.Fmt.{decimal}
 use Rattle.std.specs.Ordering.{is_gt, nat_cmp, ordering_then}
-use Rattle.std.specs.declared.cmp.Ordering.{Ordering}
 use Rattle.std.specs.declared.cmp.Ordering.TheVariants.{Less, Equal, Greater}
 use Rattle.std.proofs.lemmas.Fmt.{decimal_digit, decimal_step}
 use Rattle.gm_name.specs.Fit.{Fits}
@@ -43,22 +42,22 @@ one_is : decimal 1 ≡ 49 ∷ []
 one_is = decimal_digit 1 (lit< tt)
 
 one_zero_text : one_zero ≡ version_text (1, 0, 0, [], [])
-one_zero_text = digits (decimal 1) (decimal 0) (decimal 0) 49 48 48 one_is zero_is zero_is
+one_zero_text = digits _ _ _ _ _ _ one_is zero_is zero_is
 
 pub one_zero_is : IsVersion one_zero
 one_zero_is = ((1, 0, 0, [], []), (lit< tt, lit< tt, lit< tt, refl, refl), inl refl, one_zero_text)
 
 pub one_zero_parts : parts_in one_zero ≡ (1, 0, 0, [], [])
-one_zero_parts = parts-spelled one_zero (1, 0, 0, [], []) (lit< tt, lit< tt, lit< tt, refl, refl) one_zero_text
+one_zero_parts = parts-spelled _ _ (lit< tt, lit< tt, lit< tt, refl, refl) one_zero_text
 
 one_one_text : one_one ≡ version_text (1, 1, 0, [], [])
-one_one_text = digits (decimal 1) (decimal 1) (decimal 0) 49 49 48 one_is one_is zero_is
+one_one_text = digits _ _ _ _ _ _ one_is one_is zero_is
 
 pub one_one_is : IsVersion one_one
 one_one_is = ((1, 1, 0, [], []), (lit< tt, lit< tt, lit< tt, refl, refl), inl refl, one_one_text)
 
 pub one_one_parts : parts_in one_one ≡ (1, 1, 0, [], [])
-one_one_parts = parts-spelled one_one (1, 1, 0, [], []) (lit< tt, lit< tt, lit< tt, refl, refl) one_one_text
+one_one_parts = parts-spelled _ _ (lit< tt, lit< tt, lit< tt, refl, refl) one_one_text
 
 abbrev pub one_nine : List ℕ
 one_nine = codes "v1.9.0"
@@ -73,10 +72,10 @@ ten_is : decimal 10 ≡ 49 ∷ 48 ∷ []
 ten_is = decimal_step 10 (omega arith) (omega arith) ∙ ap (λ (front : List ℕ). front ++ (48 ∷ [])) one_is
 
 one_nine_text : one_nine ≡ version_text (1, 9, 0, [], [])
-one_nine_text = digits (decimal 1) (decimal 9) (decimal 0) 49 57 48 one_is nine_is zero_is
+one_nine_text = digits _ _ _ _ _ _ one_is nine_is zero_is
 
 one_nine_parts : parts_in one_nine ≡ (1, 9, 0, [], [])
-one_nine_parts = parts-spelled one_nine (1, 9, 0, [], []) (lit< tt, lit< tt, lit< tt, refl, refl) one_nine_text
+one_nine_parts = parts-spelled _ _ (lit< tt, lit< tt, lit< tt, refl, refl) one_nine_text
 
 one_ten_text : one_ten ≡ version_text (1, 10, 0, [], [])
 one_ten_text = rw (one_is, ten_is, zero_is) refl
@@ -85,7 +84,7 @@ pub one_ten_is : IsVersion one_ten
 one_ten_is = ((1, 10, 0, [], []), (lit< tt, lit< tt, lit< tt, refl, refl), inl refl, one_ten_text)
 
 pub one_ten_parts : parts_in one_ten ≡ (1, 10, 0, [], [])
-one_ten_parts = parts-spelled one_ten (1, 10, 0, [], []) (lit< tt, lit< tt, lit< tt, refl, refl) one_ten_text
+one_ten_parts = parts-spelled _ _ (lit< tt, lit< tt, lit< tt, refl, refl) one_ten_text
 
 -- ---- their order
 
@@ -106,25 +105,25 @@ pub same_precedence : precedence (parts_in one_zero) (parts_in one_zero) ≡ Equ
 same_precedence = ap₂ precedence one_zero_parts one_zero_parts
 
 pub versions_differ : one_zero ≡ one_one → ⊥
-versions_differ e = let digit : 48 ≡ 49 = heads 48 49 _ _ (ap (drop 3) e) in omega (arith, digit)
+versions_differ e = let digit = heads _ _ _ _ (ap (drop 3) e) in omega (arith, digit)
 
 -- ---- what fits the path a.b
 
 not_gopkg : IsUnderGopkg (codes "a.b") → ⊥
-not_gopkg (rest, is) = let wrong : 97 ≡ 103 = heads 97 103 _ _ is in omega (arith, wrong)
+not_gopkg (rest, is) = let wrong = heads _ _ _ _ is in omega (arith, wrong)
 
 no_slash : (x z : List ℕ) → codes "a.b" ≡ (x ++ codes "/v") ++ z → ⊥
-no_slash [] z e = let wrong : 97 ≡ 47 = heads 97 47 _ _ e in omega (arith, wrong)
-no_slash (_ ∷ []) z e = let wrong : 46 ≡ 47 = heads 46 47 _ _ (ap (drop 1) e) in omega (arith, wrong)
-no_slash (_ ∷ _ ∷ []) z e = let wrong : 98 ≡ 47 = heads 98 47 _ _ (ap (drop 2) e) in omega (arith, wrong)
+no_slash [] z e = let wrong = heads _ _ _ _ e in omega (arith, wrong)
+no_slash (_ ∷ []) z e = let wrong = heads _ _ _ _ (ap (drop 1) e) in omega (arith, wrong)
+no_slash (_ ∷ _ ∷ []) z e = let wrong = heads _ _ _ _ (ap (drop 2) e) in omega (arith, wrong)
 no_slash (_ ∷ _ ∷ _ ∷ x) z e =
     let size : 0 ≡ length ((x ++ codes "/v") ++ z) = ap (λ (t : List ℕ). length t) (ap (drop 3) e) in
-    let inner : length (x ++ codes "/v") ≡ length x + 2 = length-append x (codes "/v") in
+    let inner = length-append x (codes "/v") in
     let outer = length-append (x ++ codes "/v") z in
     omega (arith, size, inner, outer)
 
 no_suffix : HasMajor (codes "a.b") NoSuffix
-no_suffix = (not_gopkg, λ (front, tail, is, some, all). no_slash front tail is)
+no_suffix = (not_gopkg, λ (front, tail, is, some, all). no_slash _ _ is)
 
 pub one_zero_fits : Fits (codes "a.b") one_zero
 one_zero_fits = (NoSuffix, no_suffix, inl (low, none))

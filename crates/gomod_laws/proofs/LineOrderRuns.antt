@@ -8,7 +8,6 @@ use Rattle.gomod_words.specs.declared.usage.Command.{Command}
 use Rattle.gomod_run.specs.Runs.{is_query}
 use Rattle.gomod_run.specs.Private.ByCommand.{PrintsOf}
 use Rattle.gomod_run.proofs.QueryParts.{query_ends}
-use Rattle.gomod_laws.specs.Shown.{run_over}
 use Rattle.gomod_laws.proofs.Ended.{Ends}
 use Rattle.gomod_laws.proofs.RunsOnce.{query_once}
 
@@ -23,6 +22,5 @@ pub same_outcome : (command : Command) (file other : List ℕ) (sums : Option (L
     → AnswerAlike asked answered
     → Ends command file sums asked a → Ends command other sums answered b → a ≡ b
 same_outcome command file other sums asked answered a b query moves alike one two =
-    query_once command (run_over other sums asked) (run_over other sums answered) a b (record { file = refl; sums = refl; answers = alike; failed = refl })
-    (moves command (answers_of asked []) a (query_ends (run_over file sums asked) a command query one))
-    (query_ends (run_over other sums answered) b command query two)
+    query_once _ _ _ a b (record { file = refl; sums = refl; answers = alike; failed = refl })
+    (moves command (answers_of asked []) a (query_ends _ a _ query one)) (query_ends _ b _ query two)

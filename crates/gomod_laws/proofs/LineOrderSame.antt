@@ -44,13 +44,12 @@ says_back same = record {
 -- main files that name the same modules as excluded exclude the same
 pub excluded_same : (m n : Main) → ((x : ModuleVersion) → Contains m.excludes x ↔ Contains n.excludes x)
     → (x : ModuleVersion) → is_excluded m x ≡ is_excluded n x
-excluded_same m n same x =
-    same-bool (is_excluded m x) (is_excluded n x) (excluded_more n m (λ y. (same y).0) x) (excluded_more m n (λ y. (same y).1) x)
+excluded_same m n same x = same-bool _ _ (excluded_more n m (λ y. (same y).0) x) (excluded_more m n (λ y. (same y).1) x)
 
 module _ (m n : Main) (same : SayTheSame m n) where
   pub without_same : (xs : List ModuleVersion) → without_excluded m xs ≡ without_excluded n xs
   without_same xs =
-      let tests : (λ (x : ModuleVersion). not (is_excluded m x)) ≡ (λ (x : ModuleVersion). not (is_excluded n x)) =
+      let tests =
       fun_ext (λ (x : ModuleVersion). ap not (excluded_same m n same.excluded x)) in
       ap (λ (test : ModuleVersion → Bool). filter test xs) tests
 

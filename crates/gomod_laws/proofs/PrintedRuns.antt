@@ -11,7 +11,6 @@ use Rattle.gomod_run.proofs.PrintedList.{printed_run}
 use Rattle.gomod_run.proofs.QueryParts.{query_ends}
 use Rattle.gomod_words.specs.declared.usage.Command.{Command}
 use Rattle.gomod_run.specs.Runs.{is_query}
-use Rattle.gomod_run.specs.Private.ByCommand.{PrintsOf}
 use Rattle.gomod_laws.specs.Runs.{HasPrinted}
 use Rattle.gomod_laws.specs.Shown.{run_over}
 use Rattle.gomod_laws.proofs.Ended.{Ends}
@@ -35,6 +34,5 @@ pub valid_files : (command : Command) (file : List ℕ) (sums : Option (List ℕ
     → is_query command ≡ true → Ends command file sums asked outcome → HasPrinted outcome
     → (main : Main) × (table : Option Sums) × AreFound (run_over file sums asked) main table []
 valid_files command file sums asked outcome query run done =
-    let (main, table, found, says) = printed_run (PrintsOf command) (run_over file sums asked) outcome
-    (query_ends (run_over file sums asked) outcome command query run) done in
+    let (main, table, found, says) = printed_run _ _ _ (query_ends _ _ _ query run) done in
     (main, table, found)

@@ -8,7 +8,6 @@ use Rattle.gm_graph_select.specs.declared.step.Step.{Step}
 use Rattle.gm_graph_select.specs.declared.step.Edge.{Edge}
 use Rattle.gm_graph_select.specs.BuildList.{HasEntryFor, IsEntryOf, IsRestAfter}
 use Rattle.gm_graph_select.specs.Chains.{IsChain}
-use Rattle.gm_graph_select.specs.Graph.{among}
 use Rattle.gm_graph_select.specs.Private.StepOrder.{edge_total}
 use Rattle.gm_graph_select.proofs.Ascending.{same_lists}
 use Rattle.gm_graph_select.proofs.Lawful.{one_chain, same_build_lists}
@@ -39,9 +38,8 @@ one_chain_text : (run : Run) → IsFew run → (s : Step) (steps others : List S
 one_chain_text run few s steps others chain other =
     same_texts (chain_text run.main.path steps) (chain_text run.main.path others)
     (λ differ. edges_listed run few (λ edges same.
-    let back = same_back (among edges) (IsEdge run) same in
-    differ (ap (chain_text run.main.path)
-    (one_chain edges s steps others (same_chain (IsEdge run) (among edges) back chain) (same_chain (IsEdge run) (among edges) back other)))))
+    let back = same_back _ _ same in
+    differ (ap (chain_text run.main.path) (one_chain edges s steps others (same_chain _ _ back chain) (same_chain _ _ back other)))))
 
 -- ---- a path has a row, or none
 
@@ -72,7 +70,7 @@ module _ (main : Main) (rows : List Entry) (limit : Option ℕ) where
 
   shown_once : (after : Option (List ℕ)) (a b : Outcome) → IsShown after a → IsShown after b → a ≡ b
   shown_once None a b says tells = says ∙ sym tells
-  shown_once (Some path) a b is be = listed_once main rows path listed listed once is be
+  shown_once (Some path) a b is be = listed_once main _ _ listed listed once is be
     where
       -- a path that has a row is listed
       listed : {outcome : Outcome} → ShowsRest path outcome → HasEntryFor main.path rows path
@@ -80,8 +78,7 @@ module _ (main : Main) (rows : List Entry) (limit : Option ℕ) where
 
       once : ShowsRest path a → ShowsRest path b → a ≡ b
       once (others, (entry, at), says) (more, (first, begun), tells) =
-          says ∙ ap (λ (es : List Entry). text_outcome (list_text main.path (up_to limit es)))
-          (one_at main.path rows path entry first others more at begun).1 ∙ sym tells
+          says ∙ ap (λ (es : List Entry). text_outcome (list_text main.path (up_to limit es))) (one_at _ _ _ _ _ _ _ at begun).1 ∙ sym tells
 
 module _ (path : List ℕ) (run : Run) (rows : List Entry) (few : IsFew run) where
   -- the steps of a chain to its row are printed
@@ -90,31 +87,31 @@ module _ (path : List ℕ) (run : Run) (rows : List Entry) (few : IsFew run) whe
       × (outcome ≡ text_outcome (chain_text run.main.path steps))
 
   chain_once : (a b : Outcome) → ShowsChain path run.main (IsEdge run) rows a → ShowsChain path run.main (IsEdge run) rows b → a ≡ b
-  chain_once a b is be = listed_once run.main rows path listed listed once is be
+  chain_once a b is be = listed_once run.main _ _ listed listed once is be
     where
       listed : {outcome : Outcome} → ShowsSteps outcome → HasEntryFor run.main.path rows path
-      listed (s, steps, entry, chain, says) = entry_listed run.main.path rows path s entry
+      listed (s, steps, entry, chain, says) = entry_listed _ _ _ s entry
 
       once : ShowsSteps a → ShowsSteps b → a ≡ b
       once (s, steps, entry, chain, says) (t, more, first, also, tells) =
-          let same : s ≡ t = one_entry run.main.path rows path s t entry first in
-          says ∙ ap text_outcome (one_chain_text run few t steps more (rw same at chain) also) ∙ sym tells
+          let same = one_entry _ _ _ s t entry first in
+          says ∙ ap text_outcome (one_chain_text _ few t _ _ (rw same at chain) also) ∙ sym tells
 
 -- ---- a query
 
 one_edges : (run : Run) (edges others : List Edge) → AreEdges run edges → AreEdges run others → edges ≡ others
 one_edges run edges others is be =
-    same_lists edge_total edges others is.ascending be.ascending (λ e. (
+    same_lists edge_total _ _ is.ascending be.ascending (λ e. (
       (λ there. (be.each e).1 ((is.each e).0 there)),
       (λ there. (is.each e).1 ((be.each e).0 there)),
     ))
 
 pub prints_once : (command : Command) (run : Run) (a b : Outcome) → IsFew run → PrintsOf command run a → PrintsOf command run b → a ≡ b
 prints_once Graph run a b few (edges, are, says) (others, be, tells) =
-    says ∙ ap (λ (es : List Edge). text_outcome (graph_text run.main.path es)) (one_edges run edges others are be) ∙ sym tells
+    says ∙ ap (λ (es : List Edge). text_outcome (graph_text run.main.path es)) (one_edges _ _ _ are be) ∙ sym tells
 prints_once (Rows after limit) run a b few (rows, are, is) (others, be, other) =
-    let same : rows ≡ others = same_build_lists are be in
-    shown_once run.main others limit after a b (shown run.main others limit after a (rw same at is)) (shown run.main others limit after b other)
+    let same = same_build_lists are be in
+    shown_once run.main others limit _ a b (shown _ _ _ _ a (rw same at is)) (shown _ _ _ _ b other)
 prints_once (Chain path) run a b few (rows, are, is) (others, be, other) =
-    let same : rows ≡ others = same_build_lists are be in chain_once path run others few a b (rw same at is) other
+    let same = same_build_lists are be in chain_once _ _ _ few a b (rw same at is) other
 prints_once command run a b few is be = absurd is

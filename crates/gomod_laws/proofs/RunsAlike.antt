@@ -1,5 +1,5 @@
 -- Runs whose main files say the same, and that read the same of the files which the one needs, have the same module graph.
-use Rattle.std.proofs.Common.{◌≡◌, ◌∙◌, ◌↔◌, ◌∷◌, ℕ, false, true, List, Option, Some, Result, Ok, Err, Contains, ap, map, refl, subst, sym, inl, inr}
+use Rattle.std.proofs.Common.{◌≡◌, ◌∙◌, ◌↔◌, ◌∷◌, ℕ, false, List, Option, Some, Result, ap, map, refl, subst, sym, inl, inr}
 use mathlib.Core.Path.{fun_ext}
 use Rattle.gm_name.specs.ModuleVersion.{ModuleVersion}
 use Rattle.gm_file.specs.Directives.{Right}
@@ -9,19 +9,18 @@ use Rattle.gm_store.specs.Asked.{Name, Reply, names_in}
 use Rattle.gm_store_sums.specs.Sums.{Sums}
 use Rattle.gm_graph_cache.specs.declared.cache.class.Class.{Class}
 use Rattle.gm_graph.specs.declared.fault.Fault.{Fault}
-use Rattle.gm_graph_cache.specs.Reading.{IsFileReading, file_of, is_askable, is_right_path}
+use Rattle.gm_graph_cache.specs.Reading.{IsFileReading, file_of}
 use Rattle.gm_graph.specs.Run.{AreEdges, AreFaults, AreRows, AreTooMany, IsDue, IsEdge, IsFault, IsNeeded, IsOpened, IsRead, IsSettled, IsTop}
-use Rattle.gm_graph_cache.specs.Sayings.{sound, FileSays, Run, Says, answered, faulty, run_of, unaskable, wrong_path}
+use Rattle.gm_graph_cache.specs.Sayings.{FileSays, Run, Says, answered, run_of, unaskable}
 use Rattle.gm_graph.proofs.RunLemmas.{RequiresToo, edge_too, many_too, opened_too}
 use Rattle.gm_graph_cache.proofs.Sayings.{says_if}
 use Rattle.gm_graph_select.specs.declared.step.Edge.{Edge}
 use Rattle.gm_graph_select.specs.declared.step.Step.{Step}
 use Rattle.gm_graph_select.specs.declared.step.Step.TheVariants.{Of}
-use Rattle.gm_graph_select.specs.BuildList.{HasEntryFor, IsBuildList, IsRestAfter, entry_of, main_entry}
+use Rattle.gm_graph_select.specs.BuildList.{IsBuildList, entry_of, main_entry}
 use Rattle.gm_graph.specs.Entries.{Entry}
 use Rattle.gm_graph_select.proofs.Same.{AreSame, same_build_list, same_chain}
-use Rattle.gomod_run.specs.GraphQuery.{graph_text}
-use Rattle.gomod_run.specs.ListQuery.{up_to, list_text, PrintsRows, no_path, path_listed, path_unlisted}
+use Rattle.gomod_run.specs.ListQuery.{list_text, PrintsRows, no_path, path_listed, path_unlisted}
 use Rattle.gomod_run.specs.Outcome.{Outcome, text_outcome}
 use Rattle.gomod_run.specs.Queries.{Answers, AreFound, FilesReadAs, given_of}
 use Rattle.gomod_run.specs.ChainQuery.{ShowsChain}
@@ -60,33 +59,31 @@ module _ (r s : Run) (mains : SayTheSame r.main s.main) (edges_same : AreSame (I
 
   same_text : (shown : List Entry) (outcome : Outcome) → outcome ≡ text_outcome (list_text r.main.path shown)
       → outcome ≡ text_outcome (list_text s.main.path shown)
-  same_text shown outcome says = subst (λ (path : List ℕ). outcome ≡ text_outcome (list_text path shown)) mains.path says
+  same_text shown outcome says = rw mains.path at says
 
   rows_printed : (rows : List Entry) (after : Option (List ℕ)) (limit : Option ℕ) (outcome : Outcome)
       → PrintsRows r.main rows after limit outcome → PrintsRows s.main rows after limit outcome
-  rows_printed rows after limit outcome (no_path none says) = no_path none (same_text (up_to limit rows) outcome says)
-  rows_printed rows after limit outcome (path_listed path others is at says) =
-      path_listed path others is (subst (λ (own : List ℕ). IsRestAfter own rows path others) mains.path at) (same_text (up_to limit others) outcome says)
-  rows_printed rows after limit outcome (path_unlisted path is (none, says)) =
-      path_unlisted path is (subst (λ (own : List ℕ). HasEntryFor own rows path → ⊥) mains.path none, says)
+  rows_printed rows after limit outcome (no_path none says) = no_path none (same_text _ _ says)
+  rows_printed rows after limit outcome (path_listed path others is at says) = path_listed _ _ is (rw mains.path at at) (same_text _ _ says)
+  rows_printed rows after limit outcome (path_unlisted path is (none, says)) = path_unlisted _ is (rw mains.path at none, says)
 
   chain_shown : (path : List ℕ) (rows : List Entry) (outcome : Outcome) → ShowsChain path r.main (IsEdge r) rows outcome
       → ShowsChain path s.main (IsEdge s) rows outcome
-  chain_shown path rows outcome shows = subst (λ (own : List ℕ). ShowsChain path (with_path own s.main) (IsEdge s) rows outcome) mains.path (by shows)
+  chain_shown path rows outcome shows = rw mains.path at (by shows)
     where
       by : ShowsChain path r.main (IsEdge r) rows outcome → ShowsChain path r.main (IsEdge s) rows outcome
-      by (inl (step, steps, entry, chain, says)) = inl (step, steps, entry, same_chain (IsEdge r) (IsEdge s) edges_same chain, says)
+      by (inl (step, steps, entry, chain, says)) = inl (step, steps, entry, same_chain _ _ edges_same chain, says)
       by (inr unlisted) = inr unlisted
 
   -- What a query prints of the one run, it prints of the other, which has the same edges.
   pub printed_by_edges : (command : Command) (outcome : Outcome) → PrintsOf command r outcome → PrintsOf command s outcome
   printed_by_edges Graph outcome (edges, are, says) = (
     edges,
-    edges_to edges are,
-    subst (λ (path : List ℕ). outcome ≡ text_outcome (graph_text path edges)) mains.path says,
+    edges_to _ are,
+    rw mains.path at says,
   )
-  printed_by_edges (Rows after limit) outcome (rows, are, says) = (rows, rows_to rows are, rows_printed rows after limit outcome says)
-  printed_by_edges (Chain path) outcome (rows, are, shows) = (rows, rows_to rows are, chain_shown path rows outcome shows)
+  printed_by_edges (Rows after limit) outcome (rows, are, says) = (rows, rows_to _ are, rows_printed _ _ _ _ says)
+  printed_by_edges (Chain path) outcome (rows, are, shows) = (rows, rows_to _ are, chain_shown _ _ _ shows)
   printed_by_edges command outcome says = absurd says
 
 -- ---- runs that are alike
@@ -111,19 +108,16 @@ module _ (r s : Run) (alike : ReadAlike r s) where
   -- what a module says that both open
   says_to : (x : ModuleVersion) → IsOpened r x → IsOpened s x → (said : Result Dependency Class) → Says r x said → Says s x said
   says_to x opens opened said says =
-      says_if (alike.mains.replaced x)
-      (λ it is. subst (λ (name : Name). FileSays s name it) (files_same r.main s.main alike.mains x) (file_to it is)) says
+      says_if (alike.mains.replaced x) (λ it is. rw (files_same r.main s.main alike.mains x) at (file_to _ is)) says
     where
       file_to : (it : Result Dependency Class) → FileSays r (file_of r.main x) it → FileSays s (file_of r.main x) it
       file_to it (unaskable isnt) = unaskable isnt
       file_to it (answered reply ask at is) =
-          answered reply ask (sym (alike.answers (file_of r.main x)) ∙ at)
-          ((alike.read (file_of r.main x) reply it (x, opens, refl, ask)
+          answered _ ask (sym (alike.answers (file_of r.main x)) ∙ at) ((alike.read (file_of r.main x) reply it (x, opens, refl, ask)
           (x, opened, sym (files_same r.main s.main alike.mains x), ask) at).0 is)
 
   requires_to : RequiresToo r s
-  requires_to x y file is be says there =
-      (says_to x is be (Ok file) says, subst (λ (ys : List ModuleVersion). Contains ys y) (without_same r.main s.main alike.mains file.requirements) there)
+  requires_to x y file is be says there = (says_to x is be _ says, rw (without_same r.main s.main alike.mains file.requirements) at there)
 
   unpruned_to : is_pruned_by r.main.go ≡ false → is_pruned_by s.main.go ≡ false
   unpruned_to e = sym alike.mains.pruned ∙ e
@@ -138,18 +132,18 @@ module _ (r s : Run) (alike : ReadAlike r s) where
   needed_to name (x, opens, is, ask) = (x, opened_to x opens, sym (files_same r.main s.main alike.mains x) ∙ is, ask)
 
   edge_to : (step : Step) (y : ModuleVersion) → IsEdge r step y → IsEdge s step y
-  edge_to step y is = edge_too r s unpruned_to tops_to requires_to (λ x top. (alike.mains.required x).0 top) step y is
+  edge_to step y is = edge_too r s unpruned_to tops_to requires_to (λ x top. (alike.mains.required x).0 top) _ y is
 
   fault_to : (one : Fault) → IsFault r one → IsFault s one
   fault_to one (opens, says) =
-      let opened = opened_to one.vertex opens in (opened, says_to one.vertex opens opened (Err one.class) says)
+      let opened = opened_to _ opens in (opened, says_to _ opens opened _ says)
 
 -- ---- what is opened, asked for and found
 
 module _ (r s : Run) (alike : ReadAlike r s) where
   pub due_to : IsRead s → (name : Name) → IsDue r name → IsDue s name
   due_to read name due = record {
-    calls = record { read = read; needed = needed_to r s alike name due.calls.needed };
+    calls = record { read = read; needed = needed_to r s alike _ due.calls.needed };
     unasked = sym (alike.answers name) ∙ due.unasked;
   }
 
@@ -161,8 +155,8 @@ module _ (r s : Run) (alike : ReadAlike r s) where
     read = read;
     once = settled.once;
     needed = λ name. (
-      (λ there. needed_to r s alike name ((settled.needed name).0 there)),
-      (λ need. (settled.needed name).1 (needed_to s r (alike_back alike) name need)),
+      (λ there. needed_to r s alike _ ((settled.needed name).0 there)),
+      (λ need. (settled.needed name).1 (needed_to s r (alike_back alike) _ need)),
     );
     few = λ xs are. settled.few xs (record { once = are.once; each = λ x there. opened_to s r (alike_back alike) x (are.each x there) });
   }
@@ -171,8 +165,8 @@ module _ (r s : Run) (alike : ReadAlike r s) where
   faults_to faults are = record {
     ascending = are.ascending;
     each = λ one. (
-      (λ there. fault_to r s alike one ((are.each one).0 there)),
-      (λ is. (are.each one).1 (fault_to s r (alike_back alike) one is)),
+      (λ there. fault_to r s alike _ ((are.each one).0 there)),
+      (λ is. (are.each one).1 (fault_to s r (alike_back alike) _ is)),
     );
   }
 
@@ -185,7 +179,7 @@ pub found_to : (file other : List ℕ) (sums others : Option (List ℕ)) (told :
     → (faults : List Fault) → AreFound (given_of file sums told) m t faults → AreFound (given_of other others told) n u faults
 found_to file other sums others told m n t u alike read files faults found = record {
   read = files;
-  settled = settled_to (run_of m t told.asked) (run_of n u told.asked) alike read (names_in told.asked) found.settled;
-  faults_are = faults_to (run_of m t told.asked) (run_of n u told.asked) alike faults found.faults_are;
+  settled = settled_to _ _ alike read (names_in told.asked) found.settled;
+  faults_are = faults_to _ (run_of n u told.asked) alike _ found.faults_are;
   none_failed = found.none_failed;
 }

@@ -1,7 +1,7 @@
 -- A run is determined: two outcomes that the statement allows of one input are one, also over two stores that answer
 -- alike.
 use Rattle.std.proofs.Common.{◌≡◌, ◌≢◌, ◌∙◌, ◌⊎◌, ◌∷◌, ℕ, List, [], Option, None, ap, refl, subst, sym, arith, inl, inr}
-use Rattle.gm_store.specs.Asked.{Name, answer_in}
+use Rattle.gm_store.specs.Asked.{Name}
 use Rattle.gm_store_sums.specs.Sums.{Sums}
 use Rattle.gm_file.specs.Main.{Main}
 use Rattle.gm_graph_select.proofs.Ascending.{same_lists}
@@ -15,7 +15,6 @@ use Rattle.gm_graph.specs.Run.{AreFaults, AreTooMany, IsEdge}
 use Rattle.gm_graph_cache.specs.Sayings.{Run, run_of}
 use Rattle.gm_graph.proofs.LawProofs.{faults_total}
 use Rattle.gm_graph.proofs.RunLemmas.{Agrees, fault, same_edges, too_many as many_stay}
-use Rattle.gomod_words.specs.Usage.{texts_in}
 use Rattle.gomod_words.specs.declared.usage.Command.{Command}
 use Rattle.gomod_words.specs.declared.usage.Command.TheVariants.{Fmt, Edit, Versions, List as Rows, Chain}
 use Rattle.gomod_run.specs.ChainQuery.{ShowsChain}
@@ -56,33 +55,32 @@ record BothPrint (prints others : Prints) (a b : Outcome) : Type 0 where
   tells : others other b
 
 one_faults : (r s : Run) (faults others : List Fault) → Agrees r s → Agrees s r → AreFaults r faults → AreFaults s others → faults ≡ others
-one_faults r s faults others into from is be = same_lists faults_total faults others is.ascending be.ascending (λ f. (
+one_faults r s faults others into from is be = same_lists faults_total _ _ is.ascending be.ascending (λ f. (
   (λ there. (be.each f).1 (fault r s into f ((is.each f).0 there))),
   (λ there. (is.each f).1 (fault s r from f ((be.each f).0 there))),
 ))
 
 one_refusal : (file : List ℕ) (sums : Option (List ℕ)) (a b : Outcome) → IsRefusedRead file sums a → IsRefusedRead file sums b → Refuse a b
 one_refusal file sums a b (inl (here, misread, says)) (inl (there, other, tells)) = (
-  says ∙ ap (λ (place : FaultPlace). refusal_outcome (main_line place)) (one_place file here there misread other) ∙ sym tells,
+  says ∙ ap (λ (place : FaultPlace). refusal_outcome (main_line place)) (one_place _ _ _ misread other) ∙ sym tells,
   not_refused _ a says,
 )
-one_refusal file sums a b (inl (here, misread, says)) (inr (main, report, is, other, tells)) = absurd (misread_or_main file here main misread is)
-one_refusal file sums a b (inr (main, report, is, misread, says)) (inl (there, other, tells)) = absurd (misread_or_main file there main other is)
+one_refusal file sums a b (inl (here, misread, says)) (inr (main, report, is, other, tells)) = absurd (misread_or_main _ _ _ misread is)
+one_refusal file sums a b (inr (main, report, is, misread, says)) (inl (there, other, tells)) = absurd (misread_or_main _ _ _ other is)
 one_refusal file sums a b (inr (main, report, is, misread, says)) (inr (again, line, be, other, tells)) =
-    (says ∙ ap refusal_outcome (one_misreport sums report line misread other) ∙ sym tells, not_refused _ a says)
+    (says ∙ ap refusal_outcome (one_misreport _ _ _ misread other) ∙ sym tells, not_refused _ a says)
 
 not_unread : {file : List ℕ} {sums : Option (List ℕ)} {outcome : Outcome} {main : Main} {table : Option Sums}
     → IsRefusedRead file sums outcome → FilesReadAs file sums main table → ⊥
-not_unread {file} {sums} {outcome} {main} {table} (inl (place, misread, says)) are = misread_or_main file place main misread are.main_file
-not_unread {file} {sums} {outcome} {main} {table} (inr (other, report, is, misread, says)) are = misread_or_sums sums report table misread are.sums
+not_unread {file} {sums} {outcome} {main} {table} (inl (place, misread, says)) are = misread_or_main _ _ _ misread are.main_file
+not_unread {file} {sums} {outcome} {main} {table} (inr (other, report, is, misread, says)) are = misread_or_sums _ _ _ misread are.sums
 
 -- too many modules are opened by the one run, so the other can't have found the faults of all
 not_many : {one other : Given} {main again : Main} {table next : Option Sums} {faults : List Fault} → AreAlike one other
     → FilesReadAs one.file one.sums main table
     → AreTooMany (run_of main table one.answers.asked) → AreFound other again next faults → ⊥
 not_many {one} {other} {main} {again} {table} {next} alike read many found =
-    let (xs, long, are) = many_stay (run_of main table one.answers.asked) (run_of again next other.answers.asked)
-    (stores_agree one other main again table next alike read found.read found.settled) many in
+    let (xs, long, are) = many_stay _ _ (stores_agree _ _ _ _ _ _ alike read found.read found.settled) many in
     omega (arith, long, found.settled.few xs are)
 
 abbrev Meet : Prints → Prints → Outcome → Outcome → Type 0
@@ -94,7 +92,7 @@ module _ {prints others : Prints} {one other : Given} {a b : Outcome} (alike : A
       → ReportsFaultsOr faults (prints (run_of main table one.answers.asked) a) a
       → ReportsFaultsOr more (others (run_of again next other.answers.asked) b) b → Meet prints others a b
   both_known {main} {again} {table} {next} faults more found finds says tells =
-      let same : faults ≡ more = one_faults r s faults more into from found.faults_are finds.faults_are in
+      let same = one_faults r s _ _ into from found.faults_are finds.faults_are in
       by more (rw same at found) finds (rw same at says) tells
     where
       r : Run
@@ -104,10 +102,10 @@ module _ {prints others : Prints} {one other : Given} {a b : Outcome} (alike : A
       s = run_of again next other.answers.asked
 
       into : Agrees r s
-      into = stores_agree one other main again table next alike found.read finds.read finds.settled
+      into = stores_agree _ _ _ _ _ _ alike found.read finds.read finds.settled
 
       from : Agrees s r
-      from = stores_agree other one again main next table (alike_reversed one other alike) finds.read found.read found.settled
+      from = stores_agree _ _ _ _ _ _ (alike_reversed _ _ alike) finds.read found.read found.settled
 
       by : (more : List Fault) → AreFound one main table more → AreFound other again next more
           → ReportsFaultsOr more (prints r a) a → ReportsFaultsOr more (others s b) b → Meet prints others a b
@@ -133,17 +131,17 @@ module _ {prints others : Prints} {one other : Given} {a b : Outcome} (alike : A
         let same : name ≡ late = cc (some, more, alike.failed) in
         inl (says ∙ ap (λ (n : Name). failure_outcome (device_line n)) same ∙ sym tells, not_failed _ a says)
     loading_ends (is_broken name due some says) (is_known faults finds tells) = absurd (cc (some, finds.none_failed, alike.failed))
-    loading_ends (is_known faults found says) (is_many sees over none tells) = absurd (not_many (alike_reversed one other alike) reads over found)
+    loading_ends (is_known faults found says) (is_many sees over none tells) = absurd (not_many (alike_reversed _ _ alike) reads over found)
     loading_ends (is_known faults found says) (is_broken name due some tells) = absurd (cc (found.none_failed, some, alike.failed))
-    loading_ends (is_known faults found says) (is_known more finds tells) = both_known faults more found finds says tells
+    loading_ends (is_known faults found says) (is_known more finds tells) = both_known _ _ found finds says tells
 
   meet : QueryEnds prints one a → QueryEnds others other b → Meet prints others a b
-  meet is be = by (parts prints one a is) (parts others other b be)
+  meet is be = by (parts _ _ a is) (parts _ _ b be)
     where
       by : Parts prints one a → Parts others other b → Meet prints others a b
-      by (unread is none) (unread be nothing) = inl (one_refusal other.file other.sums a b (rw (alike.file, alike.sums) at is) be)
+      by (unread is none) (unread be nothing) = inl (one_refusal _ _ a b (rw (alike.file, alike.sums) at is) be)
       by (unread is none) (are_read main table are over) = absurd (not_unread (rw (alike.file, alike.sums) at is) are)
-      by (are_read main table are over) (unread be nothing) = absurd (not_unread be (read_as_well one other main table alike are))
+      by (are_read main table are over) (unread be nothing) = absurd (not_unread be (read_as_well _ _ _ _ alike are))
       by (are_read main table are over) (are_read again next were beyond) = loading_ends are were over beyond
 
 -- ---- a query
@@ -158,18 +156,18 @@ pub query_once : (command : Command) (run next : Given) (a b : Outcome) → AreA
     → QueryEnds (PrintsOf command) run a → QueryEnds (PrintsOf command) next b → a ≡ b
 query_once command run next a b alike is be = elim (meet alike is be) [
   | inl refuse ↦ refuse.0
-  | inr both ↦ prints_once command both.other a b both.few (prints_same both.one both.other both.main_is both.edges command a both.shows) both.tells
+  | inr both ↦ prints_once _ _ a b both.few (prints_same _ _ both.main_is both.edges _ a both.shows) both.tells
 ]
 
 -- ---- a command
 
 pub one_for_stores : OneForStores
-one_for_stores Fmt run next a b alike is be = fmt_once next.file a b (rw alike.file at is) be
-one_for_stores (Edit operations) run next a b alike is be = edit_once (texts_in operations) next.file a b (rw alike.file at is) be
+one_for_stores Fmt run next a b alike is be = fmt_once _ a b (rw alike.file at is) be
+one_for_stores (Edit operations) run next a b alike is be = edit_once _ _ a b (rw alike.file at is) be
 one_for_stores (Versions path all) run next a b alike is be =
-    versions_once path all (answer_in run.answers.asked) (answer_in next.answers.asked) (λ name x y need. alike.answers name x y)
-    next.answers.failed a b (rw alike.failed at is) be
-one_for_stores command run next a b alike is be = query_once command run next a b alike is be
+    versions_once _ _ _ _ (λ name x y need. alike.answers name x y)
+    _ a b (rw alike.failed at is) be
+one_for_stores command run next a b alike is be = query_once command _ _ a b alike is be
 
 pub one_outcome : OneOutcome
 one_outcome command run a b is be = one_for_stores command run run a b (itself run) is be
@@ -180,10 +178,9 @@ one_outcome command run a b is be = one_for_stores command run run a b (itself r
 also_printed : (command : Command) (run : Given) (main : Main) (table : Option Sums) (outcome : Outcome) → AreFound run main table []
     → QueryEnds (PrintsOf command) run outcome → PrintsOf command (run_of main table run.answers.asked) outcome
 also_printed command run main table outcome found is =
-    elim (meet {prints = λ r it. r ≡ run_of main table run.answers.asked} {a = text_outcome []} (itself run) (no_fault main table found refl) is) [
+    elim (meet {prints = λ r it. r ≡ run_of main table run.answers.asked} {a = text_outcome []} (itself run) (no_fault _ _ found refl) is) [
       | inl refuse ↦ absurd (refuse.1 refl)
-      | inr both ↦ subst (λ (r : Run). PrintsOf command r outcome) both.shows
-          (prints_same both.other both.one (sym both.main_is) (same_back (IsEdge both.one) (IsEdge both.other) both.edges) command outcome both.tells)
+      | inr both ↦ rw both.shows at (prints_same _ _ (sym both.main_is) (same_back _ _ both.edges) _ _ both.tells)
     ]
 
 -- if `graph` reports an error, a query reports the same
@@ -199,9 +196,9 @@ one_graph after limit path run graph list chain is_graph is_list is_chain ends =
     let (main, table, found, (edges, exact, says)) = printed_run PrintsGraph run graph is_graph ends in
     let (rows, listed, shows) = also_printed (Rows after limit) run main table list found is_list in
     let (others, selected, tells) = also_printed (Chain path) run main table chain found is_chain in
-    let here : Edges = IsEdge (run_of main table run.answers.asked) in
-    let among_here : AreSame here (among edges) = same_back (among edges) here (λ s y. exact.each (edge s y)) in
-    let rows_same : others ≡ rows = same_build_lists selected listed in (
+    let here = IsEdge (run_of main table run.answers.asked) in
+    let among_here = same_back (among edges) here (λ s y. exact.each (edge s y)) in
+    let rows_same = same_build_lists selected listed in (
       main,
       table,
       edges,
@@ -209,25 +206,25 @@ one_graph after limit path run graph list chain is_graph is_list is_chain ends =
       found,
       exact,
       record {
-        build_list = same_build_list here (among edges) among_here listed;
+        build_list = same_build_list _ _ among_here listed;
         graph_is = says;
         list_is = shows;
-        chain_is = chain_among main edges rows among_here (rw rows_same at tells);
+        chain_is = chain_among main _ _ among_here (rw rows_same at tells);
       },
     )
   where
     chain_among : (main : Main) (edges : List Edge) (rows : List Entry) {here : Edges} → AreSame here (among edges)
         → ShowsChain path main here rows chain → ShowsChain path main (among edges) rows chain
-    chain_among main edges rows {here} same (inl (s, steps, entry, is, says)) = inl (s, steps, entry, same_chain here (among edges) same is, says)
+    chain_among main edges rows {here} same (inl (s, steps, entry, is, says)) = inl (s, steps, entry, same_chain _ _ same is, says)
     chain_among main edges rows same (inr none) = inr none
 
 pub graph_refused : OneRefusal
 graph_refused after limit path run graph list chain is_graph is_list is_chain ends =
-    (refused_too (Rows after limit) run graph list is_graph ends is_list, refused_too (Chain path) run graph chain is_graph ends is_chain)
+    (refused_too (Rows after limit) _ _ _ is_graph ends is_list, refused_too (Chain path) _ _ _ is_graph ends is_chain)
 
 pub parts_of_one_list : PartsOfOneList
 parts_of_one_list after limit run whole part is_whole is_part ends =
     let (main, table, found, (rows, list, says)) = printed_run (PrintsList None None) run whole is_whole ends in
     let (others, listed, shows) = also_printed (Rows after limit) run main table part found is_part in
     let rows_same : others ≡ rows = same_build_lists listed list in
-    (main, table, rows, found, list, all_rows main rows None whole says, rw rows_same at shows)
+    (main, table, rows, found, list, all_rows _ _ _ _ says, rw rows_same at shows)

@@ -30,10 +30,10 @@ use Rattle.gm_file_edit.proofs.NoLineFeeds.{path-plain}
 -- ---- texts
 
 vertex_has_it : (x : ModuleVersion) → Lacks 64 (vertex_text x) → ⊥
-vertex_has_it x none = has_it 64 x.0 x.1 (subst (Lacks 64) (append_assoc x.0 (codes "@") x.1) none)
+vertex_has_it x none = has_it _ _ _ (subst (Lacks 64) (append_assoc x.0 (codes "@") x.1) none)
 
 step_lacks : (main : List ℕ) (step : Step) → IsPath main → IsProperStep step → Lacks 32 (step_text main step)
-step_lacks main FromMain is proper = path_has_no_blank main is
+step_lacks main FromMain is proper = path_has_no_blank _ is
 step_lacks main (Of x) is proper = vertex_lacks 32 (record { at = λ e. omega (arith, e); path = refl; version = refl }) x proper
 
 -- the first lines of a list, a graph and a chain
@@ -77,10 +77,10 @@ module _ (E : Edges) where
 
   -- an edge leads to each step other than the main module
   pub walk_step : {s : Step} {steps : List Step} → IsWalk E s steps → (x : ModuleVersion) → Contains steps (Of x) → (t : Step) × E t x
-  walk_step here x there = let never : FromMain ≡ Of x = one_member FromMain (Of x) there in absurd (cc never)
+  walk_step here x there = let never = one_member _ _ there in absurd (cc never)
   walk_step (further {s} {y} {steps} walk is) x there =
       let earlier : Contains steps (Of x) → (t : Step) × E t x = λ inside. walk_step walk x inside in
-      elim (Contains-push_cases steps (Of y) (Of x) there) [
+      elim (Contains-push_cases _ _ _ there) [
         | inl inside ↦ earlier inside
         | inr same ↦ (let name : y ≡ x = cc same in (s, rw name at is))
       ]
@@ -99,11 +99,11 @@ module _ (run : Given) (main : Main) (table : Option Sums) (found : AreFound run
       → AreRows (run_of main table run.answers.asked) rows
       → list_text main.path rows ≡ list_text path (main_entry ∷ more) → (main.path ≡ path) × (rows ≡ main_entry ∷ more)
   rows_are path rows more none proper are text =
-      let others : List Entry = map (entry_of (replacement_in main)) are.selected in
-      let own = (cut_at 10 main.path path (list_text main.path others) (list_text path more) (path-plain main.path own_path) none
+      let others = map (entry_of (replacement_in main)) are.selected in
+      let own = (cut_at _ _ _ _ _ (path-plain _ own_path) none
       (sym (first_row main.path others) ∙ ap (list_text main.path) (sym are.entries_are) ∙ text ∙ first_row path more)).0 in (
         own,
-        text_says_rows main.path own_path rows (main_entry ∷ more) (run_has_proper_rows run main table rows found.read are) proper
+        text_says_rows _ own_path rows (main_entry ∷ more) (run_has_proper_rows run main table rows found.read are) proper
             (text ∙ ap (λ (m : List ℕ). list_text m (main_entry ∷ more)) (sym own)),
       )
 
@@ -114,18 +114,16 @@ module _ (run : Given) (main : Main) (table : Option Sums) (found : AreFound run
       → (main.path ≡ path) × (edges ≡ edge FromMain y ∷ more)
   edges_are path edges more y blank sign proper are text =
       let names = run_has_proper_edges run main table edges found.read are in
-      let own = by_first edges names (text ∙ first_edge path FromMain y more) in (
+      let own = by_first _ names (text ∙ first_edge path FromMain y more) in (
         own,
-        text_says_edges main.path own_path edges (edge FromMain y ∷ more) names proper
+        text_says_edges _ own_path edges (edge FromMain y ∷ more) names proper
             (text ∙ ap (λ (m : List ℕ). graph_text m (edge FromMain y ∷ more)) (sym own)),
       )
     where
       by_first : (es : List Edge) → AreProperEdges es → graph_text main.path es ≡ path ++ (32 ∷ after_first path y more) → main.path ≡ path
-      by_first [] names begins = absurd (some_text path (after_first path y more) 32 begins)
+      by_first [] names begins = absurd (some_text _ _ _ begins)
       by_first (one ∷ es) names begins =
-          step_is_main main.path path one.from sign
-          (cut_at 32 (step_text main.path one.from) path (after_first main.path one.to es) (after_first path y more)
-          (step_lacks main.path one.from own_path (names one (member_head one es)).0) blank
+          step_is_main _ _ _ sign (cut_at _ _ _ _ _ (step_lacks _ _ own_path (names one (member_head one es)).0) blank
           (sym (first_edge main.path one.from one.to es) ∙ begins)).0
 
   -- and of the steps of a walk
@@ -133,16 +131,16 @@ module _ (run : Given) (main : Main) (table : Option Sums) (found : AreFound run
     steps_proper : AreProperSteps steps
     steps_proper FromMain there = tt
     steps_proper (Of y) there =
-        let (t, is) = walk_step edges_of_run walk y there in
-        end_name (run_of main table run.answers.asked) run.file found.read.main_file t y is
+        let (t, is) = walk_step _ walk y there in
+        end_name _ run.file found.read.main_file t y is
 
     pub known_steps : (known : List Step) → AreProperSteps known → chain_text main.path steps ≡ chain_text main.path known → steps ≡ known
-    known_steps known proper text = text_says_steps main.path own_path steps known steps_proper proper text
+    known_steps known proper text = text_says_steps _ own_path steps known steps_proper proper text
 
     pub steps_are : (path : List ℕ) (more : List Step) → Lacks 10 path → AreProperSteps (FromMain ∷ more)
         → chain_text main.path steps ≡ chain_text path (FromMain ∷ more) → (main.path ≡ path) × (steps ≡ FromMain ∷ more)
     steps_are path more none proper text =
-        let (rest, begins) = walk_begins edges_of_run walk in
-        let own = (cut_at 10 main.path path (chain_text main.path rest) (chain_text path more) (path-plain main.path own_path) none
+        let (rest, begins) = walk_begins _ walk in
+        let own = (cut_at _ _ _ _ _ (path-plain _ own_path) none
         (sym (first_step main.path rest) ∙ ap (chain_text main.path) (sym begins) ∙ text ∙ first_step path more)).0 in
-        (own, known_steps (FromMain ∷ more) proper (text ∙ ap (λ (m : List ℕ). chain_text m (FromMain ∷ more)) (sym own)))
+        (own, known_steps _ proper (text ∙ ap (λ (m : List ℕ). chain_text m (FromMain ∷ more)) (sym own)))

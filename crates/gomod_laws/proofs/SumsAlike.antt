@@ -1,23 +1,23 @@
 -- Two go.sums that find the same in each file that a run needs change nothing, nor do lines in another order, nor
 -- needless lines.
-use Rattle.std.proofs.Common.{◌≡◌, ◌∙◌, ◌≤◌, ◌↔◌, ◌++◌, ◌∷◌, ℕ, true, List, [], Option, Some, None, Result, Ok, ap, length, sym, refl, subst, arith, codes, inl, inr}
+use Rattle.std.proofs.Common.{◌≡◌, ◌∙◌, ◌≤◌, ◌↔◌, ◌++◌, ◌∷◌, ℕ, true, List, [], Option, Some, None, Result, ap, length, sym, refl, arith, codes, inl, inr}
 use Rattle.std.proofs.lemmas.Bool.{false≢true}
 use Rattle.gm_file.specs.Fields.{Dependency}
 use Rattle.gm_store.specs.Asked.{Name, Reply, absent, answer_in, bytes, folder_file, list_file, mod_file, names_in, too_long}
 use Rattle.gm_store_sums.specs.Hash.{file_hash}
-use Rattle.gm_store_sums.specs.Sums.{HasValidLines, IsSum, SaysOfHash as SaysOfHash, Sums, check_in}
+use Rattle.gm_store_sums.specs.Sums.{HasValidLines, IsSum, SaysOfHash as SaysOfHash, Sums}
 use Rattle.gm_store_sums.specs.declared.sum_table.Sum.{Sum}
 use Rattle.gm_store_sums.specs.declared.sum_table.Sum.TheVariants.{Differs, Good, Unlisted}
 use Rattle.gm_file.specs.Main.{Main, IsMainFile}
 use Rattle.gm_graph_cache.specs.declared.cache.class.Class.{Class}
 use Rattle.gm_graph.specs.declared.fault.Fault.{Fault}
-use Rattle.gm_graph_cache.specs.Reading.{IsFileReading, IsReadUnless, class_of_sum, file_of, is_askable, sum_fault}
+use Rattle.gm_graph_cache.specs.Reading.{IsFileReading, class_of_sum, file_of, is_askable, sum_fault}
 use Rattle.gm_graph.specs.Run.{AreTooMany, IsNeeded, IsRead, IsSettled}
 use Rattle.gm_graph_cache.specs.Sayings.{FileSays, Run, answered, run_of, unaskable}
 use Rattle.gm_graph.proofs.RunLemmas.{RequiresToo, asked_answered, many_too}
 use Rattle.gm_graph_cache.proofs.Sayings.{says_if}
 use Rattle.gomod_run.specs.QueryLaws.{AnswerAlike}
-use Rattle.gomod_run.specs.Queries.{AreFound, AreInvalidSums, AreSums, FilesReadAs, QueryEnds, answers_of, bad_main, bad_sums, device, faulty, longest, no_fault, too_many}
+use Rattle.gomod_run.specs.Queries.{AreFound, AreInvalidSums, AreSums, FilesReadAs, QueryEnds, bad_main, bad_sums, device, faulty, longest, no_fault, too_many}
 use Rattle.gomod_run.specs.Needs.{GraphNeeds}
 use Rattle.gomod_run.specs.Outcome.{Outcome, refusal_outcome}
 use Rattle.gomod_run.specs.Private.ByCommand.{PrintsOf}
@@ -53,7 +53,7 @@ read_with : (t u : Option Sums) (name : Name) (reply : Reply) (said : Result Dep
     → IsFileReading t name reply said → IsFileReading u name reply said
 read_with t u name absent said same is = is
 read_with t u name too_long said same is = is
-read_with t u name (bytes content) said same is = subst (λ (found : Option Class). IsReadUnless found content said) (same content refl) is
+read_with t u name (bytes content) said same is = rw (same content refl) at is
 
 module _ (main : List ℕ) (one other : Option (List ℕ)) (asked others : List (Name × Reply)) (alike : AnswerAlike asked others)
     (are : FindTheSame main one other asked) (said : Main) (t u : Option Sums) (files : FilesReadAs main one said t) (sums : AreSums other u) where
@@ -69,24 +69,24 @@ module _ (main : List ℕ) (one other : Option (List ℕ)) (asked others : List 
       → (reading : Result Dependency Class) → IsFileReading t name reply reading ↔ IsFileReading u name reply reading
   same_read read name reply needed at reading =
       let same = λ (content : List ℕ) (is : reply ≡ bytes content). are.finds said t u files sums read name needed content (at ∙ ap Some is) in
-      (read_with t u name reply reading same, read_with u t name reply reading (λ content is. sym (same content is)))
+      (read_with t u _ _ reading same, read_with u t name reply reading (λ content is. sym (same content is)))
 
   alike_with : IsRead one_run → ReadAlike one_run (run_of said u asked)
   alike_with read = record {
     mains = says_itself said;
     answers = λ name. refl;
-    read = λ name reply reading need needs at. same_read read name reply need at reading;
+    read = λ name reply reading need needs at. same_read read _ _ need at reading;
   }
 
   found_too : (faults : List Fault) → AreFound (run_over main one asked) said t faults → AreFound (run_over main other asked) said u faults
   found_too faults found =
-      found_to main main one other (answers_of asked []) said said t u (alike_with found.settled.read) read_too
-      (record { main_file = files.main_file; sums = sums }) faults found
+      found_to _ main _ other _ _ _ t u (alike_with found.settled.read) read_too
+      (record { main_file = files.main_file; sums = sums }) _ found
     where
       read_too : IsRead (run_of said u asked)
       read_too name reply at =
           let (reading, is) = found.settled.read name reply at in
-          (reading, (same_read found.settled.read name reply ((found.settled.needed name).0 (answered_name asked name reply at)) at reading).0 is)
+          (reading, (same_read found.settled.read _ _ ((found.settled.needed name).0 (answered_name _ _ _ at)) at reading).0 is)
 
   -- what the first run opens the second opens, if it has found all
   module _ (read : IsRead one_run) (settled : IsSettled other_run (names_in others)) where
@@ -94,10 +94,8 @@ module _ (main : List ℕ) (one other : Option (List ℕ)) (asked others : List 
         → (reading : Result Dependency Class) → FileSays one_run name reading → FileSays other_run name reading
     file_too name need needs reading (unaskable isnt) = unaskable isnt
     file_too name need needs reading (answered reply ask at is) =
-        let (next, told) = asked_answered others name ((settled.needed name).1 (needs ask)) in
-        answered next ask told
-        (subst (λ (r : Reply). IsFileReading u name r reading) (alike name reply next at told)
-        ((same_read read name reply (need ask) at reading).0 is))
+        let (next, told) = asked_answered _ _ ((settled.needed name).1 (needs ask)) in
+        answered _ ask told (rw (alike name reply next at told) at ((same_read read _ _ (need ask) at reading).0 is))
 
     requires_too : RequiresToo one_run other_run
     requires_too x y file is be says there = (
@@ -107,7 +105,7 @@ module _ (main : List ℕ) (one other : Option (List ℕ)) (asked others : List 
 
     not_few : AreTooMany one_run → ⊥
     not_few many =
-        let (xs, long, are) = many_too one_run other_run (λ e. e) (λ x top. inl top) requires_too many in
+        let (xs, long, are) = many_too _ _ (λ e. e) (λ x top. inl top) requires_too many in
         let few = settled.few xs are in
         omega (arith, long, few)
 
@@ -124,7 +122,7 @@ module _ (command : Command) (main : List ℕ) (one other : Option (List ℕ)) (
   table {said} is = by be
     where
       by : QueryEndsOver command main other others b → (u : Option Sums) × AreSums other u
-      by (bad_main place misread none says) = absurd (misread_or_main main place said misread is)
+      by (bad_main place misread none says) = absurd (misread_or_main _ _ _ misread is)
       by (bad_sums again report reads invalid none says) = absurd (are.other_valid report invalid)
       by (device again u name read due failed says) = (u, read.sums)
       by (too_many again u read all many none says) = (u, read.sums)
@@ -136,45 +134,41 @@ module _ (command : Command) (main : List ℕ) (one other : Option (List ℕ)) (
       (many : AreTooMany (run_of said t asked)) (says : a ≡ refusal_outcome too_many_line) where
     not_found : (again : Main) (u : Option Sums) (faults : List Fault) → AreFound (run_over main other others) again u faults → ⊥
     not_found again u faults found =
-        not_few main one other asked others alike are said t u files found.read.sums read
-        (subst (λ (m : Main). IsSettled (run_of m u others) (names_in others)) (one_main main again said found.read.main_file files.main_file) found.settled)
+        not_few main one other asked _ alike are said t u files found.read.sums read
+        (rw (one_main main again said found.read.main_file files.main_file) at found.settled)
         many
 
     many_both : QueryEndsOver command main other others b → a ≡ b
-    many_both (bad_main place misread none is) = absurd (misread_or_main main place said misread files.main_file)
+    many_both (bad_main place misread none is) = absurd (misread_or_main _ _ _ misread files.main_file)
     many_both (bad_sums again report file invalid none is) = absurd (are.other_valid report invalid)
     many_both (device again u name files due failed is) = absurd (let none : [] ≡ name ∷ [] = failed in cc none)
     many_both (too_many again u files all more none is) = says ∙ sym is
-    many_both (faulty again u first more found is) = absurd (not_found again u (first ∷ more) found)
+    many_both (faulty again u first more found is) = absurd (not_found _ u _ found)
     many_both (no_fault again u found shows) = absurd (not_found again u [] found)
 
   finish : QueryEndsOver command main other asked a → a ≡ b
   finish is =
-      query_once command (run_over main other asked) (run_over main other others) a b
-      (record { file = refl; sums = refl; answers = alike; failed = refl }) is be
+      query_once _ _ _ a b (record { file = refl; sums = refl; answers = alike; failed = refl }) is be
 
   same_runs : QueryEndsOver command main one asked a → a ≡ b
-  same_runs (bad_main place misread none says) = finish (bad_main place misread none says)
+  same_runs (bad_main place misread none says) = finish (bad_main _ misread none says)
   same_runs (bad_sums said report reads invalid none says) = absurd (are.valid report invalid)
   same_runs (device said t name files due failed says) = absurd (let none : [] ≡ name ∷ [] = failed in cc none)
   same_runs (too_many said t files all many none says) = many_both said t files all many says be
   same_runs (faulty said t first more found says) =
       let (u, sums) = table found.read.main_file in
-      finish (faulty said u first more (found_too main one other asked others alike are said t u found.read sums (first ∷ more) found) says)
+      finish (faulty _ u _ _ (found_too _ _ other _ others alike are _ t u found.read sums _ found) says)
   same_runs (no_fault said t found shows) =
       let (u, sums) = table found.read.main_file in
-      finish
-      (no_fault said u (found_too main one other asked others alike are said t u found.read sums [] found)
-      (prints_to (run_of said t asked) (run_of said u asked)
-      (alike_with main one other asked others alike are said t u found.read sums found.settled.read) command a shows))
+      finish (no_fault _ u (found_too main one other asked others alike are said t u found.read sums [] found)
+      (prints_to _ (run_of said u asked)
+      (alike_with main one _ asked others alike are said t u found.read sums found.settled.read) _ a shows))
 
 pub same_query : (command : Command) → is_query command ≡ true
     → (main : List ℕ) (one other : Option (List ℕ)) (asked others : List (Name × Reply)) (a b : Outcome) → AnswerAlike asked others
     → FindTheSame main one other asked → Ends command main one asked a → Ends command main other others b → a ≡ b
 same_query command query main one other asked others a b alike are is be =
-    same_runs command main one other asked others a b alike are
-    (query_ends (run_over main other others) b command query be)
-    (query_ends (run_over main one asked) a command query is)
+    same_runs _ _ _ _ _ _ a b alike are (query_ends _ b _ query be) (query_ends _ a _ query is)
 
 -- ---- a go.sum with needless lines
 
@@ -217,25 +211,23 @@ module _ (main one other : List ℕ) (asked : List (Name × Reply)) (are : HasNe
   same_fault (Some t) None reads tells name content needs = absurd tells
   same_fault (Some t) (Some u) reads tells (mod_file path version) content needs =
       let hash = file_hash content in
-      ap class_of_sum
-      (one_says other path version hash (check_in t path version hash) (check_in u path version hash)
-      (says_too one other path version hash (check_in t path version hash) (same_hashes path version needs) (reads.2 path version hash))
+      ap class_of_sum (one_says _ _ _ _ _ _ (says_too _ _ _ _ _ _ (same_hashes _ _ needs) (reads.2 path version hash))
       (tells.2 path version hash))
   same_fault (Some t) (Some u) reads tells (folder_file folder) content needs = refl
   same_fault (Some t) (Some u) reads tells (list_file path) content needs = refl
 
   by_needed : FindTheSame main (Some one) (Some other) asked
   by_needed = record {
-    valid = no_invalid one are.short are.valid;
-    other_valid = no_invalid other are.other_short are.other_valid;
+    valid = no_invalid _ are.short are.valid;
+    other_valid = no_invalid _ are.other_short are.other_valid;
     finds = λ said t u files sums read name needed content at. same_fault t u files.sums sums name content
         (record { main = said; table = t; read = files; calls = record { read = read; needed = needed } });
   }
 
 pub needless_lines_change_nothing : NeedlessLinesChangeNothing
 needless_lines_change_nothing command main one other asked others a b alike are is be =
-    by_query command main (Some one) (Some other) asked others a b alike
-    (λ query. same_query command query main (Some one) (Some other) asked others a b alike (by_needed main one other asked are) is.0 be.0) is.0 be.0
+    by_query _ _ _ _ _ _ a b alike
+    (λ query. same_query _ query _ _ _ _ _ a b alike (by_needed main one other asked are) is.0 be.0) is.0 be.0
 
 -- lines in another order are needless lines, of which there are none
 pub sum_lines_in_any_order : SumLinesInAnyOrder

@@ -1,5 +1,5 @@
 -- A go.sum only refuses, and one with the right hashes changes nothing.
-use Rattle.std.proofs.Common.{◌≡◌, ◌∙◌, List, [], Option, Some, None, Err, ap, length, sym, refl, true, ℕ}
+use Rattle.std.proofs.Common.{◌≡◌, ◌∙◌, List, [], Option, Some, None, ap, sym, refl, true, ℕ}
 use Rattle.gm_store.specs.Asked.{Name, Reply, answer_in, bytes, folder_file, list_file, mod_file}
 use Rattle.gm_store_sums.specs.Hash.{file_hash}
 use Rattle.gm_store_sums.specs.Sums.{Sums, check_in}
@@ -7,11 +7,9 @@ use Rattle.gm_store_sums.specs.declared.sum_table.Sum.TheVariants.{Good}
 use Rattle.gm_graph_cache.specs.declared.cache.class.Class.{Class}
 use Rattle.gm_file.specs.Main.{Main}
 use Rattle.gm_graph_cache.specs.Reading.{class_of_sum, sum_fault}
-use Rattle.gm_graph_cache.specs.Sayings.{run_of}
 use Rattle.gomod_run.specs.Queries.{AreFound, AreSums}
 use Rattle.gomod_run.specs.Needs.{GraphNeeds}
 use Rattle.gomod_run.specs.Outcome.{Outcome}
-use Rattle.gomod_run.specs.Private.ByCommand.{PrintsOf}
 use Rattle.gomod_run.specs.Runs.{is_query}
 use Rattle.gomod_run.proofs.OneRead.{one_finding, one_says}
 use Rattle.gomod_run.proofs.PrintedList.{printed_run}
@@ -36,13 +34,13 @@ module _ (main sums : List ℕ) (asked : List (Name × Reply)) (said : Main) (ta
     where
       by : (its : Option Class) → sum_fault table name content ≡ its → its ≡ None
       by None is = refl
-      by (Some class) is = absurd (no_fault_read said table asked found.settled found.faults_are name (bytes content) class at (rw is refl))
+      by (Some class) is = absurd (no_fault_read _ _ _ found.settled found.faults_are _ _ class at (rw is refl))
 
   unfaulty : FindTheSame main (Some sums) None asked
   unfaulty = record {
     valid = λ report invalid. misread_or_sums (Some sums) report table invalid found.read.sums;
     other_valid = λ report invalid. invalid;
-    finds = λ again t u files none read name needed content at. one_finding (Some sums) t table files.sums found.read.sums name content
+    finds = λ again t u files none read name needed content at. one_finding (Some sums) t _ files.sums found.read.sums name content
         ∙ no_sum_fault name content at ∙ one_finding None None u tt none name content;
   }
 
@@ -50,14 +48,13 @@ printed_finds : (command : Command) → is_query command ≡ true → (main sums
     → Ends command main (Some sums) asked outcome → HasPrinted outcome → FindTheSame main (Some sums) None asked
 printed_finds command query main sums asked outcome is prints =
     let run = run_over main (Some sums) asked in
-    let (said, table, found, shows) = printed_run (PrintsOf command) run outcome (query_ends run outcome command query is) prints in
+    let (said, table, found, shows) = printed_run _ _ _ (query_ends _ _ _ query is) prints in
     unfaulty main sums asked said table found
 
 pub only_refuses : OnlyRefuses
 only_refuses command main sums asked others one other alike is be prints =
-    sym (by_query command main (Some sums) None asked others one other alike
-    (λ query. same_query command query main (Some sums) None asked others one other alike
-    (printed_finds command query main sums asked one is.0 prints) is.0 be.0) is.0 be.0)
+    sym (by_query _ _ _ _ _ _ _ _ alike (λ query. same_query _ query _ _ _ _ _ _ _ alike
+    (printed_finds _ query _ _ _ _ is.0 prints) is.0 be.0) is.0 be.0)
 
 -- ---- a go.sum with the right hashes changes nothing
 
@@ -76,12 +73,12 @@ module _ (main sums : List ℕ) (asked : List (Name × Reply)) (right : AreRight
   by_right : FindTheSame main None (Some sums) asked
   by_right = record {
     valid = λ report invalid. invalid;
-    other_valid = no_invalid sums right.short right.valid;
-    finds = λ said t u files tells read name needed content at. right_fault t u files.sums tells name content
+    other_valid = no_invalid _ right.short right.valid;
+    finds = λ said t u files tells read name needed content at. right_fault t u files.sums tells _ _
         (record { main = said; table = t; read = files; calls = record { read = read; needed = needed } }) at;
   }
 
 pub right_sums_change_nothing : RightSumsChangeNothing
 right_sums_change_nothing command main sums asked others one other alike right is be =
-    sym (by_query command main None (Some sums) asked others one other alike
-    (λ query. same_query command query main None (Some sums) asked others one other alike (by_right main sums asked right) is.0 be.0) is.0 be.0)
+    sym (by_query _ _ _ _ _ _ _ _ alike
+    (λ query. same_query _ query _ _ _ _ _ _ _ alike (by_right main sums asked right) is.0 be.0) is.0 be.0)

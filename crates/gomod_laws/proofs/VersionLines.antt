@@ -31,26 +31,25 @@ stops [] = (10, [], refl, inr refl)
 stops (version ∷ versions) = (32, (version ++ spaced versions) ++ (10 ∷ []), refl, inl refl)
 
 whole : (version : List ℕ) → IsVersion version → IsWhole version
-whole version is = (version_has_no_blank version is, version-plain version is)
+whole version is = (version_has_no_blank _ is, version-plain _ is)
 
 abbrev AreVersions : List (List ℕ) → Type 0
 AreVersions versions = (version : List ℕ) → Contains versions version → IsVersion version
 
 same_versions : (versions others : List (List ℕ)) → AreVersions versions → AreVersions others → ended versions ≡ ended others → versions ≡ others
 same_versions [] [] p q e = refl
-same_versions [] (other ∷ others) p q e = let wrong : 10 ≡ 32 = heads 10 32 _ _ e in absurd (omega (arith, wrong))
-same_versions (version ∷ versions) [] p q e = let wrong : 32 ≡ 10 = heads 32 10 _ _ e in absurd (omega (arith, wrong))
+same_versions [] (other ∷ others) p q e = let wrong = heads _ _ _ _ e in absurd (omega (arith, wrong))
+same_versions (version ∷ versions) [] p q e = let wrong = heads _ _ _ _ e in absurd (omega (arith, wrong))
 same_versions (version ∷ versions) (other ∷ others) p q e =
     let inner : version ++ ended versions ≡ other ++ ended others =
-    sym (append_assoc version (spaced versions) (10 ∷ [])) ∙ tails 32 32 _ _ e ∙ append_assoc other (spaced others) (10 ∷ []) in
-    let same : version ≡ other = cut_whole version other (ended versions) (ended others)
-    (whole version (p version (member_head version versions))) (whole other (q other (member_head other others))) (stops versions) (stops others) inner in
+    sym (append_assoc version (spaced versions) (10 ∷ [])) ∙ tails _ _ _ _ e ∙ append_assoc other (spaced others) (10 ∷ []) in
+    let same = cut_whole _ _ _ _
+    (whole _ (p version (member_head version versions))) (whole _ (q other (member_head other others))) (stops versions) (stops others) inner in
     let rest : ended versions ≡ ended others =
     append_cancel_left other (ended versions) (ended others) (ap (λ (v : List ℕ). v ++ ended versions) (sym same) ∙ inner) in
     ap₂ (λ (v : List ℕ) (vs : List (List ℕ)). v ∷ vs) same
-    (same_versions versions others (λ v there. p v (member_tail version v versions there)) (λ v there. q v (member_tail other v others there)) rest)
+    (same_versions _ _ (λ v there. p v (member_tail version v _ there)) (λ v there. q v (member_tail other v _ there)) rest)
 
 pub line_says_versions : LineSaysVersions
 line_says_versions path versions others p q e =
-    same_versions versions others p q
-    (append_cancel_left path (ended versions) (ended others) (sym (line_is path versions) ∙ e ∙ line_is path others))
+    same_versions _ _ p q (append_cancel_left path (ended versions) (ended others) (sym (line_is path versions) ∙ e ∙ line_is path others))

@@ -4,7 +4,7 @@ use Rattle.std.proofs.lemmas.Bool.{false≢true}
 use Rattle.gm_name.specs.Path.{is_fetchable}
 use Rattle.gm_store.specs.Asked.{Name, Reply, answer_in, bytes, bytes_in, list_file}
 use Rattle.gm_store.specs.Listed.{AreListed}
-use Rattle.gomod_run.specs.Outcome.{Outcome, text_outcome, refusal_outcome}
+use Rattle.gomod_run.specs.Outcome.{Outcome, text_outcome}
 use Rattle.gomod_run.specs.Needs.{AnswersByName}
 use Rattle.gomod_run.specs.Versions.{AreShown, HasListed, VersionsEnds, all_listed, bad_file, device, list_refusal, no_list, not_retracted, printed, versions_line}
 use Rattle.gomod_run.proofs.AllAsked.{refusal_status}
@@ -21,8 +21,8 @@ pub shown_printed : (path : List ℕ) (all : Bool) (answers : AnswersByName) (ou
     → (shown : List (List ℕ)) × AreShown path all answers shown × (outcome ≡ text_outcome (versions_line path shown))
 shown_printed path all answers outcome prints (device name need unanswered failed says) = absurd (cc failed)
 shown_printed path all answers outcome prints (no_list refused none) =
-    let code = refusal_status path (is_fetchable path) (answers (list_file path)) outcome refused in absurd (omega (arith, code, prints))
-shown_printed path all answers outcome prints (bad_file versions latest reply class says none told) = absurd (not_refused _ outcome told prints)
+    let code = refusal_status _ _ _ _ refused in absurd (omega (arith, code, prints))
+shown_printed path all answers outcome prints (bad_file versions latest reply class says none told) = absurd (not_refused _ _ told prints)
 shown_printed path all answers outcome prints (printed shown are none told) = (shown, are, told)
 
 -- without `--retracted`, those that are not retracted are shown
@@ -43,27 +43,26 @@ module _ (path : List ℕ) (answers : AnswersByName) (list : List ℕ) (versions
 
   all_shown : (shown : List (List ℕ)) → AreShown path true answers shown → shown ≡ versions
   all_shown shown (all_listed is every) =
-      listed_once path list shown versions (subst (λ (r : Reply). AreListed path (bytes_in r) shown) (same (bytes is.list) is.answered) is.listed) listed
+      listed_once _ _ _ _ (subst (λ (r : Reply). AreListed path (bytes_in r) shown) (same (bytes is.list) is.answered) is.listed) listed
   all_shown shown (not_retracted others latest reply file intervals says retracted hidden) = absurd (false≢true (sym says.chosen.filtered))
 
   all_printed : is_fetchable path ≡ true → VersionsEnds path true answers [] outcome → outcome ≡ text_outcome (versions_line path versions)
   all_printed fetchable (device name need unanswered failed says) = absurd (cc failed)
   all_printed fetchable (no_list refused none) =
-      absurd (has_list (answers (list_file path)) same (subst
-      (λ (b : Bool). list_refusal path b (answers (list_file path)) ≡ Some outcome) fetchable refused))
+      absurd (has_list _ same (subst (λ (b : Bool). list_refusal path b (answers (list_file path)) ≡ Some outcome) fetchable refused))
   all_printed fetchable (bad_file others latest reply class says none told) = absurd (false≢true (sym says.chosen.filtered))
-  all_printed fetchable (printed shown are none told) = told ∙ ap (λ (vs : List (List ℕ)). text_outcome (versions_line path vs)) (all_shown shown are)
+  all_printed fetchable (printed shown are none told) = told ∙ ap (λ (vs : List (List ℕ)). text_outcome (versions_line path vs)) (all_shown _ are)
 
 pub retracted_are_left_out : RetractedAreLeftOut
 retracted_are_left_out path main sums asked told one other run prints also alike =
-    let (shown, are, says) = shown_printed path false (answer_in asked) one prints run.0 in
-    let (versions, is, unretracted) = unretracted_shown path asked shown are in
+    let (shown, are, says) = shown_printed _ _ _ _ prints run.0 in
+    let (versions, is, unretracted) = unretracted_shown _ _ _ are in
     record {
       versions = versions;
       shown = shown;
       listed = record { list = is.list; answered = is.answered; are = is.listed };
       unretracted = unretracted;
       one_prints = says;
-      other_prints = all_printed path (answer_in told) is.list versions other is.listed
+      other_prints = all_printed _ _ is.list versions _ is.listed
           (λ reply answered. sym (alike (list_file path) (bytes is.list) reply is.answered answered)) is.fetchable also.0;
     }

@@ -81,7 +81,7 @@ module _ (path : List ℕ) (all : Bool) (answers : AnswersByName) (outcome : Out
 
   -- the list was answered, if a proxy can have one
   heard : Ends path all answers outcome → is_fetchable path ≡ true → (reply : Reply) × (answers (list_file path) ≡ Some reply)
-  heard (inl refused) fetchable = replied (answers (list_file path)) (sym (ap (λ (b : Bool). list_refusal path b (answers (list_file path))) fetchable) ∙ refused)
+  heard (inl refused) fetchable = replied _ (sym (ap (λ (b : Bool). list_refusal path b (answers (list_file path))) fetchable) ∙ refused)
   heard (inr (versions, is, ends)) fetchable = (bytes is.list, is.answered)
 
 -- ---- two runs
@@ -89,7 +89,7 @@ module _ (path : List ℕ) (all : Bool) (answers : AnswersByName) (outcome : Out
 tells_once : (path : List ℕ) (versions : List (List ℕ)) (latest : List ℕ) (reply : Reply) (reading : Result Dependency Class) (a b : Outcome)
     → Tells path versions latest reply reading a → Tells path versions latest reply reading b → a ≡ b
 tells_once path versions latest reply (Ok file) a b (intervals, retracted, says) (more, also, tells) =
-    says ∙ ap (λ (is : List VersionInterval). text_outcome (versions_line path (shown_of is versions))) (one_retracted reply intervals more retracted also)
+    says ∙ ap (λ (is : List VersionInterval). text_outcome (versions_line path (shown_of is versions))) (one_retracted _ _ _ retracted also)
     ∙ sym tells
 tells_once path versions latest reply (Err class) a b says tells = says ∙ sym tells
 
@@ -99,21 +99,20 @@ module _ (path : List ℕ) (all : Bool) (told next : AnswersByName) (alike : Nee
       → LatestSays path all told versions latest r reading → LatestSays path all next others last s other
       → (versions ≡ others) × (latest ≡ last) × (r ≡ s) × (reading ≡ other)
   one_says {versions} {others} {latest} {last} {r} {s} {reading} {other} a b =
-      let same = one_latest path all told next alike versions others latest last a.chosen b.chosen in
-      let replies = alike (mod_file path latest) r s (inr (versions, latest, refl, a.chosen)) a.answered
-      (subst (λ (v : List ℕ). next (mod_file path v) ≡ Some s) (sym same.1) b.answered) in
-      (same.0, same.1, replies, one_reading None (mod_file path last) s reading other (rw (same.1, replies) at a.says) b.says)
+      let same = one_latest _ _ _ _ alike _ _ _ _ a.chosen b.chosen in
+      let replies = alike (mod_file path latest) r s (inr (versions, latest, refl, a.chosen)) a.answered (rw same.1 b.answered) in
+      (same.0, same.1, replies, one_reading None (mod_file path last) s _ _ (rw (same.1, replies) at a.says) b.says)
 
   listed_once : (a b : Outcome) → EndsListed path all told a → EndsListed path all next b → a ≡ b
   listed_once a b (versions, is, inl (every, says)) (others, be, inl (also, tells)) =
-      says ∙ ap (λ (vs : List (List ℕ)). text_outcome (versions_line path vs)) (one_listed path all told next alike is be) ∙ sym tells
+      says ∙ ap (λ (vs : List (List ℕ)). text_outcome (versions_line path vs)) (one_listed _ all _ _ alike is be) ∙ sym tells
   listed_once a b (versions, is, inl (every, says)) (others, be, inr (last, s, other, says_too, tells)) =
-      absurd (none_needed path all next versions others last (sym (one_listed path all told next alike is be)) every says_too.chosen)
+      absurd (none_needed path _ next _ _ last (sym (one_listed _ all _ _ alike is be)) every says_too.chosen)
   listed_once a b (versions, is, inr (latest, r, reading, says, tells)) (others, be, inl (every, also)) =
-      absurd (none_needed path all told others versions latest (one_listed path all told next alike is be) every says.chosen)
+      absurd (none_needed path _ told _ _ latest (one_listed _ all _ _ alike is be) every says.chosen)
   listed_once a b (versions, is, inr (latest, r, reading, says, tells)) (others, be, inr (last, s, other, says_too, also)) =
       let same = one_says says says_too in
-      tells_once path others last s other a b (rw (same.0, same.1, same.2, same.3) at tells) also
+      tells_once path others last s _ a b (rw (same.0, same.1, same.2, same.3) at tells) also
 
   -- that there is no list, and why, is one thing
   one_refusal : {x y : Option Reply} (fetchable : Bool) → (fetchable ≡ true → x ≡ y) → list_refusal path fetchable x ≡ list_refusal path fetchable y
@@ -128,12 +127,12 @@ module _ (path : List ℕ) (all : Bool) (told next : AnswersByName) (alike : Nee
 
       lists : is_fetchable path ≡ true → told list ≡ next list
       lists fetchable =
-          let (r, e) = heard path all told a is fetchable in
-          let (s, f) = heard path all next b be fetchable in
+          let (r, e) = heard _ _ _ a is fetchable in
+          let (s, f) = heard _ _ _ b be fetchable in
           e ∙ ap Some (alike list r s (inl (fetchable, refl)) e f) ∙ sym f
 
       refusals : list_refusal path (is_fetchable path) (told list) ≡ list_refusal path (is_fetchable path) (next list)
-      refusals = one_refusal (is_fetchable path) lists
+      refusals = one_refusal _ lists
 
       by : Ends path all told a → Ends path all next b → a ≡ b
       by (inl refused) (inl also) = same_Some a b (sym refused ∙ refusals ∙ also)
@@ -142,4 +141,4 @@ module _ (path : List ℕ) (all : Bool) (told next : AnswersByName) (alike : Nee
       by (inr listed) (inr also) = listed_once a b listed also
 
   pub versions_once : (failed : List Name) (a b : Outcome) → VersionsEnds path all told failed a → VersionsEnds path all next failed b → a ≡ b
-  versions_once failed a b is be = first_once (device_of failed) (ends_once a b) (ends_by path all told a failed is) (ends_by path all next b failed be)
+  versions_once failed a b is be = first_once _ (ends_once a b) (ends_by _ _ _ a _ is) (ends_by _ _ _ b _ be)

@@ -1,9 +1,7 @@
 -- A run prints if one that opens no fewer modules does: one over another main file, or over another store.
-use Rattle.std.proofs.Common.{◌≡◌, ◌∙◌, ◌≤◌, ◌∷◌, ℕ, List, [], length, Option, Err, arith, subst, sym}
+use Rattle.std.proofs.Common.{◌≡◌, ◌∙◌, ◌∷◌, [], Option, Err, arith, subst, sym}
 use Rattle.gm_name.specs.ModuleVersion.{ModuleVersion}
-use Rattle.gm_store.specs.Asked.{Reply}
 use Rattle.gm_store_sums.specs.Sums.{Sums}
-use Rattle.gm_graph_cache.specs.Reading.{IsFileReading}
 use Rattle.gm_graph.proofs.RunLemmas.{ReplaceAlike, SayAlike, SaysToo, says_too, settled_answers}
 use Rattle.gm_file.specs.Main.{Main, IsMainFile}
 use Rattle.gm_graph_select.proofs.Ascending.{member_head, no_member}
@@ -11,7 +9,7 @@ use Rattle.gm_graph.specs.declared.fault.Fault.{Fault}
 use Rattle.gm_graph.specs.Run.{AreTooMany, IsFault, IsOpened}
 use Rattle.gm_graph_cache.specs.Sayings.{Run, run_of}
 use Rattle.gomod_run.specs.QueryLaws.{AnswerAlike}
-use Rattle.gomod_run.specs.Queries.{AreFound, AreInvalidSums, AreSums, Given, Prints, QueryEnds, bad_main, bad_sums, device, faulty, no_fault, too_many}
+use Rattle.gomod_run.specs.Queries.{AreFound, AreSums, Given, Prints, QueryEnds, bad_main, bad_sums, device, faulty, no_fault, too_many}
 use Rattle.gomod_run.specs.Outcome.{Outcome}
 use Rattle.gomod_run.proofs.OneRead.{one_finding, one_main, read_alike}
 use Rattle.gomod_laws.proofs.FilesOnce.{misread_or_main, misread_or_sums}
@@ -28,13 +26,11 @@ module _ (run next : Given) (first second : Main) (table : Option Sums) (found :
   wide = run_of second table next.answers.asked
 
   pub narrow_says : (t : Option Sums) → AreSums run.sums t → SaysToo (narrow t) wide
-  narrow_says t are =
-      says_too (narrow t) wide same say_alike (settled_answers second table next.answers.asked found.settled)
+  narrow_says t are = says_too (narrow t) wide same say_alike (settled_answers _ _ _ found.settled)
     where
       say_alike : SayAlike (narrow t) wide
       say_alike name x y one other said reads =
-          read_alike t table (one_finding next.sums t table (subst (λ (s : Option (List ℕ)). AreSums s t) sums are) found.read.sums) name y said
-          (subst (λ (reply : Reply). IsFileReading t name reply said) (alike name x y one other) reads)
+          read_alike t _ (one_finding _ t _ (rw sums at are) found.read.sums) _ y _ (rw (alike name x y one other) at reads)
 
   -- the second opens what the first opens
   abbrev pub OpensAsMuch : Type 0
@@ -43,7 +39,7 @@ module _ (run next : Given) (first second : Main) (table : Option Sums) (found :
   module _ (opens : OpensAsMuch) (sound : run.answers.failed ≡ []) (prints : Prints) (outcome : Outcome) where
     not_many : (t : Option Sums) → AreSums run.sums t → AreTooMany (narrow t) → ⊥
     not_many t are (xs, long, opened) =
-        let few : length xs ≤ 65536 = found.settled.few xs (record {
+        let few = found.settled.few xs (record {
           once = opened.once;
           each =
               λ x there. opens t (narrow_says t are) x (opened.each x there);
@@ -54,18 +50,17 @@ module _ (run next : Given) (first second : Main) (table : Option Sums) (found :
     not_faulty t are one (is, has) =
         let says_it = narrow_says t are in
         let too = opens t says_it one.vertex is in
-        no_member one ((found.faults_are.each one).1 (too, says_it one.vertex too (Err one.class) has))
+        no_member _ ((found.faults_are.each one).1 (too, says_it one.vertex too (Err one.class) has))
 
     pub prints_too : QueryEnds prints run outcome → PrintsOver prints run first outcome
-    prints_too (bad_main place misread none text) = absurd (misread_or_main run.file place first misread says)
-    prints_too (bad_sums main report is misread none text) =
-        absurd (misread_or_sums next.sums report table (subst (λ (s : Option (List ℕ)). AreInvalidSums s report) sums misread) found.read.sums)
+    prints_too (bad_main place misread none text) = absurd (misread_or_main _ _ _ misread says)
+    prints_too (bad_sums main report is misread none text) = absurd (misread_or_sums _ _ _ (rw sums at misread) found.read.sums)
     prints_too (device main t name are due one text) = absurd (let names : name ∷ [] ≡ [] = sym one ∙ sound in cc names)
     prints_too (too_many main t are read many none text) =
-        absurd (not_many t are.sums (subst (λ (m : Main). AreTooMany (run_of m t run.answers.asked)) (one_main run.file main first are.main_file says) many))
+        absurd (not_many t are.sums (rw (one_main run.file main first are.main_file says) at many))
     prints_too (faulty main t one others is text) =
         let fault = (is.faults_are.each one).0 (member_head one others) in
-        absurd (not_faulty t is.read.sums one (subst (λ (m : Main). IsFault (run_of m t run.answers.asked) one)
-        (one_main run.file main first is.read.main_file says) fault))
+        absurd (not_faulty t is.read.sums _ (subst (λ (m : Main). IsFault (run_of m t run.answers.asked) one)
+        (one_main _ _ _ is.read.main_file says) fault))
     prints_too (no_fault main t is shows) =
         subst (λ (m : Main). PrintsOver prints run m outcome) (one_main run.file main first is.read.main_file says) (t, is, shows)

@@ -6,7 +6,7 @@ use Rattle.std.proofs.lemmas.List.Elements.{All-contains, All-from_recursion}
 use Rattle.std.proofs.lemmas.List.Kept.{AllPairs-cons}
 
 pub each_of : {X : Type 0} (P : X → Type 0) (xs : List X) → AllByRecursion P xs → (x : X) → Contains xs x → P x
-each_of P xs all x there = All-contains P xs x (All-from_recursion P xs all) there
+each_of P xs all x there = All-contains P _ x (All-from_recursion P _ all) there
 
 abbrev pub Pairs : {X : Type 0} → (X → X → Type 0) → List X → Type 0
 Pairs R [] = Unit {0}
