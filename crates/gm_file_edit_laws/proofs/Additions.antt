@@ -27,16 +27,15 @@ pub edited-added : (edit : Edit) {entry : List ℕ × List Placed} (lines : List
     → new_entry edit ≡ Some entry → list_any (about edit) (directives_of lines) ≡ false
     → lines_after edit lines ≡ with_addition entry.0 entry.1 lines
 edited-added edit {entry} lines adds none = by-edited (λ after. after ≡ with_addition entry.0 entry.1 lines) edit lines
-    (λ there. absurd (true≢false (sym there ∙ there-said (about edit) lines ∙ none)))
-    (λ absent. put-added edit lines adds)
+    (λ there. absurd (true≢false (sym there ∙ there-said (about edit) lines ∙ none))) (λ absent. put-added _ lines adds)
 
 pub addition-follows : AdditionFollowsItsVerb
 addition-follows edit verb arguments front back line adds none is =
-    edited-added edit (front ++ line ∷ back) adds none ∙ added-after-last verb arguments front back line is.is_of_verb is.none_later
+    edited-added _ _ adds none ∙ added-after-last _ arguments _ _ _ is.is_of_verb is.none_later
 
 pub addition-last : AdditionOfANewVerbIsLast
 addition-last edit verb arguments lines adds none new =
-    edited-added edit lines adds none ∙ added-at-end verb arguments lines (there-said (has_verb verb) lines ∙ new)
+    edited-added _ _ adds none ∙ added-at-end _ arguments _ (there-said (has_verb verb) lines ∙ new)
 
 -- ---- a new go directive
 
@@ -73,13 +72,12 @@ go-placed : (text : List ℕ) {front : List (Line Placed)} (back : List (Line Pl
     → list_any is_go (directives_of (front ++ line ∷ back)) ≡ false
     → lines_after (Set (GoIs text)) (front ++ line ∷ back) ≡ front ++ line
     ∷ (if is_some (block_after_lines None front) then after_closing (new_go text) back else new_go text ++ back)
-go-placed text {front} back {line} first none = edited-go text (front ++ line ∷ back) none
-    ∙ first-behind is_module (new_go text) None front back line first.none_earlier first.is_module_line
+go-placed text {front} back {line} first none = edited-go text _ none
+    ∙ first-behind _ (new_go text) _ _ back _ first.none_earlier first.is_module_line
 
 pub go-follows : GoFollowsModule
-go-follows text front back line first none outside =
-    rw outside at (go-placed text back first none)
+go-follows text front back line first none outside = rw outside at (go-placed text _ first none)
 
 pub go-follows-block : GoFollowsModuleBlock
 go-follows-block text front inner back line last first none inside loose =
-    rw (inside, to-closing (new_go text) inner back last loose) at (go-placed text (inner ++ Close last ∷ back) first none)
+    rw (inside, to-closing (new_go text) _ back last loose) at (go-placed text _ first none)

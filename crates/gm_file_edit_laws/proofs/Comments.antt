@@ -72,7 +72,7 @@ dropping-comments test block [] = refl
 dropping-comments test block (line ∷ lines) =
     let rest = dropping-comments test (block_after_line block line) lines in
     elim (cases_Bool (passes test (directive_at block line))) [
-      | inl hit ↦ rw hit (rest ∙ sym (filter-none is_comment_line line lines (no-comment test (λ b l. l) (λ b words suffix. refl) block line hit).0))
+      | inl hit ↦ rw hit (rest ∙ sym (filter-none _ _ lines (no-comment _ (λ b l. l) (λ b words suffix. refl) _ _ hit).0))
       | inr miss ↦ rw miss (behind-same line (kept_lines (dropping_from test (block_after_line block line) lines)) lines rest)
     ]
 
@@ -84,9 +84,9 @@ renewing-comments test new rewrites block (line ∷ lines) =
     let behind = block_after_line block line in
     elim (cases_Bool (passes test (directive_at block line))) [
       | inl hit ↦
-          let none = no-comment test new rewrites block line hit in
-          rw hit (filter-none is_comment_line (new block line) (kept_lines (dropping_from test behind lines)) none.1
-          ∙ dropping-comments test behind lines ∙ sym (filter-none is_comment_line line lines none.0))
+          let none = no-comment _ new rewrites _ _ hit in
+          rw hit (filter-none _ _ (kept_lines (dropping_from test behind lines)) none.1
+          ∙ dropping-comments test behind lines ∙ sym (filter-none _ _ lines none.0))
       | inr miss ↦ rw miss (behind-same line (kept_lines (renewing_from test new behind lines)) lines (renewing-comments test new rewrites behind lines))
     ]
 
@@ -95,7 +95,7 @@ dropped-comments test lines = remaining-comments (dropping_from test None lines)
 
 renewed-comments : (test : Directive → Bool) (new : Option Placed → Line Placed → Line Placed) → RewritesEntries new
     → (lines : List (Line Placed)) → comments (with_renewal test new lines) ≡ comments lines
-renewed-comments test new rewrites lines = remaining-comments (renewing_from test new None lines) ∙ renewing-comments test new rewrites None lines
+renewed-comments test new rewrites lines = remaining-comments (renewing_from test new None lines) ∙ renewing-comments test _ rewrites None lines
 
 -- ---- the lines with new entries
 
@@ -121,7 +121,7 @@ into-comments {verb} {arguments} put = rw (
 
 changed-comments : (edit : Edit) (lines : List (Line Placed)) → comments (with_change edit lines) ≡ comments lines
 unfolding with_change
-changed-comments (Set s) lines = renewed-comments (about (Set s)) (made_new (Set s)) (rewritten s) lines
+changed-comments (Set s) lines = renewed-comments (about (Set s)) _ (rewritten s) lines
   where
     rewritten : (s : Setting) → RewritesEntries (made_new (Set s))
     rewritten (ModuleIs path) block words suffix = refl

@@ -20,12 +20,12 @@ none-dropped-from test block (line ∷ lines) e =
     rw (parts.0, none-dropped-from test (block_after_line block line) lines parts.1)
 
 pub none-dropped : (test : Directive → Bool) (lines : List (Line Placed)) → is_there test None lines ≡ false → without_targets test lines ≡ lines
-none-dropped test lines e = ap remaining (none-dropped-from test None lines e) ∙ all-lines-stay lines
+none-dropped test lines e = ap remaining (none-dropped-from _ _ _ e) ∙ all-lines-stay lines
 
 -- a drop
 pub edited-drop : (edit : Edit) (lines : List (Line Placed)) → is_drop edit ≡ true → lines_after edit lines ≡ without_targets (about edit) lines
 unfolding with_change put_in
 edited-drop (Drop t) lines e = by-edited (λ ls. ls ≡ without_targets (about (Drop t)) lines) (Drop t) lines
-    (λ there. refl) (λ none. sym (none-dropped (about (Drop t)) lines none))
+    (λ there. refl) (λ none. sym (none-dropped _ _ none))
 edited-drop (Set s) lines e = absurd cc
 edited-drop (Add a) lines e = absurd cc

@@ -42,10 +42,9 @@ puts : {lines : List (Line Placed)} → IsSound lines → (edit : Edit) (new : D
     → IsPutIn new (held_from None lines) (held_from None (put_in edit lines))
 puts {lines} sound edit = by-put (λ edit after. (new : Directive) → put_by edit ≡ Some new → IsSoundEdit edit
     → is_there (about edit) None lines ≡ false → IsPutIn new (held_from None lines) (held_from None after)) lines
-    (λ path new put good none. module-there _ lines sound none)
-    (λ edit entry after is into new put good none.
-    let by = says edit entry is good in
-    into-said new (subst (IsAddition entry.0 entry.1) (same_Some _ _ (sym by.put ∙ put)) by.is) sound into)
+    (λ path new put good none. module-there _ _ sound none) (λ edit entry after is into new put good none.
+    let by = says _ _ is good in
+    into-said _ (subst (IsAddition entry.0 entry.1) (same_Some _ _ (sym by.put ∙ put)) by.is) sound into)
     (λ t new put good none. absurd cc) edit
 
 -- ---- what an operation doesn't target
@@ -59,9 +58,9 @@ changed-others : (edit : Edit) {lines : List (Line Placed)} → IsSoundEdit edit
     → filter (others (about edit)) (held_from None (with_change edit lines)) ≡ filter (others (about edit)) (held_from None lines)
 unfolding with_change
 changed-others (Set s) {lines} good fit sound = let by = renewal s good fit in
-    renewed-others (about (Set s)) (directive_set s) (made_new (Set s)) by.wanted.own by.made lines sound
+    renewed-others (about (Set s)) (directive_set s) (made_new (Set s)) by.wanted.own by.made _ sound
 changed-others (Add a) good fit sound = refl
-changed-others (Drop t) {lines} good fit sound = drop-others (about (Drop t)) lines (dropped-held (about (Drop t)) lines)
+changed-others (Drop t) {lines} good fit sound = drop-others _ _ (dropped-held (about (Drop t)) lines)
 
 put-in-others : (edit : Edit) {lines : List (Line Placed)} → IsSoundEdit edit → is_fit edit ≡ true → IsSound lines → is_there (about edit) None lines ≡ false
     → filter (others (about edit)) (held_from None (put_in edit lines)) ≡ filter (others (about edit)) (held_from None lines)
@@ -75,8 +74,7 @@ others-after : (edit : Edit) (lines : List (Line Placed)) → IsSoundEdit edit �
     → filter (others (about edit)) (held_from None (lines_after edit lines)) ≡ filter (others (about edit)) (held_from None lines)
 others-after edit lines good fit sound = by-edited (λ after.
     filter (others (about edit)) (held_from None after) ≡ filter (others (about edit)) (held_from None lines)) edit
-    lines
-    (λ there. changed-others edit good fit sound) (λ none. put-in-others edit good fit sound none)
+    lines (λ there. changed-others _ good fit sound) (λ none. put-in-others _ good fit sound none)
 
 -- ---- what an operation sets
 
@@ -86,7 +84,7 @@ changed-alone : (edit : Edit) {lines : List (Line Placed)} {d : Directive} → I
 unfolding with_change
 changed-alone (Set s) {lines} good fit sound there e =
     let by = renewal s good fit in
-    renewed-alone (about (Set s)) (directive_set s) (made_new (Set s)) by.wanted.own by.made lines sound there
+    renewed-alone _ (directive_set s) (made_new (Set s)) by.wanted.own by.made _ sound there
     ∙ ap (λ (x : Directive). x ∷ []) (same_Some _ _ e)
 changed-alone (Add a) good fit sound there e = absurd cc
 changed-alone (Drop t) good fit sound there e = absurd cc
@@ -96,8 +94,7 @@ put-in-once : (edit : Edit) {lines : List (Line Placed)} (d : Directive) → IsS
     → IsSound lines → is_there (about edit) None lines ≡ false → put_by edit ≡ Some d
     → filter (about edit) (held_from None (put_in edit lines)) ≡ d ∷ []
 put-in-once edit {lines} d good fit sound none e =
-    put-alone (about edit) d (wanted edit d e good fit).own
-    (sym (there-is (about edit) None lines) ∙ none) (puts sound edit d e good none)
+    put-alone _ d (wanted _ d e good fit).own (sym (there-is (about edit) None lines) ∙ none) (puts sound _ d e good none)
 
 pub set-put : (edit : Edit) {d : Directive} → set_by edit ≡ Some d → put_by edit ≡ Some d
 set-put (Set s) e = e
@@ -112,7 +109,7 @@ added-put-by (Drop t) e = absurd cc
 alone-after : (edit : Edit) (lines : List (Line Placed)) (d : Directive) → IsSoundEdit edit → is_fit edit ≡ true → IsSound lines → set_by edit ≡ Some d
     → filter (about edit) (held_from None (lines_after edit lines)) ≡ d ∷ []
 alone-after edit lines d good fit sound e = by-edited (λ after. filter (about edit) (held_from None after) ≡ d ∷ []) edit lines
-    (λ there. changed-alone edit good fit sound there e) (λ none. put-in-once edit d good fit sound none (set-put edit e))
+    (λ there. changed-alone _ good fit sound there e) (λ none. put-in-once _ d good fit sound none (set-put _ e))
 
 -- ---- what an operation adds
 
@@ -131,42 +128,41 @@ added-after edit lines d good fit sound e = by-edited (λ after.
     filter (about edit) (held_from None after) ≡ once_or_as_before edit d (held_from None lines)) edit lines
     (λ there.
     let any : list_any (about edit) (held_from None lines) ≡ true = sym (there-is (about edit) None lines) ∙ there in
-    rw (any, addition-changes-nothing edit lines e))
-    (λ none.
+    rw (any, addition-changes-nothing _ lines e)) (λ none.
     let absent : list_any (about edit) (held_from None lines) ≡ false = sym (there-is (about edit) None lines) ∙ none in
-    rw absent (put-in-once edit d good fit sound none (added-put-by edit e)))
+    rw absent (put-in-once _ d good fit sound none (added-put-by _ e)))
 
 -- ---- the laws
 
 pub sound-of : (edit : Edit) (lines : List (Line Placed)) → IsEditOf edit lines → IsSoundEdit edit × IsSound lines
-sound-of edit lines is = (written-sound is.0.0 edit is.0.1, document-sound lines is.2 is.3)
+sound-of edit lines is = (written-sound _ _ is.0.1, document-sound _ is.2 is.3)
 
 pub dropped-is-gone : DroppedIsGone
 dropped-is-gone = λ edit lines e.
-    rw (file-held (lines_after edit lines), edited-drop edit lines e, dropped-held (about edit) lines) (others-none (about edit) (held_from None lines))
+    rw (file-held (lines_after edit lines), edited-drop _ lines e, dropped-held (about edit) lines) (others-none (about edit) (held_from None lines))
 
 pub set-stands-alone : SetStandsAlone
 set-stands-alone = λ edit lines d is e.
-    let sound = sound-of edit lines is in
-    rw (file-held (lines_after edit lines)) (alone-after edit lines d sound.0 is.1 sound.1 e)
+    let sound = sound-of _ _ is in
+    rw (file-held (lines_after edit lines)) (alone-after _ _ d sound.0 is.1 sound.1 e)
 
 pub added-is-there : AddedIsThere
 added-is-there = λ edit lines d is e.
-    let sound = sound-of edit lines is in
-    rw (file-held (lines_after edit lines), file-held lines) (added-after edit lines d sound.0 is.1 sound.1 e)
+    let sound = sound-of _ _ is in
+    rw (file-held (lines_after edit lines), file-held lines) (added-after _ _ d sound.0 is.1 sound.1 e)
 
 pub others-stay : OthersStay
 others-stay = λ edit lines is.
-    let sound = sound-of edit lines is in
-    rw (file-held (lines_after edit lines), file-held lines) (others-after edit lines sound.0 is.1 sound.1)
+    let sound = sound-of _ _ is in
+    rw (file-held (lines_after edit lines), file-held lines) (others-after _ _ sound.0 is.1 sound.1)
 
 -- ---- operations with nothing to do
 
 pub idle-drop : IdleDropChangesNothing
-idle-drop edit lines drop none = edited-drop edit lines drop ∙ none-dropped (about edit) lines (there-said (about edit) lines ∙ none)
+idle-drop edit lines drop none = edited-drop _ lines drop ∙ none-dropped _ _ (there-said (about edit) lines ∙ none)
 
 pub idle-addition : IdleAdditionChangesNothing
-idle-addition edit lines d adds some = by-edited (λ after. after ≡ lines) edit lines (λ there. addition-changes-nothing edit lines adds)
+idle-addition edit lines d adds some = by-edited (λ after. after ≡ lines) edit lines (λ there. addition-changes-nothing _ lines adds)
     (λ absent. absurd (true≢false (sym some ∙ sym (there-said (about edit) lines) ∙ absent)))
 
 pub second-drop : SecondDropChangesNothing

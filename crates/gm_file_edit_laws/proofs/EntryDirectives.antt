@@ -62,7 +62,7 @@ into-said {v} {arguments} new so sound put =
       is =
           rw (put.is, held-append None put.front (gap_lines put.gap ++ entry ∷ put.back), gap-held put.gap block (entry ∷ put.back))
           (ap (λ (ds : List Directive). held_from None put.front ++ ds)
-          (fits-held new put.back (into-fits v block put.inside so (put.fits sound.closed))));
+          (fits-held _ put.back (into-fits v _ _ so (put.fits sound.closed))));
     }
 
 pub put-others : (test : Directive → Bool) {new : Directive} {before after : List Directive} → test new ≡ true
@@ -72,7 +72,7 @@ put-others test {new} own put = rw (
   put.was,
   filter-append (others test) put.front (new ∷ put.back),
   filter-append (others test) put.front put.back,
-  filter-none (others test) new put.back (ap not own),
+  filter-none _ _ put.back (ap not own),
 )
 
 pub put-alone : (test : Directive → Bool) (new : Directive) {before after : List Directive} → test new ≡ true

@@ -6,7 +6,6 @@ use Rattle.std.proofs.lemmas.Bool.{cases_Bool, false≢true, or_parts}
 use Rattle.gm_syntax.specs.Tokens.{Placed}
 use Rattle.gm_syntax.specs.Document.{Line, Blank, Comment, Open, Close, Entry}
 use Rattle.gm_file.specs.Directives.{Directive, LineInBlock, block_after_line, block_after_lines, item_at, with_blocks_from}
-use Rattle.gm_file.specs.Faults.{is_module}
 use Rattle.gm_file_edit.specs.Edits.{Edit, Set, Setting, ModuleIs, GoIs, RequireAt, Drop, Add, ReplaceWith, Exclude, Retract}
 use Rattle.gm_file_edit.specs.About.{about}
 use Rattle.gm_file_edit.specs.Edited.{with_change, lines_after, put_in}
@@ -69,7 +68,7 @@ module _ (test : Directive → Bool) (new : Rewriting) where
   none-set : (block : Option Placed) (lines : List (Line Placed)) → is_there test block lines ≡ false → LinesAreSet block lines
   none-set block [] none = tt
   none-set block (line ∷ lines) none =
-      let parts = or_parts (passes test (directive_at block line)) (is_there test (block_after_line block line) lines) none in
+      let parts = or_parts _ _ none in
       (missed block line parts.0, none-set (block_after_line block line) lines parts.1)
 
   -- ---- the lines that a setting leaves, if it targets some
@@ -94,21 +93,21 @@ module _ (test : Directive → Bool) (new : Rewriting) where
   dropping-set : (block : Option Placed) (lines : List (Line Placed)) → LinesAreSet block (kept_lines (dropping_from test block lines))
   dropping-set block [] = tt
   dropping-set block (line ∷ lines) = elim (cases_Bool (passes test (directive_at block line))) [
-    | inl hit ↦ rw (hit, passing-level test block line hit) (dropping-set block lines)
-    | inr miss ↦ rw miss (missed block line miss, dropping-set (block_after_line block line) lines)
+    | inl hit ↦ rw (hit, passing-level _ _ _ hit) (dropping-set block lines)
+    | inr miss ↦ rw miss (missed _ _ miss, dropping-set (block_after_line block line) lines)
   ]
 
   renewing-set : IsSetting → (block : Option Placed) (lines : List (Line Placed)) → LinesAreSet block (kept_lines (renewing_from test new block lines))
   renewing-set sets block [] = tt
   renewing-set sets block (line ∷ lines) = elim (cases_Bool (passes test (directive_at block line))) [
     | inl hit ↦
-        let set = hit-sets sets block line hit in
-        rw (hit, set.0, passing-level test block line hit) ((λ e. set.1), dropping-set block lines)
-    | inr miss ↦ rw miss (missed block line miss, renewing-set sets (block_after_line block line) lines)
+        let set = hit-sets sets _ _ hit in
+        rw (hit, set.0, passing-level _ _ _ hit) ((λ e. set.1), dropping-set block lines)
+    | inr miss ↦ rw miss (missed _ _ miss, renewing-set sets (block_after_line block line) lines)
   ]
 
   remaining-set : IsSetting → (lines : List (Line Placed)) → LinesAreSet None (remaining (renewing_from test new None lines))
-  remaining-set sets lines = fewer-all IsSet (remaining-left (renewing_from test new None lines)).0 (renewing-set sets None lines)
+  remaining-set sets lines = fewer-all _ (remaining-left (renewing_from test new None lines)).0 (renewing-set sets None lines)
 
   -- ---- the lines that a setting leaves, if it targets none
 
@@ -119,9 +118,9 @@ module _ (test : Directive → Bool) (new : Rewriting) where
       → LinesAreSet block (front ++ (more ++ back))
   inserted-set block [] more back none are level =
       rw (with_blocks-snoc block more back)
-      (set-append (with_blocks_from block more) (with_blocks_from (block_after_lines block more) back) are (rw level (none-set block back none)))
+      (set-append _ (with_blocks_from (block_after_lines block more) back) are (rw level (none-set _ _ none)))
   inserted-set block (line ∷ front) more back none are level =
-      let parts = or_parts (passes test (directive_at block line)) (is_there test (block_after_line block line) (front ++ back)) none in
+      let parts = or_parts _ _ none in
       (missed block line parts.0, inserted-set (block_after_line block line) front more back parts.1 are level)
 
   -- an entry that is put in
@@ -137,8 +136,7 @@ module _ (test : Directive → Bool) (new : Rewriting) where
       → IsSound lines → is_there test None lines ≡ false → IsPutInto v arguments lines after → LinesAreSet None after
   into-set {v} {arguments} is sound none put =
       let block = block_after_lines None put.front in
-      rw put.is
-      (gap-set put.gap put.front put.back (entry_at put.inside v arguments) (rw put.was at none)
+      rw put.is (gap-set put.gap _ _ _ (rw put.was at none)
       (rw (← (put.fits sound.closed).0) (is block)) (entry-level block put.inside v arguments))
 
   -- ---- such lines stay, if only one of them is targeted
@@ -159,7 +157,7 @@ module _ (test : Directive → Bool) (new : Rewriting) where
 
   stays : (d : Directive) (lines : List (Line Placed)) → LinesAreSet None lines → filter test (held_from None lines) ≡ d ∷ []
       → remaining (renewing_from test new None lines) ≡ lines
-  stays d lines are alone = rw (renewing-stays d None lines are alone) (all-lines-stay lines)
+  stays d lines are alone = rw (renewing-stays d _ _ are alone) (all-lines-stay lines)
 
 -- ---- rewriting twice
 
@@ -211,20 +209,19 @@ entry-set edit e = rw e at (put-entry-set edit)
 put-set : (lines : List (Line Placed)) → IsSound lines → (edit : Edit) → is_there (about edit) None lines ≡ false
     → LinesAreSet (about edit) (made_new edit) None (put_in edit lines)
 put-set lines sound = by-put (λ edit after. is_there (about edit) None lines ≡ false → LinesAreSet (about edit) (made_new edit) None after) lines
-    (λ path none. none-set is_module (with_last path) None lines none)
-    (λ edit entry after is put none. into-set (about edit) (made_new edit) (entry-set edit is) sound none put)
-    (λ t none. none-set (about (Drop t)) (made_new (Drop t)) None lines none)
+    (λ path none. none-set _ (with_last path) _ _ none) (λ edit entry after is put none. into-set _ _ (entry-set _ is) sound none put)
+    (λ t none. none-set _ (made_new (Drop t)) _ _ none)
 
 edited-set : (edit : Edit) (lines : List (Line Placed)) (d : Directive) → set_by edit ≡ Some d → IsSound lines
     → LinesAreSet (about edit) (made_new edit) None (lines_after edit lines)
 edited-set edit lines d sets sound = by-edited (LinesAreSet (about edit) (made_new edit) None) edit lines
-    (λ there. changed-set edit lines sets) (λ none. put-set lines sound edit none)
+    (λ there. changed-set _ lines sets) (λ none. put-set _ sound _ none)
 
 again-changes : (edit : Edit) (lines : List (Line Placed)) (d : Directive) → set_by edit ≡ Some d
     → LinesAreSet (about edit) (made_new edit) None lines → filter (about edit) (held_from None lines) ≡ d ∷ []
     → with_change edit lines ≡ lines
 unfolding with_change
-again-changes (Set s) lines d sets are alone = stays (about (Set s)) (made_new (Set s)) d lines are alone
+again-changes (Set s) lines d sets are alone = stays _ (made_new (Set s)) d _ are alone
 again-changes (Drop t) lines d sets are alone = absurd cc
 again-changes (Add a) lines d sets are alone = absurd cc
 
@@ -233,10 +230,10 @@ again-changes (Add a) lines d sets are alone = absurd cc
 pub second-setting : SecondSettingChangesNothing
 second-setting edit lines d is sets =
     let after = lines_after edit lines in
-    let alone : filter (about edit) (directives_of after) ≡ d ∷ [] = set-stands-alone edit lines d is sets in
+    let alone = set-stands-alone edit lines d is sets in
     let there : is_there (about edit) None after ≡ true = rw (there-said (about edit) after, any-filled (about edit) (directives_of after), alone) in
     by-edited (λ ls. ls ≡ after) edit after
-    (λ e. again-changes edit after d sets (edited-set edit lines d sets (document-sound lines is.2 is.3)) (rw (file-held after) at alone))
+    (λ e. again-changes _ _ d sets (edited-set _ _ d sets (document-sound _ is.2 is.3)) (rw (file-held after) at alone))
     (λ none. absurd (false≢true (sym none ∙ there)))
 
 pub second-operation : SecondOperationChangesNothing

@@ -22,7 +22,7 @@ use Rattle.gm_file_edit_laws.specs.Laws.{directives_of}
 use Rattle.gm_file_edit.specs.NewWords.{entry_at, single}
 use Rattle.gm_file_edit_laws.specs.Undone.{DropUndoes, DropUndoesForLayout, undone_by}
 use Rattle.gm_file_edit_laws.proofs.Additions.{edited-added}
-use Rattle.gm_file_edit.proofs.Insertions.{Fits, IsAddition, entry-fits, added-after-last, added-at-end, entry_put, last-one, passing-level, passing-verb, there-append}
+use Rattle.gm_file_edit.proofs.Insertions.{IsAddition, entry-fits, added-after-last, added-at-end, entry_put, last-one, passing-level, passing-verb, there-append}
 use Rattle.gm_file_edit.proofs.EditedSound.{says}
 use Rattle.gm_file_edit.proofs.Filters.{fewer-any}
 use Rattle.gm_file_edit.proofs.Renewals.{pair-itself, put_by}
@@ -42,9 +42,9 @@ one-gone : (test : Directive → Bool) (block : Option Placed) (front back : Lis
     → passes test (directive_at (block_after_lines block front) entry) ≡ true
     → dropping_from test block (front ++ entry ∷ back) ≡ all_stay front ++ None ∷ all_stay back
 one-gone test block [] back entry none hit =
-    let level : block_after_line block entry ≡ block = passing-level test block entry hit in
+    let level = passing-level _ _ _ hit in
     let held : passes test (directive_at block entry) ≡ true = hit in
-    rw (held, level, none-dropped-from test block back none)
+    rw (held, level, none-dropped-from _ _ _ none)
 one-gone test block (line ∷ front) back entry none hit =
     let parts = or_parts (passes test (directive_at block line)) (is_there test (block_after_line block line) (front ++ back)) none in
     rw (parts.0, one-gone test (block_after_line block line) front back entry parts.1 hit)
@@ -59,8 +59,8 @@ next-gone words suffix back inside = rw (all-lines-left inside back)
 gone-behind : (words : List Placed) (suffix : Option (List ℕ)) (front back : List (Line Placed))
     → remaining (all_stay front ++ Some (Entry words suffix) ∷ None ∷ all_stay back) ≡ front ++ Entry words suffix ∷ back
 unfolding remaining
-gone-behind words suffix front back = stay-before (Some (Entry words suffix) ∷ None ∷ all_stay back)
-    (Entry words suffix ∷ back) refl (next-gone words suffix back) false front
+gone-behind words suffix front back = stay-before _
+    _ refl (next-gone words suffix back) false front
 
 -- the last line is removed
 last-gone : (front : List (Line Placed)) → remaining (all_stay front ++ None ∷ []) ≡ front
@@ -88,9 +88,9 @@ behind-entry : (test : Directive → Bool) (v : List ℕ) {arguments : List Plac
 behind-entry test v {arguments} new front back line so own none hit =
     let block = block_after_lines None front in
     let entry = entry_at (is_some block) v arguments in
-    let fits : Fits block new entry = entry-fits block (passing-verb v block line (directive_at block line) refl hit) so in
-    let behind : block_after_lines None (front ++ line ∷ []) ≡ block = block-append None front (line ∷ []) ∙ passing-level (has_verb v) block line hit in
-    let is = holds-entry (has_verb v) block line hit in
+    let fits = entry-fits _ (passing-verb v block line _ refl hit) so in
+    let behind : block_after_lines None (front ++ line ∷ []) ≡ block = block-append None front (line ∷ []) ∙ passing-level _ _ _ hit in
+    let is = holds-entry _ _ _ hit in
     rw (
       ← append_assoc front (line ∷ []) (entry ∷ back),
       one-gone test None (front ++ line ∷ []) back entry (rw (append_assoc front (line ∷ []) back) none) (rw (behind, fits.holds) own),
@@ -108,11 +108,11 @@ at-end : (test : Directive → Bool) (v : List ℕ) (arguments : List Placed) (n
     → IsAddition v arguments new → test new ≡ true
     → is_there test None lines ≡ false → IsSound lines → without_targets test (lines ++ Blank ∷ single v arguments ∷ []) ≡ lines ++ Blank ∷ []
 at-end test v arguments new lines so own none sound =
-    let front : List (Line Placed) = lines ++ Blank ∷ [] in
+    let front = lines ++ Blank ∷ [] in
     let entry = single v arguments in
-    let fits : Fits None new entry = entry-fits None tt so in
+    let fits = entry-fits None tt so in
     let outside : block_after_lines None front ≡ None = block-append None lines (Blank ∷ []) ∙ sound.closed in
-    let absent : is_there test None (front ++ []) ≡ false = rw (append-nil front) (blank-none test lines none) in
+    let absent : is_there test None (front ++ []) ≡ false = rw (append-nil front) (blank-none _ _ none) in
     rw (← append_assoc lines (Blank ∷ []) (entry ∷ []), one-gone test None front [] entry absent (rw (outside, fits.holds) own)) (last-gone front)
 
 added-undone : (test : Directive → Bool) (v : List ℕ) {arguments : List Placed} {new : Directive}
@@ -121,10 +121,10 @@ added-undone : (test : Directive → Bool) (v : List ℕ) {arguments : List Plac
     → without_targets test (with_addition v arguments lines) ≡ (if is_there (has_verb v) None lines then lines else lines ++ Blank ∷ [])
 added-undone test v {arguments} {new} {lines} so own none sound = elim (cases_Bool (is_there (has_verb v) None lines)) [
   | inl there ↦
-      let is = last-one (has_verb v) None lines there in
-      rw (there, is.parts, added-after-last v arguments is.front is.back is.line is.hit is.later)
-      (behind-entry test v new is.front is.back is.line so own (rw is.parts at none) is.hit)
-  | inr without ↦ rw (without, added-at-end v arguments lines without) (at-end test v arguments new lines so own none sound)
+      let is = last-one _ _ _ there in
+      rw (there, is.parts, added-after-last v arguments _ _ _ is.hit is.later)
+      (behind-entry _ v _ _ _ _ so own (rw is.parts at none) is.hit)
+  | inr without ↦ rw (without, added-at-end v arguments _ without) (at-end _ v _ _ _ so own none sound)
 ]
 
 -- ---- the operations
@@ -166,14 +166,14 @@ new-put edit e = e
 
 pub drop-undoes : DropUndoes
 drop-undoes edit undo verb arguments lines is adds undoes none =
-    let sound = sound-of edit lines is in
-    let by = says edit (verb, arguments) (new-put edit adds) sound.0 in
-    let u = undoing edit undoes in
+    let sound = sound-of _ _ is in
+    let by = says _ _ (new-put _ adds) sound.0 in
+    let u = undoing _ undoes in
     let own = rw (same_Some _ _ (sym u.puts ∙ by.put)) at u.own in
     let absent : is_there (about undo) None lines ≡ false =
-    rw (there-said (about undo) lines) (fewer-any (about edit) (about undo) u.fewer (directives_of lines) none) in
-    rw (edited-drop undo (lines_after edit lines) u.drops, edited-added edit lines adds none, ← there-said (has_verb verb) lines)
-    (added-undone (about undo) verb by.is own absent sound.1)
+    rw (there-said (about undo) lines) (fewer-any _ _ u.fewer _ none) in
+    rw (edited-drop _ (lines_after edit lines) u.drops, edited-added _ _ adds none, ← there-said (has_verb verb) lines)
+    (added-undone _ _ by.is own absent sound.1)
 
 -- ---- the layout
 
@@ -191,5 +191,5 @@ either-layout false lines = rw (map-append plain lines (Blank ∷ [])) (blank-en
 
 pub drop-undoes-layout : DropUndoesForLayout
 drop-undoes-layout edit undo lines is undoes none =
-    let u = undoing edit undoes in
+    let u = undoing _ undoes in
     rw (drop-undoes edit undo u.entry.0 u.entry.1 lines is u.adds undoes none) (either-layout (list_any (has_verb u.entry.0) (directives_of lines)) lines)
