@@ -8,8 +8,8 @@
 
 An example is a block of lines that are indented by four spaces, the first of which begins `$ `: each such line is a
 command of a shell, and the lines up to the next one are what it prints, on both streams. All blocks of a document run
-in one shell: in bash in their order and backwards, and in zsh if it is installed. A block that only makes a scratch
-folder (`NAME=$(mktemp -d)`) is the first in both. They run at the top of a scratch folder with the files of the
+in one shell: in bash in their order, and backwards in zsh, or in bash if there is no zsh. A block that only makes a
+scratch folder (`NAME=$(mktemp -d)`) is the first in both. They run at the top of a scratch folder with the files of the
 repository, which they have to leave as it was, and with bin/ on the PATH. A block is skipped if it, or a script that it
 runs, calls bwrap, curl, dot, git, jq or vim and there is no such command, or bwrap may not make a sandbox.
 
@@ -38,20 +38,27 @@ import subprocess
 import tempfile
 
 import script
+from case_files import content_of
 from completions import HOSTILE
 from script import Tally, read, run_within, write
 
 SECONDS = 300
 OPTIONAL = ("bwrap", "curl", "dot", "git", "jq", "vim")
 COPIED = ("README.md", "CHANGELOG.md", "docs", "example", "share")
-# The passes over a document: what they are called, the shell, and in which steps its blocks are taken.
-PASSES = (("in order", ["bash", "-c"], 1), ("backwards", ["bash", "-c"], -1), ("in zsh", ["zsh", "-f", "-c"], 1))
-# What users paste into a shell that they type in.
+BASH, ZSH = ["bash", "-c"], ["zsh", "-f", "-c"]
+# what users paste into a shell that they type in
 PASTED = r"README\.md|docs/use/\w+\.md"
-# The section whose program is compiled, how many lines that may have, and its source.
-PROGRAM_SECTION = r"(?ms)^## A whole program\n.*?(?=^## |\Z)"
-PROGRAM_LINES, PROGRAM_SOURCE = 40, "crates/library_example/src/main.rt"
+# the section whose program is compiled: commands that make a crate, the program, and an example that runs it
+SECTION = r"(?ms)^## A whole program\n.*?(?=^## |\Z)"
+INDENTED = r"((?:^    [^\n]*\n)+)"
+PROGRAM = rf"(?ms){INDENTED}.*?^```rust\n(//!.*?)^```$.*?{INDENTED}"
+PROGRAM_LINES = 40  # how many it may have
 SANDBOX = ["bwrap", "--unshare-all", "--ro-bind", "/", "/", "true"]
+
+
+def blanked(pattern, text):
+    """A text without what a pattern matches, whose lines keep their numbers."""
+    return re.sub(pattern, lambda it: "\n" * it[0].count("\n"), text)
 
 
 def number_at(text, place):
@@ -64,6 +71,10 @@ def blocks(text):
         if block[0].startswith("    $ "):
             yield [(number_at(text, block.start() + it.start()), it[1], re.sub("(?m)^    ", "", it[2]))
                    for it in re.finditer(r"(?m)^    \$ (.*)\n((?:(?!    \$ ).*\n)*)", block[0])]
+
+
+def only_makes_a_folder(block):
+    return all(re.fullmatch(r"\w+=\$\(mktemp -d\)", command) for _, command, _ in block)
 
 
 def absent(commands):
@@ -81,15 +92,9 @@ def is_there(command):
 
 
 def files_in(room):
-    """What a folder has: each folder, link and file below it, with its bytes."""
-    found = {}
-    for folder, folders, names in os.walk(room):
-        for path in (os.path.join(folder, it) for it in [*folders, *names]):
-            is_link, is_folder = os.path.islink(path), os.path.isdir(path)
-            found[os.path.relpath(path, room)] = (
-                os.readlink(path) if is_link else "a folder" if is_folder else
-                read(path) if os.path.isfile(path) else "a pipe")
-    return found
+    """What a folder has: each folder, link and file below it, with its content."""
+    paths = [os.path.join(folder, it) for folder, folders, names in os.walk(room) for it in [*folders, *names]]
+    return {os.path.relpath(it, room): content_of(it, os.lstat(it)) for it in paths}
 
 
 @contextlib.contextmanager
@@ -124,15 +129,6 @@ def lay_stranger(room):
         os.symlink(f"{room}/outside/{name}", f"{room}/top/stranger/{name}")
 
 
-def printed(commands, shell, program, folder):
-    """What each command prints, in one shell, with the folder of the program on its PATH."""
-    text = "".join(f"ended=$?; printf '\\036'; (exit $ended)\n{it}\n" for it in commands)
-    path = f"{program}:{os.environ['PATH']}"
-    ran = run_within([*shell, text], SECONDS, cwd=f"{folder}/top", stdin=subprocess.DEVNULL, stdout=subprocess.PIPE,
-                     stderr=subprocess.STDOUT, env={**os.environ, "PATH": path, "TMPDIR": f"{folder}/tmp"})
-    return ran.stdout.decode("utf-8", "replace").split("\036")[1:]
-
-
 def quoted(text):
     return "".join(f"      {line}\n" for line in text.splitlines()) or "      (nothing)\n"
 
@@ -145,39 +141,47 @@ class Documents:
         self.tally = Tally()
         self.skipped = collections.Counter()
 
+    def run(self, commands, shell, lay=lambda room: None):
+        """Runs commands in one shell and a fresh room: what each prints, all files then, and what of them changed."""
+        text = "".join(f"ended=$?; printf '\\036'; (exit $ended)\n{it}\n" for it in commands)
+        with scratch_room() as room:
+            lay(room)
+            before = files_in(room)
+            ran = run_within([*shell, text], SECONDS, cwd=f"{room}/top", stdin=subprocess.DEVNULL,
+                             stdout=subprocess.PIPE, stderr=subprocess.STDOUT, env={
+                                 **os.environ, "PATH": f"{self.program}:{os.environ['PATH']}", "TMPDIR": f"{room}/tmp"})
+            after = files_in(room)
+        changed = [it for it in {*before, *after} if before.get(it) != after.get(it) and not it.startswith("tmp/")]
+        return ran.stdout.decode("utf-8", "replace").split("\036")[1:], after, changed
+
     def run_examples(self, name, text):
-        """Runs the examples of a document, all in one shell, in each of the passes."""
+        """Runs the examples of a document, all in one shell, in order and backwards."""
         found, wrong = [], set()
         for block in blocks(text):
             if lacking := absent([command for _, command, _ in block]):
                 self.skipped[", ".join(lacking)] += len(block)
             else:
                 found.append(block)
-        set_up = [it for it in found if all(re.fullmatch(r"\w+=\$\(mktemp -d\)", command) for _, command, _ in it)]
-        for title, shell, step in PASSES if found else ():
-            if shutil.which(shell[0]):
-                order = [*set_up, *(it for it in found[::step] if it not in set_up)]
-                wrong |= self.run_pass(f"{name} ({title})", [it for block in order for it in block], shell)
-            else:
+        for title, shell, step in (("in order", BASH, 1), ("backwards", ZSH, -1)) if found else ():
+            if not shutil.which(shell[0]):
                 self.skipped[shell[0]] += sum(map(len, found))
+                shell = BASH
+            order = sorted(found[::step], key=only_makes_a_folder, reverse=True)
+            wrong |= self.run_pass(f"{name} ({title}, in {shell[0]})", [it for block in order for it in block], shell)
         self.tally["examples", True] += sum(map(len, found)) - len(wrong)
         self.tally["examples", False] += len(wrong)
 
-    def run_pass(self, name, commands, shell):
-        """Runs commands in a shell. It gives the lines of those that print something else."""
+    def run_pass(self, name, examples, shell):
+        """Runs examples in a shell. It gives the lines of those that print something else."""
         wrong = set()
-        with scratch_room() as folder:
-            before = files_in(f"{folder}/top")
-            got = printed([command for _, command, _ in commands], shell, self.program, folder)
-            after = files_in(f"{folder}/top")
-        got += ["(it did not run)\n"] * (len(commands) - len(got))
-        for (number, command, wanted), came in zip(commands, got):
+        got, _, changed = self.run([command for _, command, _ in examples], shell)
+        got += ["(it did not run)\n"] * (len(examples) - len(got))
+        for (number, command, wanted), came in zip(examples, got):
             if came != wanted:
                 wrong.add(number)
                 print(f"{name}:{number}: $ {command}\n    prints\n{quoted(came)}", end="")
                 print(f"    and should print\n{quoted(wanted)}", end="")
-        changed = sorted(it for it in {*before, *after} if before.get(it) != after.get(it))
-        message = f"{name}: the examples leave changed: {', '.join(changed)}"
+        message = f"{name}: the examples leave changed: {', '.join(sorted(changed))}"
         self.tally.tell("folders left as they were", not changed, message)
         return wrong
 
@@ -192,12 +196,7 @@ class Documents:
                      "example/fetch-missing.sh stranger/go.mod $scratch/linked file://$PWD/example/cache/download"]
         # without a prompt, but writing a file
         commands += [f"cp $TMPDIR && cd $TMPDIR && {it}" for it in re.findall(r"(?m)^    (\w.* > .*)", text)]
-        with scratch_room() as room:
-            lay_stranger(room)
-            before = files_in(room)
-            got = printed(commands, ["bash", "-c"], self.program, room)
-            after = files_in(room)
-        wrong = [it for it in {*before, *after} if before.get(it) != after.get(it) and not it.startswith("tmp/")]
+        got, after, wrong = self.run(commands, BASH, lay_stranger)
         wrong += [it for it in after if it.endswith("/ran")] + commands[len(got):]
         fetched, there = ({it.split(place)[1]: after[it] for it in after if re.search(rf"{place}.*\.mod$", it)}
                           for place in ("/mods/", "top/example/cache/download/"))
@@ -212,17 +211,14 @@ class Documents:
             self.tally.tell("lines without a prompt", not re.search(r"\S\s+# ", it[1]), message)
 
     def compare_code(self, name, text):
-        """Whether each piece of code is in a source of the crate that is named before it, and the whole program is that
-        of library_example. A piece that follows another at once is of the same crate."""
-        crate, ends = "", 0
+        """Whether each piece of code is in a source of the crate that was named last before it, and the whole program
+        in library_example."""
         for found in re.finditer(r"(?ms)^```rust\n(.*?)^```$", text):
-            before, ends = text[ends:found.start()].strip(), found.end()
-            if before:
-                crate = re.search(r"\bFrom (\w+):\Z|$", before)[1]
-            place = PROGRAM_SOURCE if found[1].startswith("//!") else crate and f"crates/{crate}/src/**/*.rt"
-            is_right = place and any(found[1] in read(it) for it in glob.glob(place, recursive=True))
-            wrong = f"this code is not in {place}" if place else "no `From CRATE:` stands before this code"
-            self.tally.tell("pieces of code", is_right, f"{name}:{number_at(text, found.start())}: {wrong}")
+            crates = re.findall(r"(?m)\bFrom (\w+):$", text[:found.start()]) or [""]
+            crate = "library_example" if found[1].startswith("//!") else crates[-1]
+            is_right = any(found[1] in read(it) for it in glob.glob(f"crates/{crate}/src/**/*.rt", recursive=True))
+            message = f"{name}:{number_at(text, found.start())}: this code is not in crates/{crate}"
+            self.tally.tell("pieces of code", is_right, message)
 
     def follow_links(self, name, text):
         """Whether each link to a file, or to a heading of one, leads there."""
@@ -234,31 +230,26 @@ class Documents:
 
 def anchors(path):
     """The headings of a page, as links have them."""
-    headings = re.findall(r"(?m)^#+ (.*)", re.sub(r"(?ms)^```.*?^```", "", read(path))) if path.endswith(".md") else []
+    headings = re.findall(r"(?m)^#+ (.*)", blanked(r"(?ms)^```.*?^```", read(path))) if path.endswith(".md") else []
     return {re.sub(r"[^\w\- ]", "", it.lower()).replace(" ", "-") for it in headings}
 
 
 def problem_of(text):
-    """What is wrong with the whole program of a page, or an empty text.
-
-    Its section has three parts: indented commands that make a crate, the program, and an example that runs it, of which
-    standard output is compared. They run in a folder outside the repository, in which gomod is a link to it.
-    """
-    section = re.search(PROGRAM_SECTION, text)
-    indented = r"((?:^    [^\n]*\n)+)"
-    parts = section and re.search(rf"(?ms){indented}.*?^```rust\n(//!.*?)^```$.*?{indented}", section[0])
+    """What is wrong with the whole program of a page, or an empty text. Its commands run in a folder outside the
+    repository, in which gomod is a link to it, and the standard output of the last is compared."""
+    section = re.search(SECTION, text)
+    parts = section and re.search(PROGRAM, section[0])
     if not parts:
         return "there are no commands, no program or no run"
     make, run, program = *(re.sub(r"(?m)^    ", "", parts[it]) for it in (1, 3)), parts[2]
     code = [it for it in program.split("\n") if it.strip() and not re.match(r"\s*//|(?:ghost )?use ", it)]
     if len(code) > PROGRAM_LINES:
         return f"the program has {len(code)} lines outside use, blank lines and comments; {PROGRAM_LINES} are the most"
-    command, _, wanted = run.partition("\n")
+    command, _, wanted = run.removeprefix("$ ").partition("\n")
     with tempfile.TemporaryDirectory(prefix="gomod-library-") as folder:
         os.symlink(os.path.abspath("."), f"{folder}/gomod")
-        command = command.removeprefix("$ ")
         steps = f"set -eu\nexec 3>&1 > /dev/null\n{make}cat > crates/hello/src/main.rt\nexec >&3\n{command}\n"
-        ran = subprocess.run(["bash", "-c", steps], cwd=folder, input=program, text=True, capture_output=True,
+        ran = subprocess.run([*BASH, steps], cwd=folder, input=program, text=True, capture_output=True,
                              env={**os.environ, "TMPDIR": folder})
     return "" if (ran.returncode, ran.stdout) == (0, wanted) else f"it prints\n{quoted(ran.stdout + ran.stderr)}"
 
@@ -271,20 +262,19 @@ def main(*names):
         os.chdir(f"{names[1]}/share/doc/gomod")
     else:
         script.need_gomod()
-    names = () if is_archive else names[is_quick:]
+    names, has_sources = () if is_archive else names[is_quick:], os.path.isdir("crates")
     for name in names or ["README.md", "CHANGELOG.md", *sorted(glob.glob("docs/**/*.md", recursive=True))]:
         text = read(name)
-        # the whole program runs elsewhere, and leaves its lines here, so that others keep their numbers
-        documents.run_examples(name, re.sub(PROGRAM_SECTION, lambda it: "\n" * it[0].count("\n"), text))
+        documents.run_examples(name, blanked(SECTION, text))
+        documents.follow_links(name, text)
         if re.fullmatch(PASTED, name):
             documents.find_comments(name, text)
-        if os.path.basename(name) == "LIBRARY.md" and os.path.isdir("crates"):
+        if os.path.basename(name) == "LIBRARY.md" and has_sources:
             documents.compare_code(name, text)
             if not is_quick:
                 wrong = problem_of(text)
                 documents.tally.tell("programs", not wrong, f"{name}: the whole program: {wrong}")
-        documents.follow_links(name, text)
-    if not names and os.path.isdir("crates"):
+    if not names and has_sources:
         documents.run_on_stranger()
     status = documents.tally.status()
     for tools, number in sorted(documents.skipped.items()):
