@@ -1,14 +1,13 @@
 """Compares docs/use/MESSAGES.md with what gomod says, for tools/documents.py.
 
-Its first table has each line that gomod writes to standard error, once, with its status; its bullets have the KINDs of
-a go.mod. What a case prints is in the table and in the command's help, and each line of the table and each KIND is
-printed by a case. Each line of help and of the man page is in the table, and the man page's stand for all of them. A
-KIND of line 0 has no other line, and the KINDs that its bullet on `Malformed` rules out are those that no case prints
-so. The KINDs of directives are in the order in which the first is reported. A checksum tells if a row or a bullet changes
-in one of the three.
+Its first table has each line that gomod writes to standard error, with its status; its bullets have the KINDs of a
+go.mod. What a case prints is in the table and in the command's help, and each line of the table and each KIND is
+printed by a case. A KIND of line 0 has no other line, and the KINDs that its bullet on `Malformed` rules out are those
+that no case prints so. The KINDs of directives are in the order in which the first is reported. That the table, help's
+errors and the man page's diagnostics say the same is for whoever reads them: a checksum of all three tells if one
+changed.
 """
 
-import collections
 import glob
 import re
 
@@ -39,9 +38,6 @@ class Lines:
     def of(self, text, status):
         """The forms that a line with this status has."""
         return {form for form, fits, its in self.forms if fits.fullmatch(text) and its == status}
-
-    def repeated(self):
-        return [it for it, number in collections.Counter(form for form, _, _ in self.forms).items() if number > 1]
 
 
 def reports(path):
@@ -104,24 +100,7 @@ def keep(tally):
     variants = re.search(r"(?ms)^pub enum DirectiveKind {(.*?)^}", read(KINDS))[1]
     tell(order == [it for it in re.findall(r"(?m)^    (\w+),$", variants) if it not in whole],
          f"{PAGE}: the directives' KINDs aren't in the order of {KINDS}, in which the first is reported")
-    for form, _, status in table.forms:
-        tell(is_known(form, status), f"{PAGE}: '{form}' is of line 0, or isn't")
-    for kind, _ in kinds:
-        tell(helps["edit"].of(f"go.mod:{int(kind not in whole)}: {kind}", 1), f"the help of edit has no {kind}")
-    for command, errors in helps.items():
-        for form, _, status in errors.forms:
-            tell(is_known(form, status), f"help of {command}: {PAGE} has no '{form}' with status {status}")
     section = read(MAN).partition("DIAGNOSTICS")[2].partition(".Sh ")[0].replace("\\&", "")
-    told = re.findall(r"(?m)^\.It (.*)", section)
-    told = Lines((re.sub("(Sy|Ar) ", "", re.sub(" Ns( Sy| Ar)? ", "", it)), 0) for it in told)
-    stood_for = {form: told.of(form, 0) for form, _, _ in table.forms}
-    for form, found in stood_for.items():
-        tell(found, f"{MAN}: there is no '{form}'")
-    for form, _, _ in told.forms:
-        tell(any(form in found for found in stood_for.values()), f"{PAGE}: there is no '{form}' of {MAN}")
-    for name, lines in [(PAGE, table), (MAN, told), *((f"help of {it}", helps[it]) for it in helps)]:
-        tell(not lines.repeated(), f"{name}: {', '.join(lines.repeated())} stands there twice")
-    tell(len(kinds) == len(dict(kinds)), f"{PAGE}: a KIND stands there twice")
     stamp = checksum("".join(re.findall(r"(?m)^(?:\||-) .*\n", page)) + help_text + section)
     tell(f"beside one another: {stamp}\n" in page, f"{PAGE}: its rows, help's errors or the man page's diagnostics "
          f"changed: read them beside one another, and write {stamp}")
