@@ -50,12 +50,8 @@ def words_of(line):
     return words
 
 
-def numbered(text, number, most):
-    """A text with its number, of as many digits as the greatest one has."""
-    return text.replace(b"{n}", b"%0*d" % (len(str(most)), number))
-
-
 def each_numbered(text, most):
+    """A text with each number up to the greatest, of as many digits as that has."""
     digits = len(str(most))
     return (text.replace(b"{n}", b"%0*d" % (digits, it)) for it in range(1, most + 1))
 
@@ -155,18 +151,18 @@ class Piece:
 
     def lay_each(self, place):
         """Makes each of its files, given the place with `{n}` in it."""
-        most, text, made = int(self.argument), self.text(), None
-        for number, one in enumerate(each_numbered(place, most), 1):
+        most, text, first, made = int(self.argument), self.text(), None, None
+        for number, (one, own) in enumerate(zip(each_numbered(place, most), each_numbered(text, most))):
             if os.path.dirname(one) != made:
                 made = os.path.dirname(one)
                 os.makedirs(made, exist_ok=True)
-            first = number - (number - 1) % LINKS
-            if b"{n}" not in text and number > first:
+            if b"{n}" not in text and number % LINKS:
                 # a link to a file with the same text takes a tenth of the time
-                os.link(numbered(place, first, most), one)
+                os.link(first, one)
                 continue
+            first = one
             with open(one, "wb") as file:
-                file.write(numbered(text, number, most))
+                file.write(own)
 
     def has_mode(self):
         """Whether its mode keeps others than root from it."""
@@ -201,8 +197,8 @@ class Case:
     """A title, commands and files."""
 
     def __init__(self, line, title):
-        self.line, self.title, self.runs, self.pieces, self.is_sized, self.memory = line, title, [], [], False, None
-        self.copies = {}
+        self.line, self.title, self.runs, self.pieces, self.copies = line, title, [], [], {}
+        self.is_sized, self.has_streams, self.memory = False, False, None
 
     def is_hungry(self):
         """Whether a command takes much memory for it, so that no other such case should run beside it."""
@@ -226,6 +222,8 @@ class Case:
             self.pieces[-1].lines.append(line)
         elif line.startswith(b"% memory "):
             self.memory = int(line[9:]) << 20
+        elif line == b"% streams":
+            self.has_streams = True
         elif line.startswith(b"$ "):
             self.runs.append(Run(number, line[2:]))
         elif self.runs:
@@ -242,7 +240,7 @@ class Case:
         return any(it.name.startswith(b"/") and it.kind != b"pipe" for it in self.pieces)
 
     def stdin(self):
-        return b"".join(it.bytes_of(self.copies) for it in self.pieces if it.name == b"stdin")
+        return self.text_of(b"stdin")
 
     def text_of(self, name):
         return b"".join(it.bytes_of(self.copies) for it in self.pieces if it.name == name and it.kind != b"folder")

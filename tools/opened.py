@@ -1,9 +1,10 @@
 """Says which files a command of a case may open, and what strace saw it open beside them.
 
 A command may open the files that its words name, what it needs of the proxy folders that they name, and the go.mod of
-each folder that its main file names as a replacement. It opens them once, to read them, and in the order that the case
-has if that says so. It reads nothing after the end of a file, nor standard input unless the words name it. Once it is
-loaded it makes no calls of the system but OWN, so none that writes elsewhere, starts a process or reaches the network.
+each folder that its main file names as a replacement. It opens them once, one at a time, to read them, and in the order
+that the case has if that says so. It reads nothing after the end of a file, nor standard input unless the words name
+it. Once it is loaded it makes no calls of the system but OWN, so none that writes elsewhere, starts a process or
+reaches the network.
 """
 
 import collections
@@ -129,6 +130,8 @@ def faults_of(log, allowed_files):
             ended.discard(result)
             if not READ_ONLY.issuperset(flags.split(b"|")):
                 yield f"opens {name!r} with {flags.decode()}"
+            if result not in (b"3", b"-1"):
+                yield f"opens {name!r} beside another"
             if not LOADER.fullmatch(name):
                 names.append(name)
         elif call == b"read":

@@ -51,8 +51,15 @@ LIMIT = 100
 OPEN_INPUT, _WRITER = os.pipe()
 # the address space that a command may have beside FACTOR times the bytes of its words and files
 SPARE, FACTOR = 64 << 20, 100
-# an output that takes no byte
+# what a standard stream may be, and a standard input beside that; `open` is a pipe, `wrong` open the wrong way
+KINDS = "open", "closed", "full", "wrong"
+INPUTS = *KINDS, "socket", "folder"
+PLACES = {"full": "/dev/full", "wrong": "/dev/null", "folder": "/"}
+OPEN = "open", "open", "open"
+# what follows if a needed stream takes no byte, if standard input gives none, and if it gives zeros for ever
 CUT = b"", b"", 3
+UNREAD = b"", b"gomod: cannot read -\n", 3
+ENDLESS = {b"fmt": (b"", b"go.mod:0: TooMany\n", 1), b"versions": (b"", b"example.com/a: TooLong\n", 1)}
 # What is typed at the end of a text, and how long a text may be to be typed.
 END_KEY, TYPED = b"\x04", 2000
 NOBODY = 65534
@@ -77,7 +84,10 @@ COLORTERM=truecolor CLICOLOR=1 CLICOLOR_FORCE=1 FORCE_COLOR=3 NO_COLOR=1 COLUMNS
 CI=true GITHUB_ACTIONS=true DEBUG=1 VERBOSE=1 RUST_BACKTRACE=full RUST_LOG=trace POSIXLY_CORRECT=1 TZ=Asia/Kathmandu
 PATH=/usr/bin:/bin PWD=/nowhere OLDPWD=/ SHELL=/bin/sh USER=nobody LOGNAME=nobody SHLVL=9 http_proxy=http://localhost:1
 https_proxy=http://localhost:1 XDG_CONFIG_HOME=HOME/.config XDG_CACHE_HOME=HOME/cache SOURCE_DATE_EPOCH=1
+MALLOC_PERTURB_=165 GLIBC_TUNABLES=glibc.malloc.tcache_count=0
 """
+# the signals that a command ignores and blocks: the others end a command, or this process needs them
+IGNORED = set(range(1, 32)) - {signal.SIGINT, signal.SIGTERM, signal.SIGXCPU, signal.SIGCHLD}
 
 
 def stack_of_readme():
@@ -94,6 +104,18 @@ def limited(kind, most):
         yield
     finally:
         resource.setrlimit(kind, before)
+
+
+def prepared(memory, closed=()):
+    """What limits the memory of a process that becomes a command, and closes its standard streams, if there is such."""
+
+    def prepare():
+        if memory:
+            resource.setrlimit(resource.RLIMIT_AS, (memory, memory))
+        for number in closed:
+            os.close(number)
+
+    return prepare if memory or closed else None
 
 
 class World:
@@ -133,7 +155,6 @@ class ThisWorld(World):
         super().__init__(*given)
         self.stack = stack_of_readme()
         self.starting = threading.Lock()  # limits are those of all threads
-        self.cut_runs = set()  # the commands that were tried with a stream that takes nothing, with the stream's name
         self.environment = {**os.environ, "HOME": self.home, "TMPDIR": self.temporary}
 
     @staticmethod
@@ -143,50 +164,31 @@ class ThisWorld(World):
         is_root = not os.geteuid()
         return not (case.is_rooted() or is_large or (is_root and any(it.has_mode() for it in case.pieces)))
 
-    def stream_to_cut(self, run):
-        """The stream that the run writes to, if any, unless the same command was tried with that stream cut."""
-        stream = "stdout" if run.out else "stderr"
-        tried = b"".join(run.words[1:2]), stream
-        if not (run.out or run.report) or tried in self.cut_runs:
-            return None
-        self.cut_runs.add(tried)
-        return stream
-
     def stack_with(self, words, environment):
         """The stack for a command. Its arguments lie there too, and Linux gives them no more than a fourth of it."""
         texts = [*words, *map(os.fsencode, environment), *map(os.fsencode, environment.values())]
         size = len(b"".join(texts)) + 10 * len(texts)
         return max(self.stack + size, 4 * size)
 
-    def result(self, run, case, folder, stdin, refused=None, file_bytes=None, memory=None, cut=None):
-        """What a run comes to: output, report and status."""
+    def result(self, run, case, folder, stdin, refused=None, memory=None, kinds=OPEN):
+        """What a run comes to, with standard streams of these kinds: output, report and status."""
         environment = self.environment
         if refused:
             environment = {**environment, "LD_PRELOAD": REFUSE_MEMORY, "FAULTS": refused}
         words = [NAME, *run.words[1:]]
         stack = self.stack_with(words, environment)
-        most = memory
-        if file_bytes is not None and memory is None:
-            most = SPARE + FACTOR * (file_bytes + len(b"".join(words)) + len(words))
-
-        def limit():
-            resource.setrlimit(resource.RLIMIT_AS, (most, most))
-
         text = stdin if run.reads_input() else None
-        streams = {"stdin": OPEN_INPUT if text is None else subprocess.PIPE}
-        streams |= {"stdout": subprocess.PIPE, "stderr": subprocess.PIPE}
-        with open("/dev/full", "wb") as full, case.fed(folder) as descriptors:
-            if cut:
-                streams[cut] = full
+        with contextlib.ExitStack() as closing, case.fed(folder) as descriptors:
+            streams = [stream(kind, number, text, closing) for number, kind in enumerate(kinds)]
             with self.starting, limited(resource.RLIMIT_STACK, stack):
                 command = subprocess.Popen(
                     words,
                     executable=self.program,
                     cwd=folder,
                     env=environment,
-                    preexec_fn=None if most is None else limit,
+                    preexec_fn=prepared(memory, [it for it, kind in enumerate(kinds) if kind == "closed"]),
                     pass_fds=descriptors,
-                    **streams,
+                    **dict(zip(("stdin", "stdout", "stderr"), streams)),
                 )
             with command:
                 try:
@@ -225,16 +227,47 @@ class ThisWorld(World):
     def faults_of(self, run, case, folder):
         """What is wrong with a run, in lines."""
         stdin, wanted, over = case.stdin(), self.wanted(run), ""
-        file_bytes = len(stdin) + bytes_below(folder) if case.is_sized else None
-        got = self.result(run, case, folder, stdin, None, file_bytes, case.memory)
+        got = self.result(run, case, folder, stdin, memory=memory_for(run, case, folder))
         if got == wanted and REFUSE_MEMORY and not case.is_sized:
             over, got = self.refused(run, case, folder, stdin) or ("", got)
             wanted = NO_MEMORY if over and REFUSE_LATER else wanted
-        stream = self.stream_to_cut(run)
-        if got == wanted and stream:
-            over, wanted = f", {stream} is /dev/full", CUT
-            got = self.result(run, case, folder, stdin, None, None, case.memory, stream)
+        inputs = INPUTS if run.reads_input() else KINDS
+        is_tried = case.has_streams and got == wanted and not REFUSE_MEMORY
+        for kinds in itertools.product(inputs, KINDS, KINDS) if is_tried else ():
+            over, wanted = f", streams {', '.join(kinds)}", wanted_with(kinds, run, self.wanted(run))
+            got = self.result(run, case, folder, stdin, kinds=kinds)
+            if got != wanted:
+                break
         return [] if got == wanted else differing(run, got, wanted, over)
+
+
+def memory_for(run, case, folder):
+    """The address space that a run of a case may have, or None if there is no limit."""
+    if case.memory or not case.is_sized:
+        return case.memory
+    return SPARE + FACTOR * (len(case.stdin()) + bytes_below(folder) + sum(len(it) + 1 for it in run.words))
+
+
+def stream(kind, number, text, closing):
+    """What a child has as the standard stream with a number, if that is of a kind; `closing` closes what is opened."""
+    if kind in PLACES:
+        it = os.open(PLACES[kind], os.O_RDONLY if (kind == "wrong") == (number > 0) else os.O_WRONLY)
+        closing.callback(os.close, it)
+        return it
+    if kind == "socket":
+        one, other = map(closing.enter_context, socket.socketpair())
+        one.sendall(text)
+        one.shutdown(socket.SHUT_WR)
+        return other
+    # one that is closed is this process's own until then
+    return None if kind == "closed" else OPEN_INPUT if number == 0 and text is None else subprocess.PIPE
+
+
+def wanted_with(kinds, run, wanted):
+    """What a run comes to with standard streams of these kinds: what can't be written is lost, with status 3."""
+    if run.reads_input() and kinds[0] != "open":
+        wanted = {"full": ENDLESS[run.words[1]], "socket": wanted}.get(kinds[0], UNREAD)
+    return wanted if kinds[1 if wanted[0] else 2] == "open" else CUT
 
 
 def differing(run, got, wanted, over=""):
@@ -251,6 +284,7 @@ class OtherWorld(World):
         super().__init__(*given)
         self.environment = dict(it.replace("HOME", self.home).split("=", 1) for it in VARIABLES.split())
         self.environment |= dict.fromkeys(("TMPDIR", "TEMP", "TMP"), self.temporary) | {"HOME": self.home}
+        self.environment["LONG"] = 100_000 * "x"
         self.silent = self.terminal()  # both ends stay open
         # not in the folder, where nothing may change
         self.log = f"{self.folder}.log"
@@ -261,6 +295,9 @@ class OtherWorld(World):
         # the words of a command take as much of the stack as the system allows
         most = resource.getrlimit(resource.RLIMIT_STACK)[1]
         resource.setrlimit(resource.RLIMIT_STACK, (most, most))
+        for it in IGNORED - {signal.SIGKILL, signal.SIGSTOP}:
+            signal.signal(it, signal.SIG_IGN)
+        signal.pthread_sigmask(signal.SIG_BLOCK, IGNORED)
         # this process goes on after so much time
         signal.signal(signal.SIGXCPU, lambda *_: None)
         resource.setrlimit(resource.RLIMIT_CPU, (LIMIT, resource.getrlimit(resource.RLIMIT_CPU)[1]))
@@ -318,17 +355,13 @@ class OtherWorld(World):
 
     def result(self, run, case, folder):
         """What a run comes to: output, report and status."""
-
-        def limit():
-            resource.setrlimit(resource.RLIMIT_AS, (case.memory, case.memory))
-
         pairs, words = self.streams(run.line), [*self.tracer, self.program, *run.words[1:]]
         environment = {} if run.line % 8 == 0 else self.environment
         with self.input(run, case) as stdin, case.fed(folder) as descriptors:
             (out, own_out), (report, own_report) = pairs
             streams = {"stdin": stdin, "stdout": own_out, "stderr": own_report, "pass_fds": descriptors}
-            set_limit = limit if case.memory else None
-            command = subprocess.Popen(words, cwd=folder, env=environment, preexec_fn=set_limit, **streams)
+            limit = prepared(case.memory)
+            command = subprocess.Popen(words, cwd=folder, env=environment, preexec_fn=limit, **streams)
             os.close(own_out)
             os.close(own_report)
             texts = read_all([out, report], command)
@@ -381,35 +414,6 @@ def read_all(ends, command):
                     selector.unregister(key.fd)
                     os.close(key.fd)
     return [b"".join(it) for it in texts.values()]
-
-
-def standard_inputs(text):
-    """Each kind of standard input, with what it gives a child: the text, or nothing that can be read."""
-    with script.holding(text) as file:
-        yield "a file", {"stdin": file}, True
-    one, other = socket.socketpair()
-    with one, other:
-        one.sendall(text)
-        one.shutdown(socket.SHUT_WR)
-        yield "a socket", {"stdin": other}, True
-    yield "a pipe", {"input": text}, True
-    folder = os.open("/", os.O_RDONLY)
-    yield "a folder", {"stdin": folder}, False
-    os.close(folder)
-    yield "closed", {"preexec_fn": lambda: os.close(0)}, False
-
-
-def reads_each_input(program):
-    """Whether `fmt -` prints what each kind of standard input gives, and reports one that can't be read."""
-    good = True
-    printed, unread = (b"module example.com/m\n", b"", 0), (b"", b"gomod: cannot read -\n", 3)
-    for kind, given, is_readable in standard_inputs(b"module   example.com/m\n"):
-        done = script.run_within([program, "fmt", "-"], LIMIT, capture_output=True, **given)
-        got, wanted = (done.stdout, done.stderr, done.returncode), printed if is_readable else unread
-        if got != wanted:
-            good = False
-            print(f"standard input is {kind}: $ gomod fmt -", shown("got", *got), shown("wanted", *wanted), sep="\n")
-    return good
 
 
 def prints_large_graph(program, n=1000):
@@ -476,8 +480,9 @@ def main(program, *words):
     is_proved, said, wrong = "--unproved" not in options, [], 0
     if "--other" not in options:
         passed, wrong, refusals = run_in(ThisWorld, program, is_proved, chosen_cases(words, greatest_sizes))
-        others = [] if words or REFUSE_MEMORY else [reads_each_input(program), prints_large_graph(program)]
-        passed, wrong = passed + sum(others), wrong + len(others) - sum(others)
+        if not words and not REFUSE_MEMORY:
+            is_right = prints_large_graph(program)
+            passed, wrong = passed + is_right, wrong + (not is_right)
         said.append(f"{passed} passed, {wrong} failed")
         if REFUSE_MEMORY:
             print(f"{said[0]}, {refusals} runs with an allocation refused")

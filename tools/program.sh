@@ -18,9 +18,9 @@
 # 100 seconds ends the script.
 #
 # The program's name is not UTF-8. The folder of a case, the one above, HOME and TMPDIR must be the same after its
-# commands as before. Of each command the first run that prints is tried once more with /dev/full as its output, and the
-# first that reports with it as its report: the status must be 3, and the other stream empty. After the cases `fmt -`
-# reads each kind of standard input.
+# commands as before. In a case with a line `% streams` each command runs with each mixture of standard streams that are
+# open, closed, /dev/full or open the wrong way, and with a socket or a folder as an input that it reads: if the stream
+# that it needs takes no byte, the status must be 3, and the other one empty.
 #
 # Then all cases run once more in the other world, where strace, if it may look at processes, shows what a command opens
 # and calls (tools/opened.py). If it doesn't, the last line says so. If tools/refuse-memory.sh sets REFUSE_MEMORY, each
