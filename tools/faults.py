@@ -1,11 +1,9 @@
 #!/usr/bin/env -S python3 -B
 """Makes each open, read, write and close of command lines of bin/gomod fail in turn, and then two calls at once.
 
-    tools/faults.py                   with two faults for 20 seconds: what .ci/run runs
-    tools/faults.py SECONDS [SEED]    for so many seconds, other pairs for another seed (1)
-    tools/faults.py --whole [SEED]    before a release: with two faults for 300 seconds, then under limits, with odd
-                                      streams and signals, and for 60 seconds over files that others change meanwhile
-                                      (tools/limits.py)
+    tools/faults.py                   with 2,000 pairs of faults: what .ci/run runs
+    tools/faults.py PAIRS [SEED]      with so many pairs, other ones for another seed (1)
+    tools/faults.py --whole [SEED]    before a release: with 20,000, and then over files that others change meanwhile
     tools/faults.py --program FILE .. the same with another program
 
 There are two command lines or more of each command, which read each kind of file that it has. What is right follows
@@ -17,13 +15,16 @@ what was written before, with status 3; a close that fails changes nothing, and 
 two faults, allocations among them, the result is one that one of them has, or a beginning of it. tools/refuse-memory.sh
 refuses each allocation. Without a fault no stream takes more writes than its bytes need: one for each row is too many.
 
+The files that others change are those of a proxy. They are written in place, replaced, cut off, longer, gone, a folder,
+a link. With a go.sum a run has the only right result, or it reports a fault. At last 200 run at once.
+
 It prints each fault after which a result is wrong, as a value of FAULTS (tools/faults.c), and how many runs there were.
 The status is 1 if one was wrong, or if the library sees no call of a command line. It needs a C compiler (`cc`, or what
-CC names), python3 and bin/gomod (./build makes it), and takes 80 s of CPU time on a busy machine beside the seconds for
-two faults, on all processors.
+CC names), python3 and bin/gomod (./build makes it), and takes 60 s of CPU time, on all processors.
 """
 
 import concurrent.futures
+import contextlib
 import errno
 import itertools
 import os
@@ -33,11 +34,12 @@ import shutil
 import subprocess
 import sys
 import tempfile
-import time
+import threading
+from subprocess import DEVNULL, PIPE
 from typing import NamedTuple
 
 import script
-from go_worlds import unescaped
+from go_worlds import hash_of, unescaped
 from script import AT_ONCE, read, write
 
 # the errors that the manual pages of Linux name for each call: open(2), read(2), write(2), close(2)
@@ -97,6 +99,12 @@ NO_MEMORY = b"", b"gomod: no memory\n", 3
 WAITING = 16_384
 # how many seconds a run has
 LIMIT = 60
+# modules whose files others change in these ways, how often, and what runs meanwhile
+MODULES, ROUNDS = 12, 100
+WAYS = ["in place", "in place", "renamed", "renamed", "cut", "longer", "gone", "folder", "link"]
+RACES = [f"{it} --sum go.sum" for it in (
+    "list --proxy P", "graph --proxy P", "chain q.x/m5 --proxy P", "list --proxy P|P",
+)]
 
 
 class Fault(NamedTuple):
@@ -296,18 +304,15 @@ class Trial(script.Trial):
             for fault in line.faults()
         )
 
-    def try_pairs(self, lines, seconds, seed):
-        """Two faults at once for so many seconds. Lines whose proxy folders fall back are left out: there two failures
-        have a result that none of them has alone."""
-        chance, end = random.Random(seed), time.monotonic() + seconds
+    def try_pairs(self, lines, count, seed):
+        """Two faults at once, so often. Lines whose proxy folders fall back are left out: there two failures have a
+        result that none of them has alone."""
+        chance, jobs = random.Random(seed), []
         lines = [it for it in lines if "|" not in it.text]
-        while time.monotonic() < end:
-            jobs = []
-            for _ in range(16 * AT_ONCE):
-                line = chance.choice(lines)
-                faults = [line.some_fault(chance), line.some_fault(chance)]
-                jobs.append((line, faults, lambda got, line=line, two=faults: line.is_right_with_two(two, got)))
-            self.all_at(jobs)
+        for line in chance.choices(lines, k=count):
+            faults = [line.some_fault(chance), line.some_fault(chance)]
+            jobs.append((line, faults, lambda got, line=line, two=faults: line.is_right_with_two(two, got)))
+        self.all_at(jobs)
 
 
 def compiled(folder):
@@ -316,8 +321,8 @@ def compiled(folder):
     return library
 
 
-def try_faults(program, seconds, seed):
-    """Tries each fault, and pairs of them for so many seconds, and gives whether a run was wrong."""
+def try_faults(program, pairs, seed):
+    """Tries each fault, and so many pairs of them, and gives whether a run was wrong."""
     with tempfile.TemporaryDirectory(prefix="gomod-faults-") as folder:
         for name, place in FOLDERS.items():
             shutil.copytree(place, os.path.join(folder, name))
@@ -337,21 +342,123 @@ def try_faults(program, seconds, seed):
             it.judge_writes()
         trial.try_each(lines)
         single = trial.runs
-        trial.try_pairs(lines, seconds, seed)
+        trial.try_pairs(lines, pairs, seed)
         print(f"{single} runs with a fault, {trial.runs - single} with two, {trial.wrong} wrong")
         return trial.wrong > 0
+
+
+def place(number):
+    return f"P/q.x/m{number}/@v/v1.0.0.mod"
+
+
+def text_of(number, is_other):
+    """The file of a module, of more bytes than are read at once: it requires two others, or one of its own."""
+    ends = [f"extra{number}"] if is_other else [f"m{(number + it) % MODULES}" for it in (1, 3)]
+    required = "".join(f"require q.x/{it} v1.0.0\n" for it in ends)
+    return f"module q.x/m{number}\n\ngo 1.16\n\n//{'c' * 5000}\n{required}//{'d' * 70_000}\n"
+
+
+def lay():
+    """Lays the files that others change, with their sums."""
+    write("go.mod", "module m.x/m\n\ngo 1.16\n\nrequire q.x/m0 v1.0.0\n")
+    for number in range(MODULES):
+        write(place(number), text_of(number, False))
+    sums = (f"q.x/m{it} v1.0.0/go.mod {hash_of(text_of(it, False))}\n" for it in range(MODULES))
+    write("go.sum", "".join(sums))
+
+
+def replace(name, text, seed):
+    """Puts another file in the place of one at once."""
+    write(f"{name}.{seed}", text)
+    os.replace(f"{name}.{seed}", name)
+
+
+def change(chance, seed):
+    """Changes a file in one of the ways."""
+    number, way = chance.randrange(MODULES), chance.choice(WAYS)
+    name = place(number)
+    if way == "in place":
+        write(name, text_of(number, chance.random() < 0.5))
+    elif way == "renamed":
+        replace(name, text_of(number, chance.random() < 0.3), seed)
+    elif way == "cut":
+        os.truncate(name, chance.randrange(80_000))
+    elif way == "longer":
+        with open(name, "a", encoding="utf-8") as file:
+            file.write("// more\n" * 2000)
+    elif way == "link":
+        os.symlink(f"../../m{(number + 1) % MODULES}/@v/v1.0.0.mod", f"{name}.{seed}")
+        os.replace(f"{name}.{seed}", name)
+    else:
+        os.remove(name)
+        if way == "folder":
+            os.mkdir(name)
+            os.rmdir(name)
+    if way not in ("in place", "renamed"):
+        replace(name, text_of(number, False), seed)
+
+
+def keep_changing(seed, ended):
+    """Changes files until the event. Another writer may be in the way."""
+    chance = random.Random(seed)
+    while not ended.is_set():
+        with contextlib.suppress(OSError):
+            change(chance, seed)
+
+
+class Race(script.Trial):
+    """The program over files that others change, and what it prints of them as they were."""
+
+    def __init__(self, program):
+        super().__init__(program)
+        self.right = dict(self.results(RACES))
+        if any(status for status, *_ in self.right.values()):
+            sys.exit(f"faults: a run before the race is wrong: {self.right}")
+
+    def results(self, lines):
+        """What command lines come to that run side by side: the status, the output and the report of each."""
+        for line, child in [(it, self.start(it, stdin=DEVNULL, stdout=PIPE)) for it in lines]:
+            out, report = script.finish(child, None, LIMIT)
+            yield line, (child.returncode, out, report)
+
+    def try_at_once(self, lines, may_fail):
+        """Judges command lines that run side by side."""
+        for line, got in self.results(lines):
+            is_fault = may_fail and got[0] in (1, 3) and not got[1] and got[2]
+            self.judge(f"a race: gomod {line}", got, is_fault or got == self.right[line])
+
+
+def try_races(program, seed):
+    """Runs command lines over files that change, then many at once, and gives whether one was wrong."""
+    ended = threading.Event()
+    writers = [threading.Thread(target=keep_changing, args=(seed + it, ended)) for it in (0, 1)]
+    with tempfile.TemporaryDirectory(prefix="gomod-races-") as folder:
+        os.chdir(folder)
+        lay()
+        race = Race(program)
+        for it in writers:
+            it.start()
+        try:
+            for _ in range(ROUNDS):
+                race.try_at_once(8 * RACES, True)
+        finally:
+            ended.set()
+            for it in writers:
+                it.join()
+        shutil.rmtree("P")
+        lay()
+        race.try_at_once(50 * RACES, False)
+        return race.status("runs in races")
 
 
 def main(*words):
     """Tries all, and returns the status."""
     program, words = script.program_of(words)
     is_whole = words[:1] == ("--whole",)
-    numbers = ["300", *words[1:]] if is_whole else words
-    seconds, seed = [*numbers, *("20", "1")[len(numbers):]]
-    is_wrong = try_faults(program, int(seconds), int(seed))
-    if is_whole:
-        is_wrong |= subprocess.run([sys.executable, "-B", "tools/limits.py", program, "60", seed]).returncode != 0
-    return int(is_wrong)
+    numbers = ["20000", *words[1:]] if is_whole else words
+    pairs, seed = map(int, [*numbers, *("2000", "1")[len(numbers):]])
+    is_wrong = try_faults(program, pairs, seed)
+    return int(is_wrong | try_races(program, seed) if is_whole else is_wrong)
 
 
 if __name__ == "__main__":
