@@ -26,9 +26,10 @@ import textwrap
 
 import completions
 import script
+from names import HINTS, hints
 from script import checksum, read
 
-MAN, HINTS, MANUAL = "share/man/gomod.1", "crates/gomod_hints/src/hints.rt", "docs/use/COMMANDS.md"
+MAN, MANUAL = "share/man/gomod.1", "docs/use/COMMANDS.md"
 # what these and all help say, when they were last read beside one another: who changes one reads them again
 READ = "ovqsmptl"
 BASH, ZSH, FISH = (f"share/completions/{it}" for it in ("gomod.bash", "_gomod", "gomod.fish"))
@@ -70,15 +71,10 @@ def from_help():
     return commands, known | after("edit", re.findall(r"(?m)^  (\w+=)", help_of("edit").split("Usage:")[0]))
 
 
-def flags(line):
-    """The options of a line of the man page: the words that follow Fl."""
-    found, is_flag = set(), False
-    for word in line.removeprefix(".").split():
-        if re.fullmatch(r"[A-Z][a-z]", word):
-            is_flag = word == "Fl"
-        elif is_flag and word not in ("|", ","):
-            found.add("-" + word)
-    return found
+def flags(text):
+    """The options in a text of the man page: the words that follow Fl."""
+    found = re.findall(r"\bFl((?: (?![A-Z][a-z]\b)\S+)+)", text)
+    return {"-" + it for it in " ".join(found).split() if it not in ("|", ",")}
 
 
 def from_man():
@@ -87,11 +83,11 @@ def from_man():
     known = after("edit", re.findall(r"(?m)^\.It Cm (\w+=)", parts["OPERATIONS"]))
     for form in re.split(r"(?m)^\.Nm$", parts["SYNOPSIS"])[1:]:
         command = re.search(r"(?m)^\.Cm (\w+)|\Z", form)[1] or ""
-        known |= after("", [command] if command else []) | after(command, set().union(*map(flags, form.split("\n"))))
+        known |= after("", [command] if command else []) | after(command, flags(form))
         # -h and --help stand once, for all commands
         known |= after(command, HELP if command not in ("", "help") else [])
-    items = re.findall(r"(?m)^\.It (Fl .*)", parts["OPTIONS"])
-    return known, set(re.findall(r"(?m)^\.It Cm (\w+)", parts["COMMANDS"])), set().union(*map(flags, items))
+    items = re.findall(r"(?m)^\.It Fl .*", parts["OPTIONS"])
+    return known, set(re.findall(r"(?m)^\.It Cm (\w+)", parts["COMMANDS"])), flags("\n".join(items))
 
 
 def from_bash(commands):
@@ -111,42 +107,33 @@ def from_zsh():
     """What the completion for zsh has."""
     text = re.sub(r"(?m)^ *#.*\n", "", read(ZSH)).replace("\\\n", "")
     named = dict(re.findall(r"(?m)^  local (\w+)='(.*)'$", text))
+    text, branches = re.sub(r"\$(\w+)", lambda it: named.get(it[1], it[0]), text).split("case $words[1] in")
 
     def options_of(arguments):
-        found = set()
-        for word in shlex.split(arguments):
-            word = named.get(word[1:], word) if word.startswith("$") else word
-            option = re.match(r"(?:\([^)]*\))?(?:\{([-\w,]+)\}|(--?\w[-\w]*))", word)
-            found.update((option[1] or option[2]).split(",") if option else [])
-        return found
+        form = r"(?m)^(?:\([^)]*\))?(?:\{([-\w,]+)\}|(--?\w[-\w]*))"
+        found = re.findall(form, "\n".join(shlex.split(arguments)))
+        return {it for pair in found for it in ",".join(pair).split(",") if it}
 
     def array(name):
         return shlex.split(re.search(rf"(?ms)^  {name}=\((.*?)\)$", text)[1])
 
-    known = after("", options_of(re.search(r"(?m)^  _arguments -C (.*?)&& return", text)[1]) - {"-C"})
-    known |= after("", {it.split(":")[0] for it in array("commands")}) | after("edit", array("operations"))
-    branches = text[text.index("case $words[1] in"):]
-    for command, body in re.findall(r"(?ms)^    (\w+)\)\n(.*?)^      ;;", branches):
-        known |= after(command, options_of(body.strip().removeprefix("_arguments ")))
-    return known
+    known = after("", {it.split(":")[0] for it in array("commands")}) | after("edit", array("operations"))
+    known |= after("", options_of(re.search(r"(?m)^  _arguments -C (.*?)&& return", text)[1]))
+    parts = re.findall(r"(?ms)^    (\w+)\)\n(.*?)^      ;;", branches)
+    return known.union(*(after(command, options_of(body)) for command, body in parts))
 
 
-def from_fish(commands):
+def from_fish():
     """What the completion for fish has."""
     known = set()
-    for line in re.findall(r"(?m)^complete .*", read(FISH).replace("\\\n", "")):
-        words = shlex.split(line, comments=True)
-        given = [(name, value) for name, value in zip(words, words[1:]) if name in ("-n", "-l", "-s", "-a")]
-        condition = dict(given).get("-n", "")
-        seen = re.match(r"__fish_seen_subcommand_from ([\w ]+)", condition)
-        places = seen[1].split() if seen else [""] if condition else ["", *commands] if given else []
-        options = {{"-l": "--", "-s": "-"}[name] + value for name, value in given if name in ("-l", "-s")}
-        known = known.union(*(after(it, options) for it in places))
-        for words in [value.split() for name, value in given if name == "-a"]:
-            if condition == "__fish_use_subcommand":
-                known |= after("", words)
-            elif "edit" in places and "=" in words[0]:
-                known |= after("edit", words)
+    for condition, rest in re.findall(r"(?m)^complete -c gomod -n ('.*?'|\S+)(.*)", read(FISH).replace("\\\n", "")):
+        seen = re.match(r"'__fish_seen_subcommand_from ([\w ]+)", condition)
+        names = ["-" * (1 + (letter == "l")) + it for letter, it in re.findall(r" -([ls]) (\S+)", rest)]
+        for words in re.findall(r" -a ([\w=]+|'[^(']*')", rest):
+            # those after help are arguments
+            names += words.strip("'").split() if not seen or "=" in words else []
+        places = seen[1].split() if seen else [""] if condition == "__fish_use_subcommand" else []
+        known = known.union(*(after(it, names) for it in places))
     return known
 
 
@@ -170,15 +157,6 @@ def compare_descriptions():
     return len(others)
 
 
-def rows_of_hints():
-    """Each name of the tables of hints, and how what is said of it begins. Of rows with one name the first counts."""
-    found = {}
-    for names, text in re.findall(r'(?ms)^    hint!\(((?:"[^"]*"\s*)+);(.*?)\),\n(?=    hint|\];)', read(HINTS)):
-        for name in re.findall(r'"([^"]*)"', names):
-            found.setdefault(name, re.search(r'"((?:[^"\\]|\\.)*)"', text)[1].partition("\\n")[0])
-    return found
-
-
 def tip_on(word):
     """The tip of a command line that this word makes wrong: an option after list, another one in a command's place."""
     words = ["list", word] if word.startswith("-") and not word.endswith("=") else [word]
@@ -188,7 +166,11 @@ def tip_on(word):
 
 def compare_hints():
     """Prints for which names of a row its tip isn't there, or none with two letters swapped, and returns how many."""
-    rows, wrong = rows_of_hints(), []
+    rows, wrong = {}, []
+    for names, texts in hints():
+        for name in names:
+            # of rows with one name the first counts
+            rows.setdefault(name, texts[0].partition("\n")[0])
     for name, text in rows.items():
         # the parser takes -h and help; a form is no word
         if name == "help" or name.startswith("-h") or "*" in name:
@@ -257,7 +239,7 @@ def main():
     wrong = compare(MAN, "SYNOPSIS and OPERATIONS", wanted, in_synopsis)
     wrong += compare(MAN, "COMMANDS", commands, listed_commands)
     wrong += compare(MAN, "OPTIONS", {it for _, it in wanted if it.startswith("-")}, listed_options)
-    for name, has in ((BASH, from_bash(commands)), (ZSH, from_zsh()), (FISH, from_fish(commands))):
+    for name, has in ((BASH, from_bash(commands)), (ZSH, from_zsh()), (FISH, from_fish())):
         wrong += compare(name, "completions", wanted, has)
     helps = "".join(help_of(*it.split()) for it in ["", *sorted(commands - {"help"})])
     wrong += compare(MAN, "limits", limits(helps), limits(read(MAN)))
