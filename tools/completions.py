@@ -17,10 +17,11 @@ import signal
 import tempfile
 import time
 
-from script import read, write
+from script import read, ticks_of, write
 
 TOP = os.path.dirname(os.path.dirname(os.path.abspath(__file__)))
-SECONDS = 300
+# how long a shell may use no CPU
+SECONDS = 100
 GO_MOD = f"""module example.com/hello
 
 // {"a long comment " * 60_000}
@@ -46,55 +47,55 @@ require(
 
 replace example.com/replaced => ./first
 """
-# What is typed before TAB, a bar, and the line that it becomes. HOME is the path of the home. A third part has the
-# shells that complete it so: zsh takes no option with `=`, and it and fish don't expand $HOME.
+# What is typed before TAB, a bar, and what follows then. HOME is the path of the home. A third part has the shells that
+# complete it so: zsh takes no option with `=`, and it and fish don't expand $HOME.
 LINES = """
-gomod li|gomod list
-gomod list --prox|gomod list --proxy
-gomod list --proxy |gomod list --proxy HOME/go/pkg/mod/cache/download
-gomod list --proxy ../fi|gomod list --proxy ../first
-gomod list --proxy ../first,../sec|gomod list --proxy ../first,../second
-gomod list --proxy '../first,../sec|gomod list --proxy '../first,../second
-gomod list --proxy ../first,../'quo|gomod list --proxy ../first,../'quo
-gomod graph --proxy ../first,|gomod graph --proxy ../first,HOME/go/pkg/mod/cache/download
-gomod versions --proxy HOME/go/pkg/mo|gomod versions --proxy HOME/go/pkg/mod
-gomod graph --mod mai|gomod graph --mod main.mod
-gomod chain rs|gomod chain rsc.io/quote
-gomod chain example.com/o|gomod chain example.com/one
-gomod versions example.com/tw|gomod versions example.com/two
-gomod list --after rs|gomod list --after rsc.io/quote
-gomod chain example.com/rep|gomod chain example.com/rep
-gomod chain example.com/com|gomod chain example.com/com
-gomod edit go.mod dropreq|gomod edit go.mod droprequire=
-gomod edit go.mod droprequire=rs|gomod edit go.mod droprequire=rsc.io/quote
-gomod edit go.mod go=1.22 require=example.com/o|gomod edit go.mod go=1.22 require=example.com/one
-gomod edit go.mod replace=rs|gomod edit go.mod replace=rsc.io/quote
-gomod edit go.mod go=rs|gomod edit go.mod go=rs
-gomod chain example.com/th|gomod chain example.com/three
-gomod chain example.com/f|gomod chain example.com/four
-gomod chain 'rs|gomod chain 'rsc.io/quote
-gomod chain "example.com/o|gomod chain "example.com/one
-gomod versions --proxy ../first rs|gomod versions --proxy ../first rsc.io/quote
-gomod list --limit 3 --prox|gomod list --limit 3 --proxy
-gomod list --limit rs|gomod list --limit rs
-gomod list --sum ma|gomod list --sum main.mod
-gomod list --proxy=../fi|gomod list --proxy=../first|bash fish
-gomod chain --proxy=../first rs|gomod chain --proxy=../first rsc.io/quote|bash fish
-gomod list --proxy ../first,$HOME/go/pkg/mo|gomod list --proxy ../first,HOME/go/pkg/mod|bash
-gomod chain example.com/g|gomod chain example.com/grave
-gomod chain github.com/A|gomod chain github.com/Azure/five
-gomod chain Lo|gomod chain Local/~user/six|bash fish
-gomod chain Lo|gomod chain Local/\\~user/six|zsh
-gomod chain rsc.io/quote example.com/o|gomod chain rsc.io/quote example.com/o|bash zsh
-gomod fmt main.mod ma|gomod fmt main.mod ma|bash zsh
-gomod fmt ma|gomod fmt main.mod
-gomod edit ma|gomod edit main.mod
-gomod help ver|gomod help versions
-gomod help li|gomod help list
-gomod help gr|gomod help graph
-gomod help ch|gomod help chain
-gomod help fm|gomod help fmt
-gomod help ed|gomod help edit
+gomod li|st
+gomod list --prox|y
+gomod list --proxy |HOME/go/pkg/mod/cache/download
+gomod list --proxy ../fi|rst
+gomod list --proxy ../first,../sec|ond
+gomod list --proxy '../first,../sec|ond
+gomod list --proxy ../first,../'quo|
+gomod graph --proxy ../first,|HOME/go/pkg/mod/cache/download
+gomod versions --proxy HOME/go/pkg/mo|d
+gomod graph --mod mai|n.mod
+gomod chain rs|c.io/quote
+gomod chain example.com/o|ne
+gomod versions example.com/tw|o
+gomod list --after rs|c.io/quote
+gomod chain example.com/rep|
+gomod chain example.com/com|
+gomod edit go.mod dropreq|uire=
+gomod edit go.mod droprequire=rs|c.io/quote
+gomod edit go.mod go=1.22 require=example.com/o|ne
+gomod edit go.mod replace=rs|c.io/quote
+gomod edit go.mod go=rs|
+gomod chain example.com/th|ree
+gomod chain example.com/f|our
+gomod chain 'rs|c.io/quote
+gomod chain "example.com/o|ne
+gomod versions --proxy ../first rs|c.io/quote
+gomod list --limit 3 --prox|y
+gomod list --limit rs|
+gomod list --sum ma|in.mod
+gomod list --proxy=../fi|rst|bash fish
+gomod chain --proxy=../first rs|c.io/quote|bash fish
+gomod list --proxy ../first,$HOME/go/pkg/mo|d|bash
+gomod chain example.com/g|rave
+gomod chain github.com/A|zure/five
+gomod chain Lo|cal/~user/six|bash fish
+gomod chain Lo|cal/\\~user/six|zsh
+gomod chain rsc.io/quote example.com/o||bash zsh
+gomod fmt main.mod ma||bash zsh
+gomod fmt ma|in.mod
+gomod edit ma|in.mod
+gomod help ver|sions
+gomod help li|st
+gomod help gr|aph
+gomod help ch|ain
+gomod help fm|t
+gomod help ed|it
 """
 # Beside the good path a.b/c, and as the only folder: no file `ran` may appear.
 HOSTILE = ("$(id>ran)", "`id>ran`", "a;id>ran;", "a|id>ran", "a&id>ran", "<(id>ran)", "~root", "${HOME}", "*", "!!",
@@ -143,9 +144,11 @@ class Terminal:
         os.write(self.terminal, text.encode())
 
     def wait_for_file(self):
-        """The words that the shell has left in the file, which then goes, or none if it has left no file in time."""
-        until = time.monotonic() + SECONDS
-        while time.monotonic() < until:
+        """The words that the shell has left in the file, which then goes, or none if it only waits for too long."""
+        until, used = 0, -1
+        while time.monotonic() < until or used != ticks_of(self.pid):
+            if time.monotonic() >= until:
+                until, used = time.monotonic() + SECONDS, ticks_of(self.pid)
             if select.select([self.terminal], [], [], 0.005)[0]:
                 with contextlib.suppress(OSError):
                     os.read(self.terminal, 65536)
@@ -196,8 +199,8 @@ MOVED = (("GOPATH", "{0}/path:{0}/first", "path/pkg/mod"), ("GOMODCACHE", "{0}/k
 
 def pairs_of(name):
     """What is typed in a shell, and what it becomes."""
-    lines = [it.split("|") for it in LINES.strip().split("\n")]
-    return [(typed, wanted) for typed, wanted, *shells in lines if not shells or name in shells[0].split()]
+    lines = [it.split("|") for it in LINES.strip("\n").split("\n")]
+    return [(typed, typed + more) for typed, more, *shells in lines if not shells or name in shells[0].split()]
 
 
 def count_of(name):
@@ -212,7 +215,8 @@ def differences(name, shell, room):
             yield "(it doesn't start)", "", ""
             return
         for typed, wanted in pairs_of(name):
-            typed, wanted = (re.sub(r"(?<!\$)HOME", f"{room}/home", it) for it in (typed, wanted))
+            typed = re.sub(r"(?<!\$)HOME", f"{room}/home", typed)
+            wanted = re.sub(r"\$?HOME", f"{room}/home", wanted)
             came = "".join(shell.completed(typed))
             # what follows a completed word, a slash, a quote or a blank, is the shell's affair, but none may stand
             # before what follows an operation's path or `=`, of which fish knows the latter
