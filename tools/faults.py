@@ -20,7 +20,7 @@ a link. With a go.sum a run has the only right result, or it reports a fault. At
 
 It prints each fault after which a result is wrong, as a value of FAULTS (tools/faults.c), and how many runs there were.
 The status is 1 if one was wrong, or if the library sees no call of a command line. It needs a C compiler (`cc`, or what
-CC names), python3 and bin/gomod (./build makes it), and takes 60 s of CPU time, on all processors.
+CC names), python3 and bin/gomod (./build makes it), and takes 90 s of CPU time on a busy machine, on all processors.
 """
 
 import concurrent.futures
@@ -102,9 +102,12 @@ LIMIT = 60
 # modules whose files others change in these ways, how often, and what runs meanwhile
 MODULES, ROUNDS = 12, 100
 WAYS = ["in place", "in place", "renamed", "renamed", "cut", "longer", "gone", "folder", "link"]
-RACES = [f"{it} --sum go.sum" for it in (
-    "list --proxy P", "graph --proxy P", "chain q.x/m5 --proxy P", "list --proxy P|P",
-)]
+RACES = [
+    "list --proxy P --sum go.sum",
+    "graph --proxy P --sum go.sum",
+    "chain q.x/m5 --proxy P --sum go.sum",
+    "list --proxy P|P --sum go.sum",
+]
 
 
 class Fault(NamedTuple):
