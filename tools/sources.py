@@ -313,12 +313,14 @@ def used_in_clauses(file, clauses):
     return {it for clause in clauses for it in used_in(re.sub(r"(?m)^//.*$", "", clause), scope, {}).items()}
 
 
-def reached_from(found, is_end=lambda one: False):
-    """All definitions that these reach, but for those that end it, and the leaves."""
+def reached_from(found, is_end=lambda one: False, models={}):
+    """All definitions that these reach, but for those that end it, and the leaves: from a type of the code what its
+    model names, if it is given by the type's crate and name."""
     reached, left = {}, list(found)
     while left:
         one = left.pop()
         if one not in reached and not is_end(one):
             reached[one] = None
-            left.extend(used_by(one).values() if isinstance(one, Definition) else ())
+            model = () if isinstance(one, Definition) or not one.owner else models.get(one.owner[::2], ())
+            left.extend(used_by(one).values() if isinstance(one, Definition) else model)
     return [it for it in reached if isinstance(it, Definition)], [it for it in reached if isinstance(it, Leaf)]
