@@ -17,8 +17,8 @@ A file has the mistakes of its crate, with a blank line between them:
 
 All bodies stand in one program, which isn't proved (tools/unproved.sh --both). A changed function does what the wrong
 body does if a number in the program is that of the mistake, so a body may change nothing but what functions do. A case
-is run by run_cases and, if it passes there, by tools/program.sh. It fails, too, if a signal ends it, or 100 seconds of
-CPU time.
+is run by run_cases and, if it passes there, by tools/program.sh. It fails, too, if a signal ends it, 100 seconds of CPU
+time, or a wait as long in which no CPU is used.
 
 It prints each body on which its case passes, or which isn't needed for it to fail, and each whose text isn't in the
 sources: these are told, and not dropped. The status is 1 if there is one that has no `passes:`. It needs what
@@ -37,7 +37,7 @@ import tempfile
 
 import script
 from refusals import Absent, read_edit, replaced
-from script import AT_ONCE, read, write
+from script import AT_ONCE, read, run_within, write
 from sources import functions
 
 CASES = pathlib.Path("crates/run_cases/data")
@@ -205,12 +205,13 @@ class Trial:
         given = {}
         words = [sys.executable, "-B", "tools/program.py", self.room / "gomod", "--unproved", CASES / file, part]
         if not is_itself:
-            words = ["prlimit", f"--as={BYTES}", f"--cpu={SECONDS}", "--", *(AS_NOBODY if os.getuid() == 0 else []),
-                     self.program, os.path.basename(file), part]
+            words = ["prlimit", f"--as={BYTES}", "--", *(AS_NOBODY if os.getuid() == 0 else []), self.program,
+                     os.path.basename(file), part]
             room = {"TMPDIR": str(self.room), "HOME": str(self.room), "PATH": os.environ["PATH"]}
             given = {"cwd": (self.data / file).parent, "env": room}
-        return subprocess.run(words, timeout=10 * SECONDS, stdin=subprocess.DEVNULL, stdout=subprocess.PIPE,
-                              stderr=subprocess.STDOUT, errors="replace", **given)
+        # tools/program.py ends a command that waits, and says of which case it is
+        return run_within(words, 3 * SECONDS if is_itself else SECONDS, stdin=subprocess.DEVNULL, errors="replace",
+                          stdout=subprocess.PIPE, stderr=subprocess.STDOUT, **given)
 
     def fails(self, file, title, is_itself):
         """Whether a case fails in one of both ways."""

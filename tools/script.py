@@ -1,6 +1,7 @@
 """What the scripts in Python share. Those that are run begin with `script.run(main)`."""
 
 import collections
+import contextlib
 import hashlib
 import itertools
 import os
@@ -93,9 +94,13 @@ def keep(path, text, is_checked, writer):
 
 
 def ticks_of(pid):
-    """How much a process has used the processor, with what it began and waited for."""
-    with open(f"/proc/{pid}/stat", encoding="utf-8", errors="replace") as file:
-        return sum(map(int, file.read().rpartition(")")[2].split()[11:15]))
+    """How much a process has used the processor, with all that it began."""
+    ticks = 0
+    with contextlib.suppress(OSError):
+        ticks = sum(map(int, read(f"/proc/{pid}/stat").rpartition(")")[2].split()[11:15]))
+        for thread in os.listdir(f"/proc/{pid}/task"):
+            ticks += sum(map(ticks_of, read(f"/proc/{pid}/task/{thread}/children").split()))
+    return ticks
 
 
 def finish(command, text=None, seconds=100):
