@@ -5,23 +5,20 @@
 
 # The script itself: its path from here. Its own name may be one from another folder.
 self=tools/${0##*/}
+[ -e "$self" ] || self=bench/${0##*/}
 case $0 in
   *build) self=./build ;;
   *run) self=.ci/run ;;
-  *) [ -e "$self" ] || self=bench/${0##*/} ;;
 esac
 own_name=${self##*/} own_name=${own_name%.*}
 
 # Prints the head comment of the script, and ends, if one of its arguments is -h or --help.
 begin_script() {
   local argument
-  for argument in "$@"; do
-    case $argument in
-      -h | --help)
-        awk 'NR > 1 { if (!/^#/) exit; sub(/^# ?/, ""); print }' "$self"
-        exit
-        ;;
-    esac
+  for argument; do
+    [[ $argument =~ ^(-h|--help)$ ]] || continue
+    awk 'NR > 1 { if (!/^#/) exit; sub(/^# ?/, ""); print }' "$self"
+    exit
   done
 }
 
@@ -91,32 +88,25 @@ GOMOD_MACHINE=${GOMOD_MACHINE:-}
 # Prints the nearest file of this name in this process's control group or those above it, which have the limits of a
 # container.
 of_control_group() {
-  local path
+  local groups=$GOMOD_MACHINE/sys/fs/cgroup path
   path=$(sed -n 's/^0:://p' "$GOMOD_MACHINE/proc/self/cgroup" 2> /dev/null) || return 0
-  while [ -n "$path" ]; do
-    [ ! -r "$GOMOD_MACHINE/sys/fs/cgroup$path/$1" ] || break
-    [ "$path" != / ] || return 0
-    path=${path%/*} path=${path:-/}
-  done
-  [ -z "$path" ] || echo "$GOMOD_MACHINE/sys/fs/cgroup$path/$1"
+  while [ -n "$path" ] && [ ! -r "$groups$path/$1" ]; do path=${path%/*}; done
+  [ ! -r "$groups$path/$1" ] || echo "$groups$path/$1"
 }
 
-# How many MB the control group may still take: its limit less what it has in use, but for the pages of files, which it
-# can give back. Prints nothing if it has no limit.
-group_memory_mb() {
+# How many MB of memory can be had: what the system has available, or less if a control group has a limit: this less
+# what is in use, but for the pages of files, which it can give back.
+free_memory_mb() {
   local limit
   limit=$(of_control_group memory.max)
-  [ -z "$limit" ] || cat "$limit" "${limit%max}current" "${limit%max}stat" | awk '
-    NR == 1 { limit = $1 }
-    NR == 2 { used = $1 }
-    /^(in)?active_file / { files += $2 }
-    END { if (limit ~ /^[0-9]+$/) printf "%d\n", (limit - used + files) / 1048576 }'
+  awk '
+    /^MemAvailable:/ { free = $2 * 1024 }
+    FILENAME ~ /max$/ { limit = $1 }
+    FILENAME ~ /current$/ { used = $1 }
+    /^(in)?active_file / { used -= $2 }
+    END { printf "%d\n", (limit ~ /^[0-9]+$/ && limit - used < free ? limit - used : free) / 1048576 }
+  ' "$GOMOD_MACHINE/proc/meminfo" ${limit:+"$limit" "${limit%max}current" "${limit%max}stat"}
 }
-
-system_memory_mb() { awk '/^MemAvailable:/ { print int($2 / 1024) }' "$GOMOD_MACHINE/proc/meminfo"; }
-
-# How many MB of memory can be had: what the system has available, or less if a control group leaves less.
-free_memory_mb() { { system_memory_mb && group_memory_mb; } | sort -n | head -n 1; }
 
 free_disk_mb() { df -Pk . | awk 'NR == 2 { print int($4 / 1024) }'; }
 
@@ -124,23 +114,22 @@ free_disk_mb() { df -Pk . | awk 'NR == 2 { print int($4 / 1024) }'; }
 processors() {
   local quota
   quota=$(of_control_group cpu.max)
-  {
-    nproc
-    [ -z "$quota" ] || awk '$1 ~ /^[0-9]+$/ && $2 > 0 { print $1 < $2 ? 1 : int($1 / $2) }' "$quota"
-  } | sort -n | head -n 1
+  awk -v own="$(nproc)" '
+    $1 ~ /^[0-9]+$/ && $1 < $2 * own { own = $1 < $2 ? 1 : int($1 / $2) }
+    END { print own }
+  ' "${quota:-/dev/null}"
 }
 
 # Says what something that needs the toolchain, so many MB of memory and so many of disk lacks here, or nothing.
 lacking() {
-  local memory disk where=
+  local memory disk
   memory=$(free_memory_mb) disk=$(free_disk_mb)
-  [ "$memory" -ge "$(system_memory_mb)" ] || where=" in this control group"
   if [ "$(uname -sm)" != "Linux x86_64" ]; then
     echo "x86-64 Linux, where the toolchain of Rattle runs, and this is $(uname -sm)"
   elif ! command -v rt > /dev/null; then
     echo "the command rt: install the toolchain of Rattle and put its bin/ on the PATH"
   elif [ "$memory" -lt "$1" ]; then
-    echo "$1 MB of memory, and $memory MB are free$where"
+    echo "$1 MB of memory, and $memory MB are free here"
   elif [ "$disk" -lt "$2" ]; then
     echo "$2 MB of disk, and $disk MB are free"
   fi
