@@ -1,10 +1,11 @@
+#!/usr/bin/env -S python3 -B
 """Keeps the pages on what `gomod list` is proved to print, and the crates page and page_commands, in step with the
 definitions and with docs/proof/SPEC.md.
 
-    tools/headline.sh          writes anew what HEADLINE.md, REPORTS.md and DEFINITIONS.md show of the sources, and
+    tools/headline.py          writes anew what HEADLINE.md, REPORTS.md and DEFINITIONS.md show of the sources, and
                                copies of the definitions that `list` needs into crates/page/specs, and of those that
                                the other commands need into crates/page_commands/specs
-    tools/headline.sh --check  changes nothing, and tells which page or copy is out of step, or too long, and what
+    tools/headline.py --check  changes nothing, and tells which page or copy is out of step, or too long, and what
                                tools/private.py finds wrong; the status is 1 if there is one
 
 Between the marks `<!-- show .. -->` and `<!-- end -->` of a page stands what the sources say; the rest is by hand:
@@ -18,11 +19,8 @@ Between the marks `<!-- show .. -->` and `<!-- end -->` of a page stands what th
 
 A quote (a line that begins with `>`) must stand in docs/proof/SPEC.md word by word. A definition stands on one page
 only: HEADLINE shows a name before what it is made of, REPORTS after that. Section 2 of HEADLINE says what each name of
-the standard library is that the page has.
-
-The copies are of all definitions that `ListEnds` or COPIES reaches, but for those that a crate of copies defines by
-hand: specs/Types.antt, Files.antt and Runs.antt, which stand in for types of the code, for what bytes say, for the
-go.sum, and for runs.
+the standard library is that the page has. The copies are of all definitions that `ListEnds` or COPIES reaches, but for
+those that a crate of copies defines by hand.
 
 Each definition that the contract of `run` reaches must be on HEADLINE or REPORTS, or in a file that DEFINITIONS names;
 those of crates that know module graphs, if `list` needs them, on one of the first two. HEADLINE may have 45 definitions
@@ -40,7 +38,7 @@ import private
 import script
 import sources
 from sources import (
-    CRATES, USE, USED, Definition, Leaf, definitions, first_sentence, functions, place, reached_from, used_by,
+    CRATES, USE, USED, Definition, Leaf, definitions, first_sentence, functions, names_in, place, reached_from, used_by,
     used_in_clauses,
 )
 
@@ -215,12 +213,11 @@ class Copies:
 
     def __init__(self, crate, ends):
         self.specs, self.path = CRATES / crate / "specs", f"Rattle.{crate}.specs"
-        self.names, self.constructors = {}, {}
         self.by_hand = [it for it in BY_HAND if (self.specs / f"{it}.antt").exists()]
-        for base in self.by_hand[:-1]:
-            for one in definitions(self.specs / f"{base}.antt").values():
-                self.names[one.name] = base
-                self.constructors.update(dict.fromkeys(one.constructors, base))
+        stands = [(base, one) for base in self.by_hand[:-1]
+                  for one in definitions(self.specs / f"{base}.antt").values()]
+        self.names = {one.name: base for base, one in stands}
+        self.constructors = {name: base for base, one in stands for name in one.constructors}
         found, _ = reached_from([place(*it) for it in ends], self.stand_in)
         self.copied = {file: [it for it in definitions(file).values() if it in found]
                        for file in sorted({it.file for it in found})}
@@ -229,39 +226,30 @@ class Copies:
         """The module of the crate that has a stand-in for a definition or a leaf, or None."""
         if not (isinstance(one, Leaf) and one.owner):
             return self.names.get(one.name)
-        own = f"Types.{one.owner[2]}"
-        is_there = (self.specs / own.replace(".", "/")).with_suffix(".antt").exists()
-        return own if is_there else self.names.get(one.name) or self.constructors.get(one.name)
+        is_there = (self.specs / "Types" / f"{one.owner[2]}.antt").exists()
+        return f"Types.{one.owner[2]}" if is_there else self.names.get(one.name) or self.constructors.get(one.name)
 
     def base_of(self, file):
         """The name of the copy of a file, with that of its crate if there are two."""
         is_alone = [it.name for it in self.copied].count(file.name) == 1
         return file.stem if is_alone else file.parts[1].title().replace("_", "") + file.stem
 
-    def names_kept(self, path, listed, ones):
-        """Those of the imported names that these definitions use, each with the module of the crate that has it."""
-        code = "\n".join(one.code for one in ones)
-        words = {name for one in ones for name in used_by(one)}
-        for item in filter(None, (it.strip() for it in listed.split(","))):
-            name, _, other = item.partition(" as ")
-            if not USED.fullmatch(name):
-                if is_in(name, code):
-                    yield item, None
-            elif (other or name) in words:
-                one = place(path, name)
-                yield item, self.stand_in(one) or (isinstance(one, Definition) and self.base_of(one.file))
-
     def text_of(self, file, ones):
-        """The text of the crate's file with these definitions of a source."""
-        imports = defaultdict(list)
+        """The text of the crate's file with these definitions of a source: it imports of what the source does the names
+        that they use, and stand-ins for definitions of the source itself."""
+        imports, code = defaultdict(list), "\n".join(one.code for one in ones)
+        used = {name: it for one in ones for name, it in used_by(one).items()}
         for _, path, listed, short in USE.findall(file.read_text()):
-            if short:
-                if used := [it for one in ones for name, it in used_by(one).items() if name.startswith(f"{short}.")]:
-                    imports[f"{self.path}.{self.stand_in(used[0])} as {short}"] = []
-                continue
-            for item, base in self.names_kept(path, listed, ones):
-                imports[f"{self.path}.{base}" if base else path].append(item)
-        for name, one in sorted({it for one in ones for it in used_by(one).items()}, key=lambda it: it[0]):
+            for name, it in used.items() if short else ():
+                if name.startswith(f"{short}."):
+                    imports[f"{self.path}.{self.stand_in(it)} as {short}"] = []
+            for name, own in names_in(listed):
+                one = used.get(own)
+                base = one and self.stand_in(one) or isinstance(one, Definition) and self.base_of(one.file)
+                if one or not USED.fullmatch(name) and is_in(name, code):
+                    imports[f"{self.path}.{base}" if base else path].append(
+                        name if name == own else f"{name} as {own}")
+        for name, one in sorted(used.items(), key=lambda it: it[0]):
             if isinstance(one, Definition) and one.file == file and self.stand_in(one):
                 imports[f"{self.path}.{self.stand_in(one)}"].append(name)
         uses = [f"use {path}" + (f".{{{', '.join(items)}}}" if items else "") for path, items in imports.items()]
@@ -325,7 +313,7 @@ def main(option=""):
         copies = Copies(crate, ends)
         texts |= copies.texts()
         wrong += copies.strange()
-    kept = [script.keep(path, text, bool(option), "tools/headline.sh") for path, text in texts.items()]
+    kept = [script.keep(path, text, bool(option), "tools/headline.py") for path, text in texts.items()]
     return int(bool(option and private.main()) or bool(wrong) or any(kept))
 
 
