@@ -253,7 +253,7 @@ class Copies:
             if isinstance(one, Definition) and one.file == file and self.stand_in(one):
                 imports[f"{self.path}.{self.stand_in(one)}"].append(name)
         uses = [f"use {path}" + (f".{{{', '.join(items)}}}" if items else "") for path, items in imports.items()]
-        head = f"-- A copy from {file}, which tools/headline.sh writes."
+        head = f"-- A copy from {file}, which tools/headline.py writes."
         return "\n\n".join(["\n".join([head, *uses]), *(one.whole() for one in ones)]) + "\n"
 
     def texts(self):
