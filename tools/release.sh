@@ -7,9 +7,8 @@
 #   tools/release.sh --check             makes the archive of bin/gomod as it is, checks it and removes it
 #   tools/release.sh --check --unproved  the same with a program that tools/unproved.sh made
 #
-# Into FOLDER, which it makes if there is none, it writes gomod-VERSION-x86_64-linux.tar.gz and beside it a file with
-# its sha256. The archive has one folder with bin/ and share/, to be unpacked into a folder such as ~/.local (`tar
-# --strip-components=1`); share/doc/gomod/ has the documents and examples, as tools/release.py adapts them, and
+# Into FOLDER it writes gomod-VERSION-x86_64-linux.tar.gz and beside it a file with its sha256. The archive has one
+# folder with bin/ and share/; share/doc/gomod/ has the documents and examples, as tools/release.py adapts them, and
 # RELEASE.txt: version, commit, the gate's last line, the records below, what the program needs and its sha256. The same
 # files give the same archive.
 #
@@ -18,7 +17,7 @@
 # version doesn't say that it is proved. Unless --check is given, it refuses a version that isn't the first one in
 # CHANGELOG.md with its day, or whose tag (as v1.2.0) is at another commit, a program that isn't the one that the last
 # proof left, a gate that failed or ran with another program, changes that aren't committed, and a program without one
-# of its records, files of bin/ that are listed below with what leaves them.
+# of the records that are listed below, files of bin/.
 #
 # It needs bin/gomod, git, GNU tar, gzip and python3. The status is 1 if it refuses, and 2 for wrong arguments.
 set -euo pipefail
@@ -31,20 +30,17 @@ begin_script "$@"
 # The least version of glibc that a program needs: the greatest of those whose symbols it names.
 least_glibc() { grep -aoE 'GLIBC_[0-9]+(\.[0-9]+)+' "$1" | cut -d _ -f 2 | sort -uV | tail -n 1; }
 
-# Whether the last line of a file of bin/ is of bin/gomod, or of its sources.
-is_current() {
-  case $1 in
-    checked | mistakes) [ "$(tail -n 1 "bin/$1.txt")" = "$(checksum_of_program)" ] ;;
-    *) tail -n 1 "bin/$1.txt" | sha256sum --check --status ;;
-  esac
-}
-
-# Prints the first line of a file of bin/, which a script has to leave first, and refuses it if it is of something else.
+# Prints the first line of a file of bin/, which a script has to leave first, and refuses it if the last one isn't of
+# bin/gomod, or of its sources.
 record_of() {
-  local line
+  local line sum
   [ -f "bin/$1.txt" ] || refuse "there is no bin/$1.txt: run $2"
   line=$(head -n 1 "bin/$1.txt")
-  is_current "$1" || refuse "$3 ($line): run $2"
+  case $1 in
+    checked | mistakes) sum=$(checksum_of_program) ;;
+    *) sum=$(sha256sum bin/gomod) ;;
+  esac
+  [ "$(tail -n 1 "bin/$1.txt")" = "$sum" ] || refuse "bin/$1.txt is of another program or sources ($line): run $2"
   echo "$line"
 }
 
@@ -106,25 +102,21 @@ esac
 need_gomod
 if [ -z "$check" ]; then
   is_last_proved || refuse "bin/gomod isn't the program that the last proof left at $PROVED_PROGRAM: run .ci/run"
-  if [ -z "$gate" ]; then
-    [ -f bin/gate.txt ] || refuse "there is no bin/gate.txt: run .ci/run, or give the gate's last line with --gate"
-    gate=$(head -n 1 bin/gate.txt)
-    is_current gate || refuse "the gate of bin/gate.txt ran with another program"
-  fi
+  [ -n "$gate" ] || gate=$(record_of gate ".ci/run, or give the gate's last line with --gate")
   [[ $gate =~ ^[1-9][0-9]*\ passed,\ 0\ failed$ ]] || refuse "this is no gate that passed: '$gate'"
   [ -z "$(git status --porcelain)" ] || refuse "there are changes that aren't committed"
 fi
-# each record: its file, what leaves it, why it may be refused, and what it is called in RELEASE.txt
+# each record: its file, what leaves it, and what it is called in RELEASE.txt
 records="gate: ${gate:-none}" record=none
-while IFS='|' read -r name how why label; do
-  [ -n "$check" ] || record=$(record_of "$name" "$how" "$why")
+while IFS='|' read -r name how label; do
+  [ -n "$check" ] || record=$(record_of "$name" "$how")
   records+=$'\n'"$label: $record"
 done << 'RECORDS'
-refused|tools/refuse-memory.sh|allocations were refused of another program|each allocation refused
-opened|tools/program.sh, where strace is|what another program opens was looked at|what each command opens
-checked|tools/cases.sh --checked|the cases ran with checks of other sources|cases with checks
-mistakes|tools/mistakes.py|the wrong bodies were those of other sources|wrong bodies
-texts|tools/compare_go.py --check, where go 1.19.8 is|texts of another program were compared|texts beside go
+refused|tools/refuse-memory.sh|each allocation refused
+opened|tools/program.sh, where strace is|what each command opens
+checked|tools/cases.sh --checked|cases with checks
+mistakes|tools/mistakes.py|wrong bodies
+texts|tools/compare_go.py --check, where go 1.19.8 is|texts beside go
 RECORDS
 
 version=$(bin/gomod --version)
