@@ -2,7 +2,7 @@
 # Refuses each allocation of each command of the cases and of each test in turn, and lists what goes wrong then.
 #
 #   tools/refuse-memory.sh                     all below: before a release
-#   tools/refuse-memory.sh --check             the cases of tools/refused_cases.txt, the calls of refused_calls.txt and
+#   tools/refuse-memory.sh --check             the cases that are listed below, the calls of tools/refused_calls.txt and
 #                                              the tests but those of reports: what .ci/run runs
 #   tools/refuse-memory.sh --cases             all cases but the large ones
 #   tools/refuse-memory.sh --cases FILE.txt..  the cases of these files, but the large ones
@@ -28,7 +28,7 @@ cd "$(dirname "$0")/.."
 . tools/lib.sh
 begin_script "$@"
 
-readonly DATA=crates/run_cases/data LISTED=tools/refused_cases.txt RECORD=bin/refused.txt
+readonly DATA=crates/run_cases/data RECORD=bin/refused.txt
 readonly CALLS=tools/refused_calls.txt RUN_CASES=crates/run_cases/out/run_cases PROVED=docs/proof/PROVED.md
 readonly MOST=200000 # more allocations than any test makes: a guard against a count that doesn't end
 
@@ -47,14 +47,33 @@ refuse_in_cases() {
   runs=$((runs + ${count:-0}))
 }
 
-# The cases of the list, whose lines are the name of a file and a title, with a colon between them.
+# These cases, each with the name of its file.
 refuse_in_listed() {
-  local line file files=() titles=()
-  while IFS= read -r line; do
-    file=$DATA/${line%%: *}
-    grep -sqxF -- "=== ${line#*: }" "$file" || refuse "$LISTED names a case that is not there: $line"
-    files+=("$file") titles+=("${line#*: }")
-  done < "$LISTED"
+  local file title files=() titles=()
+  while IFS=: read -r file title; do
+    grep -sqxF -- "===$title" "$DATA/$file" || refuse "there is no case '$file:$title'"
+    files+=("$DATA/$file") titles+=("${title# }")
+  done << 'CASES'
+selection.txt: The greatest of the required versions is listed, not the newest one
+selection.txt: A requirement on the main module's path is followed, and has no row
+pruning.txt: A pruned module that one without pruning requires is followed, though it was first reached at the top
+pages.txt: After the main module come all other rows
+replacements.txt: Two modules may share a file, which is read once
+replacements.txt: A file that declares the replaced path is wrong for the replacing module itself
+faults.txt: Every file with a fault is reported, whatever is asked
+faults.txt: A go.mod is looked up in the go.sum by its path, its version and the mark of a go.mod
+faults.txt: A hash that differs is reported, even next to the right one
+faults.txt: A malformed go.sum is refused after a malformed main file, and before any module's file is opened
+versions.txt: Versions are listed in ascending order, each once
+versions.txt: Of an empty list the path alone is printed
+versions.txt: A list that is absent is missing, whichever versions are asked for
+layout.txt: Words, blank lines and comments are laid out anew, and a layout is laid out as it is
+layout.txt: A file whose text does not read has no layout
+edits.txt: Operations are applied in turn, each to what the one before it leaves
+chains.txt: A chain is printed from the main module to a listed one, one step a line
+graphs.txt: The edges of the main module come first, then those of each other module
+graphs.txt: Files with equal requirements each have their edges, and an excluded one is left out of each
+CASES
   mapfile -t files < <(printf '%s\n' "${files[@]}" | sort -u)
   REFUSE_LATER=yes refuse_in_cases "${files[@]}" "${titles[@]}"
 }
