@@ -37,7 +37,7 @@ import tempfile
 
 import script
 from refusals import Absent, read_edit, replaced
-from script import AT_ONCE, read, run_within, write
+from script import AT_ONCE, read, run_within, shared, write
 from sources import functions
 
 CASES = pathlib.Path("crates/run_cases/data")
@@ -253,12 +253,6 @@ def run_all(chosen, files, told):
                 told[one] = "; ".join(said)
 
 
-def sources_here():
-    """The commit, and the checksum of what an unproved program is made of."""
-    words = ["bash", "-c", ". tools/lib.sh; commit_here && checksum_of_program", "tools/mistakes.py"]
-    return subprocess.run(words, stdout=subprocess.PIPE, check=True, text=True).stdout.split("\n")[:2]
-
-
 def main(*words):
     """Lists the mistakes that words choose, or builds and runs them, and returns the status."""
     is_listed = words[:1] == ("--list",)
@@ -271,7 +265,7 @@ def main(*words):
         for one in chosen:
             print(one, *map(": ".join, one.cases), *filter(None, [one.passes]), sep="\n    ")
     else:
-        before = sources_here()
+        commit, sources = shared("commit_here"), shared("checksum_of_program")
         pathlib.Path(RECORD).unlink(missing_ok=True)
         run_all(chosen, files, told)
     for one, why in told.items():
@@ -283,10 +277,10 @@ def main(*words):
         return 1
     # what tools/release.sh asks for, if the sources are those at the start
     if not words:
-        if sources_here() != before:
+        if shared("checksum_of_program") != sources:
             sys.exit("mistakes: the sources aren't those at the start")
         day = datetime.datetime.now(datetime.timezone.utc).date()
-        write(RECORD, f"{said}, on {day} at commit {before[0]}\n{before[1]}\n")
+        write(RECORD, f"{said}, on {day} at commit {commit}\n{sources}\n")
     return 0
 
 

@@ -36,9 +36,17 @@ def program_of(words):
     return os.path.realpath("bin/gomod"), words
 
 
+def shared(function):
+    """What a function of tools/lib.sh prints."""
+    words = ["bash", "-c", '. tools/lib.sh; "$1"', SCRIPT, function]
+    return subprocess.run(words, stdout=subprocess.PIPE, check=True, text=True).stdout.strip()
+
+
 def need_gomod():
     """Ends if there is no bin/gomod, and warns if that is older than a source."""
-    if subprocess.run(["bash", "-c", ". tools/lib.sh; need_gomod", SCRIPT]).returncode:
+    try:
+        shared("need_gomod")
+    except subprocess.CalledProcessError:
         sys.exit(1)
 
 
