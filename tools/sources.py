@@ -1,4 +1,7 @@
+#!/usr/bin/env -S python3 -B
 """Reads the sources of the crates for other scripts: what a comment, a `use`, a definition and an item of the code is.
+
+    tools/sources.py NAME    prints the crates to copy to use a library: those below it and itself, lowest first
 
     files, crates, with_below    which sources and crates there are
     scope_of, paths_of           what the names mean that a text imports, of definitions and of the code
@@ -16,6 +19,8 @@ import itertools
 import pathlib
 import re
 import sys
+
+import script
 
 CRATES = pathlib.Path("crates")
 COPYING = "page", "page_commands"  # the crates whose definitions are copies of others
@@ -324,3 +329,15 @@ def reached_from(found, is_end=lambda one: False, models={}):
             model = () if isinstance(one, Definition) or not one.owner else models.get(one.owner[::2], ())
             left.extend(used_by(one).values() if isinstance(one, Definition) else model)
     return [it for it in reached if isinstance(it, Definition)], [it for it in reached if isinstance(it, Leaf)]
+
+
+def main(crate):
+    """Prints a crate and those below it."""
+    if crate not in crates():
+        script.misused(f"crates.txt has no crate {crate}")
+    print(*with_below(crate), sep="\n")
+    return 0
+
+
+if __name__ == "__main__":
+    script.run(main, r" \S+")
