@@ -205,8 +205,8 @@ class Trial:
         given = {}
         words = [sys.executable, "-B", "tools/program.py", self.room / "gomod", "--unproved", CASES / file, part]
         if not is_itself:
-            words = ["prlimit", f"--as={BYTES}", "--", *(AS_NOBODY if os.getuid() == 0 else []), self.program,
-                     os.path.basename(file), part]
+            words = ["prlimit", f"--as={BYTES}", f"--cpu={SECONDS}", "--", *(AS_NOBODY if os.getuid() == 0 else []),
+                     self.program, os.path.basename(file), part]
             room = {"TMPDIR": str(self.room), "HOME": str(self.room), "PATH": os.environ["PATH"]}
             given = {"cwd": (self.data / file).parent, "env": room}
         # tools/program.py ends a command that waits, and says of which case it is

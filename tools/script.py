@@ -114,7 +114,9 @@ def ticks_of(pid):
 def finish(command, text=None, seconds=100):
     """What a command that was started writes. A signal ends it after so much CPU time. If for so long it only waits, it
     is killed, and the fault is subprocess.TimeoutExpired."""
-    resource.prlimit(command.pid, resource.RLIMIT_CPU, (seconds, seconds))
+    # another user's has to set its own
+    with contextlib.suppress(PermissionError):
+        resource.prlimit(command.pid, resource.RLIMIT_CPU, (seconds, seconds))
     before = -1
     while True:
         try:
