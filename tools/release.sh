@@ -80,7 +80,7 @@ check_archive() {
   tar --extract --gzip --file "$1" --directory "$top" --strip-components=1
   tools/readme.py --archive "$top" || refuse "the archive has faulty links or examples"
   least=$(least_glibc "$top/bin/gomod")
-  said=$(grep -rhoE 'glibc [0-9]+(\.[0-9]+)+' "$top/share/doc/gomod" | sort -u)
+  said=$(grep -rhoE 'glibc [0-9]+(\.[0-9]+)+' "$top/share/doc/gomod" README.md | sort -u)
   [ "$said" = "glibc $least" ] || refuse "the program needs glibc $least, and the documents say: ${said//$'\n'/, }"
   echo "glibc: $least is the least"
 }
