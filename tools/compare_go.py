@@ -18,8 +18,8 @@ network, with all that it writes in a scratch folder. If go updates the main fil
 
 It prints the version of go, each difference that docs/use/GO.md does not name in full, with the number of its world,
 and for each command how many results were the same, refused by both, or differ in a way that has a row in the table of
-docs/use/GO.md (tools/go_differences.py); a result can differ in several. The status is 1 if there is a difference
-without a name.
+docs/use/GO.md (tools/go_differences.py), which is called by its first words; a result can differ in several. The status
+is 1 if there is a difference without a name.
 
 --rows asks both in worlds made by hand. The status is 1 unless each row of the table has a world, each world has a
 difference of its row and of no other, and both programs say what tools/go_rows.py has of them.
@@ -29,9 +29,10 @@ shows; of each row that none of these shows there is one text more. The status i
 shown, if one is shown and they don't differ, or answer another way, or if no text shows one. It is of go 1.19.8.
 
 --check compares a tidy module with the cache that `go mod download` filled, example/go.mod, example/tidy.mod, and the
-worlds of --rows, with the answers of go 1.19.8 in tools/go_answers.json. If there is a go 1.19.8, it compares 2000
-texts too, from a number that the commit gives. Mistakes have to be found, too: a command without a line, a proxy
-without the .info of a pruned-out module, and a row, a world or a difference without the others.
+worlds of --rows, with the answers of go 1.19.8 in tools/go_answers.json, each of which has to be asked for. Mistakes
+have to be found, too: output of gomod that is changed, another command in go's place, a proxy without the .info of a
+pruned-out module, and a row, a world or a difference without the others. If there is a go 1.19.8, it has to give these
+answers, and 2000 texts, from a number that the commit gives, and 40 random worlds are compared.
 
 It needs bin/gomod (./build makes it), a go command of 1.19 or later (in Debian: apt-get install golang-go) and python3.
 300 worlds take about 35 s of CPU time.
@@ -39,6 +40,7 @@ It needs bin/gomod (./build makes it), a go command of 1.19 or later (in Debian:
 
 import argparse
 import contextlib
+import functools
 import hashlib
 import io
 import json
@@ -58,12 +60,15 @@ import go_rows
 import go_texts
 import script
 from go_differences import BOTH, SAME, Comparison, Differences, pieces_of
-from go_worlds import UNFETCHABLE, World, escaped, is_import_path, lay_tidy_world, lay_version, operations, unescaped
+from go_worlds import (
+    UNFETCHABLE, World, escaped, is_import_path, lay_tidy_world, lay_version, operations, unescaped, whole
+)
 from script import TOP, read, write
 
-GOMOD, ANSWERS, TEXTS = TOP / "bin/gomod", TOP / "tools/go_answers.json", 2000
-SECONDS = 120
-NO_ROW = ": a difference that docs/use/GO.md does not name"
+GOMOD, ANSWERS = TOP / "bin/gomod", TOP / "tools/go_answers.json"
+TEXTS, MORE, WORLDS = 2000, 100000, 40  # MORE texts are looked at for one that shows a row
+NOTHING = "\0", "", ""  # no words have this
+NO_ROW, NONE = ": a difference that docs/use/GO.md does not name", "differences that docs/use/GO.md does not name: 0\n"
 
 
 class Result(typing.NamedTuple):
@@ -78,63 +83,62 @@ class Result(typing.NamedTuple):
 
 
 def run(words, folder, environment=None):
-    ran = subprocess.run(words, cwd=folder, capture_output=True, timeout=SECONDS, stdin=subprocess.DEVNULL,
-                         env=environment)
+    ran = script.run_within(words, cwd=folder, capture_output=True, stdin=subprocess.DEVNULL, env=environment)
     return Result(ran.returncode, ran.stdout.decode("utf-8", "surrogateescape"), ran.stderr.decode("utf-8", "replace"))
 
 
 class Programs:
-    """go and gomod, each of which is run in a folder."""
+    """go and gomod, each of which is run in a folder. What gomod prints is changed if the words have a text: what a
+    pattern finds is replaced."""
 
-    def __init__(self, go):
-        self.real = go
+    def __init__(self, go, change=NOTHING):
+        self.real, self.change = go, change
 
     def go(self, words, folder, environment, _proxy):
         return run([self.real, *words], folder, environment)
 
     def gomod(self, words, folder):
-        return run([GOMOD, *words], folder)
+        ran, (text, *change) = run([GOMOD, *words], folder), self.change
+        if text not in " ".join(words):
+            return ran
+        return Result(ran.status, re.sub(*change, ran.out), re.sub(*change, ran.err))
 
 
 class Recorded(Programs):
-    """The same with recorded answers in go's place, each to the words, GOFLAGS, and the files of the folder and of the
-    proxy: the status, what was printed, the files of the folder that go changed, and those of the cache if it is looked
-    at then, without their text if they are as in the proxy. What is empty is left out, and a go.sum that go may write.
-    If there is a real go, it is asked for what lacks. A command of gomod may lose lines."""
+    """The same with recorded answers in go's place, each to a checksum of the words, GOFLAGS, GOPROXY, and the files of
+    the proxy and of the folder, or of that above it if it has no go.mod: what was printed, or why it was refused, the
+    files that go changed, but for a go.sum that it may write, and those of the proxy that its cache lacked, if that is
+    looked at then. If there is a real go, it is asked for what lacks."""
 
     def __init__(self, answers, real=""):
         super().__init__(real)
-        self.answers, self.cut = answers, ""
-
-    def gomod(self, words, folder):
-        ran = super().gomod(words, folder)
-        return ran._replace(out=re.sub(r".*rsc\.io/sampler.*\n", "", ran.out)) if words[0] == self.cut else ran
+        self.answers, self.asked = answers, set()
 
     def go(self, words, folder, environment, proxy):
         flags, cache = environment["GOFLAGS"], f"{environment['GOMODCACHE']}/cache/download"
-        has_sums, room = flags == "-mod=readonly" or words[:2] == ("mod", "tidy"), os.path.dirname(proxy)
-        before, laid = files_below(folder, has_sums), files_below(proxy)
-        given = hashlib.sha256(json.dumps([words, flags, before, laid]).encode()).hexdigest()
-        key = " ".join([given[:8], *(it for it in [flags, *words] if it and not it.startswith("{{"))])
+        top = folder if os.path.exists(f"{folder}/go.mod") else os.path.dirname(folder)
+        has_sums, room = flags == "-mod=readonly" or words[1] == "tidy", os.path.dirname(proxy)
+        before, laid = files_below(top, has_sums), files_below(proxy)
+        given = [words, flags, environment["GOPROXY"].replace(room, ""), before, laid]
+        key = hashlib.sha256(json.dumps(given).encode()).hexdigest()[:8]
+        cached = [it for it in laid if words[1] in ("graph", "download") and re.search(r"/list$|\.mod$", it)]
         if self.real and key not in self.answers:
             ran = super().go(words, folder, environment, proxy)
-            after = files_below(folder, has_sums)
-            kept = files_below(cache) if words[:2] in (("mod", "graph"), ("mod", "download")) else {}
             answer = {
-                "status": ran.status, "out": ran.out.replace(room, "<ROOM>"),
-                "err": ran.err.replace(room, "<ROOM>") if ran.status else "",
-                "files": {name: text for name, text in after.items() if before.get(name) != text},
-                "cache": {name: None if laid.get(name) == text else text for name, text in kept.items()
-                          if re.search(r"/list$|\.mod$", name)},
+                "out": ran.out, "refused": ran.status and ran.err,
+                "files": {name: text for name, text in files_below(top, has_sums).items() if before.get(name) != text},
+                "uncached": [it for it in cached if not os.path.exists(f"{cache}/{it}")],
             }
-            self.answers[key] = {what: it for what, it in answer.items() if it}
-        answer = self.answers.get(key, {"status": 1, "err": f"there is no recorded answer '{key}'"})
+            found = json.dumps({what: it for what, it in answer.items() if it})
+            self.answers[key] = json.loads(found.replace(room, "<ROOM>"))
+        self.asked.add(key)
+        answer = self.answers.get(key, {"refused": f"go's answer {key} to {words} isn't recorded\n"})
         for name, text in answer.get("files", {}).items():
-            write(f"{folder}/{name}", text)
-        for name, text in answer.get("cache", {}).items():
-            write(f"{cache}/{name}", laid[name] if text is None else text)
-        out, err = (answer.get(it, "").replace("<ROOM>", room) for it in ("out", "err"))
-        return Result(answer.get("status", 0), out, err)
+            write(f"{top}/{name}", text)
+        for name in set(cached) - set(answer.get("uncached", ())):
+            write(f"{cache}/{name}", laid[name])
+        out, refused = (answer.get(it, "").replace("<ROOM>", room) for it in ("out", "refused"))
+        return Result(int(refused != ""), out, refused)
 
 
 def files_below(folder, has_sums=True):
@@ -218,9 +222,9 @@ def lay_cache(cache, proxy, named):
 
 def named_versions(text):
     """The pairs of path and version that the text of a go.mod requires or replaces by."""
-    pairs = {args[-2:] for verb, args, _ in pieces_of(text)[0] if verb in ("require", "replace")}
-    element = r"[\w~+-][\w.~+-]*"  # none begins with a dot, so no name leads out of the proxy
-    return {it for it in pairs if re.fullmatch(rf"{element}(/{element})* v\d+\.\d+\.\d+[\w.+-]*", " ".join(it))}
+    named = {args[-2:] for verb, args, _ in pieces_of(text)[0] if verb in ("require", "replace") and len(args) > 1}
+    # no path of an import leads out of the proxy
+    return {(path, version) for path, version in named if is_import_path(path) and whole(version) == version}
 
 
 def compare_cache(programs, cache, mod, edits, seed, room, found):
@@ -290,7 +294,7 @@ def compare_row_world(programs, row, room, found):
     faults = [f"{at.where}: it has a difference of the row '{it}'" for it in sorted(kinds - {row.name})]
     faults += [f"{at.where}: it has no difference of that row"] * (row.name not in kinds)
     for program, text in ("go", row.go), ("gomod", row.gomod):
-        if text not in commands.said[program]:
+        if not text or text not in commands.said[program]:
             faults.append(f"{at.where}: {program} doesn't say {text!r}, but {commands.said[program][:600]!r}")
     found.unexplained += len(faults)
     for it in faults:
@@ -378,7 +382,7 @@ class TextWorlds:
 def compare_texts(programs, count, seed, room, found):
     """So many texts from a number on, and one for each row that they ask about and that none of them shows."""
     asked, seen, worlds = {row: set() for row in go_rows.ALONE}, set(), TextWorlds(programs, room)  # the places of rows
-    for number in range(seed, seed + count + 100000):
+    for number in range(seed, seed + count + MORE):
         it, is_more, missing = go_texts.make(number), number >= seed + count, asked.keys() - seen
         if is_more and not missing:
             break
@@ -465,8 +469,8 @@ def compare(programs, asked):
 class Check(script.Tally):
     """How many comparisons were right and wrong."""
 
-    def expect(self, what, programs, words, status, *texts, kind="comparisons with recorded answers of go"):
-        """Whether a comparison ends with this status, and prints these texts."""
+    def expect(self, kind, programs, what, words, status, *texts):
+        """What a comparison prints, which has to end with this status and print these texts."""
         with contextlib.redirect_stdout(io.StringIO()) as printed:
             try:
                 came = compare(programs, parsed(map(str, words)))
@@ -477,27 +481,37 @@ class Check(script.Tally):
         missing = [f"  it doesn't print: {it}\n" for it in texts if it not in said]
         message = f"{what}: status {came}, and {status} is right\n{''.join(missing)}  it prints:\n{said}"
         self.tell(kind, came == status and not missing, message)
-        return came == status
+        return said
 
     def compare_all(self, programs, room):
         """All comparisons with recorded answers."""
-        cache, none = f"{room}/cache", "differences that docs/use/GO.md does not name: 0\n"
+        expect = functools.partial(self.expect, "comparisons with recorded answers of go", programs)
+        cache = f"{room}/cache"
         for name in "cache/download", "mirror":
             shutil.copytree(f"{TOP}/example/{name}", cache, dirs_exist_ok=True)
         write(f"{room}/main/go.mod", read(f"{TOP}/example/tidy.mod"))
-        example = ["--cache", f"{TOP}/example/cache/download", "--mod", f"{TOP}/example/go.mod", 0]
-        commands = ("list", "graph", "chain", "versions", "fmt")
-        same = [f"{it}:\n{number:8} the same\n" for it, number in zip(commands, (1, 1, 3, 3, 1))]
-        self.expect("a module that go made tidy", programs, [0], 0, none)
-        self.expect("example/go.mod", programs, example, 0, *same, none)
+        example = ["--cache", f"{TOP}/example/cache/download", "--mod", f"{TOP}/example/go.mod", 2]
         tidy = ["--cache", cache, "--mod", f"{room}/main/go.mod", 0]
-        self.expect("example/tidy.mod", programs, tidy, 0, *same[:3], same[4], none)
-        self.expect("the worlds of the rows", programs, ["--rows"], 0, none)
-        for programs.cut in commands:
-            self.expect(f"gomod {programs.cut} without a line", programs, example, 1, f": {programs.cut}", NO_ROW)
-        programs.cut = ""
+        commands = {"list": 1, "graph": 1, "chain": 3, "versions": 3, "versions --retracted": 3, "fmt": 1}
+        same = {it: f"{it}:\n{number:8} the same\n" for it, number in commands.items()}
+        expect("a module that go made tidy", [0], 0, NONE)
+        expect("example/go.mod", example, 0, *same.values(), "edit:\n", NONE)
+        expect("example/tidy.mod", tidy, 0, same["list"], same["graph"], same["chain"], same["fmt"], NONE)
+        expect("the worlds of the rows", ["--rows"], 0, NONE)
+        line, step = r".*rsc\.io/sampler.*\n", "rsc.io/sampler@v1.3.1\n"
+        for words, found, put, command in (
+            *((it, line, "", it) for it in ("list", "graph", "chain", "versions", "fmt", "edit")),
+            ("--retracted", line, "", "versions --retracted"), ("/cache/download", line, "", "list"),
+            ("chain", step, "rsc.io/quote@v1.5.2\n", "chain"), ("fmt", " // indirect", "", "fmt"),
+            ("chain", step, "rsc.io/quote@v1.5.2\nrsc.io/sampler@v1.3.0\n", "chain"),
+        ):
+            programs.change = words, found, put
+            expect(f"gomod {words}, with {put!r} for {found!r}", example, 1, f": {command}{NO_ROW}")
+        programs.change = "--retracted", "v1.0.0", "v1.1.0"
+        expect("a difference beside that of a row", ["--rows", go_rows.TWICE], 1, f": versions --retracted{NO_ROW}")
+        programs.change = NOTHING
         with mock.patch.dict(globals(), named_versions=lambda text: set()):
-            self.expect("a proxy without the .info of a pruned-out module", programs, [0], 1, NO_ROW, ".info: ")
+            expect("a proxy without the .info of a pruned-out module", [0], 1, NO_ROW, ".info: ")
         row, names = go_rows.NOT_UTF8, go_differences.names()
         others = [it for it in go_differences.GOMOD_ALONE if it[1] != row]
         one_more, one_less = names | {"Another"}, names - {row}
@@ -507,33 +521,64 @@ class Check(script.Tally):
             ("a difference that has no row", {"GOMOD_ALONE": others}, NO_ROW),
         ):
             with mock.patch.multiple(go_differences, **changed):
-                self.expect(what, programs, ["--rows", row], 1, says)
+                expect(what, ["--rows", row], 1, says)
 
-    def compare_texts(self, wanted):
-        """Compares texts with a real go, if there is the version whose answers are recorded, others for each commit,
-        and leaves a record for tools/release.sh."""
-        found = [it for it in (shutil.which("go"), "/usr/lib/go-1.19/bin/go") if it and os.path.exists(it)]
-        real = next((it for it in found if script.real_go(it)[1] == wanted), None)
-        if not real:
-            print(f"skipped, texts beside go: there is no {wanted}")
-            return
-        seed = TEXTS * int(script.git("rev-parse", "HEAD", top=TOP)[:6] or "0", 16)
+    def compare_without(self):
+        """What is seen if another command is taken for go."""
+        expect, texts = functools.partial(self.expect, "comparisons with what is no go"), ["--texts", 0]
+        commands, says = ("list", "edit", "fmt", "versions", "versions --retracted"), " what the rows say: "
+        mute, without = Programs("true"), Programs("true", ("", "StrayClose", ""))
+        expect(mute, "a go that prints nothing", [1], 1, *(f"world 1: {it}{NO_ROW}" for it in commands))
+        with mock.patch.dict(globals(), MORE=300):
+            expect(Programs("false"), "a go that refuses all", texts, 1, f"not{says}{go_rows.RETRACTED}")
+            expect(without, "a gomod without a reason", texts, 1, f"StrayClose{says}{go_rows.CLOSES}")
+        with mock.patch.dict(globals(), MORE=0):
+            expect(mute, "a row that no text shows", texts, 1, f"shows the row '{go_rows.DASH}'")
+
+    def compare_beside(self, real, version):
+        """Compares texts, others for each commit, and random worlds with a real go, and leaves a record for
+        tools/release.sh."""
+        expect, seed = functools.partial(self.expect, "comparisons beside go"), script.git("rev-parse", "HEAD", top=TOP)
+        seed = TEXTS * int(seed[:6] or "0", 16)
         what = f"{TEXTS} texts from {seed}"
-        if self.expect(what, Programs(real), ["--texts", TEXTS, seed], 0, kind="texts beside go"):
+        places = "main", "dependency", "folder", "latest", "list", "sum", "operation"
+        said = expect(Programs(real), what, ["--texts", TEXTS, seed], 0, *(f"{it}:\n" for it in places))
+        judged = sum(map(int, re.findall(r"(?m)^ +(\d+) ", said)))
+        self.tell("texts that are judged", judged >= TEXTS, f"{judged} of {what} were judged")
+        expect(Programs(real), f"{WORLDS} random worlds", [WORLDS], 0, NONE)
+        without = Programs(real, ("fmt", "\n\n", "\n"))
+        expect(without, "gomod fmt without blank lines", [3], 1, f": fmt{NO_ROW}")
+        if all(is_right for _, is_right in self):
             program = hashlib.sha256(GOMOD.read_bytes()).hexdigest()
-            write(f"{TOP}/bin/texts.txt", f"{what} beside {wanted}\n{program}  bin/gomod\n")
+            write(f"{TOP}/bin/texts.txt", f"{what} beside {version}\n{program}  bin/gomod\n")
 
 
-def check(recorded, real=""):
-    """Makes the comparisons of --check, and returns the status."""
-    tally, answers = Check(), recorded["answers"]
+def check(real, version, is_checked=True):
+    """Makes the comparisons of --check, or of --record, and returns the status. What a real go answers is compared with
+    the recorded answers, or written."""
+    tally, groups = Check(), {} if real else json.loads(read(ANSWERS))["answers"]
+    answers = {key: it for keys, it in groups.items() for key in keys.split()}
+    programs = Recorded(answers, real)
     with tempfile.TemporaryDirectory(prefix="gomod-recorded-") as room:
-        tally.compare_all(Recorded(answers, real), room)
+        tally.compare_all(programs, room)
     if real:
-        write(ANSWERS, json.dumps(recorded, indent=0) + "\n")
+        texts = [json.dumps(it) for it in answers.values()]
+        groups = {" ".join(key for key, it in zip(answers, texts) if it == text): json.loads(text) for text in texts}
+        text = json.dumps({"version": version, "answers": groups}, indent=0) + "\n"
+        tally.tell("files of answers that go gives", not script.keep(ANSWERS, text, is_checked, "--record"))
     else:
-        tally.compare_texts(recorded["version"])
+        unasked = answers.keys() - programs.asked
+        tally.tell("files of answers that are asked for", not unasked, f"nothing asks for {sorted(unasked)}")
+    tally.compare_without()
+    if real and is_checked:
+        tally.compare_beside(real, version)
     return tally.status()
+
+
+def go_of(version):
+    """The go command of this version, if there is one."""
+    found = [it for it in (shutil.which("go"), "/usr/lib/go-1.19/bin/go") if it and os.path.exists(it)]
+    return next((it for it in found if script.real_go(it)[1] == version), "")
 
 
 def main(*words):
@@ -542,10 +587,13 @@ def main(*words):
         sys.exit("compare-go: there is no bin/gomod: run ./build")
     match words:
         case ["--check"]:
-            return check(json.loads(read(ANSWERS)))
+            version = json.loads(read(ANSWERS))["version"]
+            real = go_of(version)
+            if not real:
+                print(f"skipped, comparisons beside go: there is no {version}")
+            return check(real, version)
         case ["--record", command]:
-            real, version = script.real_go(command)
-            return check({"version": version, "answers": {}}, real)
+            return check(*script.real_go(command), False)
         case ["--check" | "--record", *_]:
             script.misused("--check takes nothing, --record the name of a go command")
     asked = parsed(words)

@@ -9,7 +9,7 @@ import sys
 
 import go_rows
 import script
-from go_worlds import escaped, fits, latest_of
+from go_worlds import escaped, fits, is_pseudo, latest_of, whole
 from script import read, write
 
 SAME, BOTH = "the same", "refused by both"
@@ -40,9 +40,9 @@ GOMOD_ALONE = [
 
 @functools.cache
 def names():
-    """The first fields of the rows of docs/use/GO.md."""
+    """The first words of the rows of docs/use/GO.md, up to a comma, a semicolon or a colon before a blank."""
     lines = read(script.TOP / "docs/use/GO.md").split("\n")
-    return {line.split("|")[1].strip() for line in lines if line.startswith("| ")} - {"What"}
+    return {re.split(r"[,;]|: | \|", line[2:])[0] for line in lines if line.startswith("| ")} - {"What"}
 
 
 class Differences:
@@ -285,8 +285,7 @@ class Comparison:
         if came.status == 0 and not error and ours == once:
             return [SAME if once == theirs else go_rows.TWICE]
         lines = read(f"{self.commands.proxy}/{escaped(path)}/@v/list").splitlines()
-        listed = [it.split()[0] for it in lines if re.match(r"v\d+(\.\d+){0,2}([-+]|\s|$)", it)]
-        listed = [it for it in listed if not re.search(r"\d{14}-[0-9a-f]{12}", it)]
+        listed = [it for it, *_ in map(str.split, filter(str.strip, lines)) if whole(it) and not is_pseudo(it, True)]
         fitting = [it for it in listed if fits(path, it)]
         if came.status == 0 and not error:
             kept = [it for it in once if fits(path, it)]

@@ -62,7 +62,7 @@ def latest_of(versions):
 
 def fits(path, version):
     """Whether a version is canonical and fits the path."""
-    if not re.fullmatch(r"v\d+\.\d+\.\d+(-[-.0-9A-Za-z]+)?(\+incompatible)?", version):
+    if whole(version) != version:
         return False
     major = version[1:].split(".")[0]
     suffix = re.search(r"(?:/v|^gopkg\.in/.*\.v)(\d+)(?:-unstable)?$", path)
