@@ -31,8 +31,9 @@ shown, if one is shown and they don't differ, or answer another way, or if no te
 --check compares a tidy module with the cache that `go mod download` filled, example/go.mod, example/tidy.mod, and the
 worlds of --rows, with the answers of go 1.19.8 in tools/go_answers.json, each of which has to be asked for. Mistakes
 have to be found, too: output of gomod that is changed, another command in go's place, a proxy without the .info of a
-pruned-out module, and a row, a world or a difference without the others. If there is a go 1.19.8, it has to give these
-answers, and 2000 texts, from a number that the commit gives, and 40 random worlds are compared.
+pruned-out module, and a row, a world or a difference without the others. The first random worlds and texts have to be
+those that there were as answers were recorded. If there is a go 1.19.8, it has to give these answers, and 2000 texts,
+from a number that the commit gives, and 40 random worlds are compared.
 
 It needs bin/gomod (./build makes it), a go command of 1.19 or later (in Debian: apt-get install golang-go) and python3.
 300 worlds take about 35 s of CPU time.
@@ -489,7 +490,7 @@ class Check(script.Tally):
         cache = f"{room}/cache"
         for name in "cache/download", "mirror":
             shutil.copytree(f"{TOP}/example/{name}", cache, dirs_exist_ok=True)
-        write(f"{room}/main/go.mod", read(f"{TOP}/example/tidy.mod"))
+        write(f"{room}/main/go.mod", read(f"{TOP}/example/tidy.mod") + "\n// a remark\n")
         example = ["--cache", f"{TOP}/example/cache/download", "--mod", f"{TOP}/example/go.mod", 2]
         tidy = ["--cache", cache, "--mod", f"{room}/main/go.mod", 0]
         commands = {"list": 1, "graph": 1, "chain": 3, "versions": 3, "versions --retracted": 3, "fmt": 1}
@@ -498,17 +499,16 @@ class Check(script.Tally):
         expect("example/go.mod", example, 0, *same.values(), "edit:\n", NONE)
         expect("example/tidy.mod", tidy, 0, same["list"], same["graph"], same["chain"], same["fmt"], NONE)
         expect("the worlds of the rows", ["--rows"], 0, NONE)
-        line, step = r".*rsc\.io/sampler.*\n", "rsc.io/sampler@v1.3.1\n"
-        for words, found, put, command in (
-            *((it, line, "", it) for it in ("list", "graph", "chain", "versions", "fmt", "edit")),
-            ("--retracted", line, "", "versions --retracted"), ("/cache/download", line, "", "list"),
-            ("chain", step, "rsc.io/quote@v1.5.2\n", "chain"), ("fmt", " // indirect", "", "fmt"),
-            ("chain", step, "rsc.io/quote@v1.5.2\nrsc.io/sampler@v1.3.0\n", "chain"),
+        line, chain, step = r".*rsc\.io/sampler.*\n", "chain golang.org/x/text", "rsc.io/sampler@v1.3.1\n"
+        for asked, words, found, put, command in (
+            *((example, it, line, "", it) for it in ("list", "graph", "chain", "versions", "fmt", "edit")),
+            (example, "--retracted", line, "", "versions --retracted"), (tidy, "fmt", "// a remark\n", "", "fmt"),
+            (example, "/cache/download", line, "", "list"), (example, chain, step, "rsc.io/quote@v1.5.2\n", "chain"),
+            (example, chain, step, "rsc.io/quote@v1.5.2\nrsc.io/sampler@v1.3.0\n", "chain"),
+            (["--rows", go_rows.TWICE], "--retracted", "v1.0.0", "v1.1.0", "versions --retracted"),
         ):
             programs.change = words, found, put
-            expect(f"gomod {words}, with {put!r} for {found!r}", example, 1, f": {command}{NO_ROW}")
-        programs.change = "--retracted", "v1.0.0", "v1.1.0"
-        expect("a difference beside that of a row", ["--rows", go_rows.TWICE], 1, f": versions --retracted{NO_ROW}")
+            expect(f"gomod {words}, with {put!r} for {found!r}", asked, 1, f": {command}{NO_ROW}")
         programs.change = NOTHING
         with mock.patch.dict(globals(), named_versions=lambda text: set()):
             expect("a proxy without the .info of a pruned-out module", [0], 1, NO_ROW, ".info: ")
@@ -541,8 +541,7 @@ class Check(script.Tally):
         expect, seed = functools.partial(self.expect, "comparisons beside go"), script.git("rev-parse", "HEAD", top=TOP)
         seed = TEXTS * int(seed[:6] or "0", 16)
         what = f"{TEXTS} texts from {seed}"
-        places = "main", "dependency", "folder", "latest", "list", "sum", "operation"
-        said = expect(Programs(real), what, ["--texts", TEXTS, seed], 0, *(f"{it}:\n" for it in places))
+        said = expect(Programs(real), what, ["--texts", TEXTS, seed], 0, NONE)
         judged = sum(map(int, re.findall(r"(?m)^ +(\d+) ", said)))
         self.tell("texts that are judged", judged >= TEXTS, f"{judged} of {what} were judged")
         expect(Programs(real), f"{WORLDS} random worlds", [WORLDS], 0, NONE)
@@ -553,22 +552,33 @@ class Check(script.Tally):
             write(f"{TOP}/bin/texts.txt", f"{what} beside {version}\n{program}  bin/gomod\n")
 
 
+def drawn():
+    """A checksum of the first random worlds and texts."""
+    found = [go_texts.make(it) for it in range(300)]
+    for seed in range(1, WORLDS + 1):
+        with tempfile.TemporaryDirectory() as room:
+            World(seed, room)
+            found.append({name: text.replace(room, "") for name, text in files_below(room).items()})
+    return script.checksum(json.dumps(found))
+
+
 def check(real, version, is_checked=True):
     """Makes the comparisons of --check, or of --record, and returns the status. What a real go answers is compared with
     the recorded answers, or written."""
-    tally, groups = Check(), {} if real else json.loads(read(ANSWERS))["answers"]
-    answers = {key: it for keys, it in groups.items() for key in keys.split()}
+    tally, recorded = Check(), {} if real else json.loads(read(ANSWERS))
+    answers = {key: it for keys, it in recorded.get("answers", {}).items() for key in keys.split()}
     programs = Recorded(answers, real)
     with tempfile.TemporaryDirectory(prefix="gomod-recorded-") as room:
         tally.compare_all(programs, room)
     if real:
         texts = [json.dumps(it) for it in answers.values()]
         groups = {" ".join(key for key, it in zip(answers, texts) if it == text): json.loads(text) for text in texts}
-        text = json.dumps({"version": version, "answers": groups}, indent=0) + "\n"
+        text = json.dumps({"version": version, "drawn": drawn(), "answers": groups}, indent=0) + "\n"
         tally.tell("files of answers that go gives", not script.keep(ANSWERS, text, is_checked, "--record"))
     else:
         unasked = answers.keys() - programs.asked
         tally.tell("files of answers that are asked for", not unasked, f"nothing asks for {sorted(unasked)}")
+        tally.tell("random worlds and texts", recorded["drawn"] == drawn(), "the first ones are others than recorded")
     tally.compare_without()
     if real and is_checked:
         tally.compare_beside(real, version)
