@@ -600,7 +600,7 @@ def main(*words):
             version = json.loads(read(ANSWERS))["version"]
             real = go_of(version)
             if not real:
-                print(f"skipped, comparisons beside go: there is no {version}")
+                print(f"skipped, for want of {version}: comparisons beside go")
             return check(real, version)
         case ["--record", command]:
             return check(*script.real_go(command), False)
