@@ -247,7 +247,7 @@ class Comparison:
             step = f"{path}@{rest[0]}" if rest else path
             came = self.commands.ask_graph(main, "chain", path)
             steps = came.out.splitlines()
-            if (came.status == 0 and steps[0] == rows[0] and steps[-1] == step and len(steps) == levels[step] + 1
+            if (came.status == 0 and steps[:1] == rows[:1] and steps[-1:] == [step] and len(steps) == levels[step] + 1
                     and all(to in edges[at] for at, to in zip(steps, steps[1:]))):
                 self.found.count("chain", SAME)
             else:
