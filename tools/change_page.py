@@ -10,10 +10,11 @@
     tools/change_page.py --prove NUMBER.. lets the prover check these, which takes some 15 s of CPU time each
     tools/change_page.py --sample         lets the prover check all equal forms, and thirty others for each commit
 
-Changes are made by rule (tools/page_rules.py). tools/page_changes.txt has those that no rule makes, in blocks of two
-lines: the name of the definition with a title, and a text with `⟪what goes ⇒ what comes⟫` (`¶` is a line's end). After
-`== equal forms` come changes that say the same in other words. After `== no witness` come reasons, each with changes by
-rule that no world shows: the name of the definition, and a piece of the change as it is listed.
+Changes are made by rule (tools/page_rules.py). tools/page_changes.txt has those that no rule for all definitions makes,
+each by a rule for one: the definition, what goes and what comes at the first place that fits, and ` -- ` with a title.
+They stand below what refuses them. After `== equal forms` come changes that say the same in other words. After
+`== no witness` come reasons, each with changes by rule that no world shows: the name of the definition, and a piece of
+the change as it is listed.
 
 tools/evaluate.py judges: it computes each world's outcomes by the changed definitions. A change is refused by a value
 (another outcome), a second outcome, an outcome of a run that has none, a file (that the run needs now and didn't ask
@@ -37,7 +38,7 @@ import time
 import evaluate
 import page_rules
 import script
-from definitions import Unreadable
+from definitions import Parser, Unreadable
 from evaluate import Page
 from refusals import make_room, run_check
 from sources import COPYING
@@ -46,48 +47,45 @@ from values import shown
 CHANGES = pathlib.Path("tools/page_changes.txt")
 COUNTED = pathlib.Path("docs/proof/HEADLINE.md")
 MOST = 9  # CPU seconds for a change that can't be told
-LISTED = "hand", "equal"
-EQUAL, UNSHOWN = "== equal forms\n", "== no witness\n"
-# a block, in which each mark stands once
-SIDE = "([^⟪⇒⟫\n]*)"
-BLOCK = re.compile(rf"((\w+): .+)\n{SIDE}⟪{SIDE} ⇒ {SIDE}⟫{SIDE}")
 # what is said of a change that was tried
 VALUE, SECOND, OUTCOME = "refused by a value", "refused by a second outcome", "refused by an outcome where none is said"
 FILE, FACT, LOSS = "refused by a file", "refused by a fact of a single definition", "refused by a loss"
 PASSES, OPEN = "PASSES", "OPEN"
 WITNESSED = (VALUE, SECOND, OUTCOME, FILE)
 REFUSED = (*WITNESSED, FACT, LOSS)
+# kinds of changes, beside those of which the verdict is known, and what may be said of each
+MADE, EQUAL, UNSHOWN = "made by a rule", "equal forms", "no witness"
+EXPECTED = {MADE: REFUSED, EQUAL: [PASSES], UNSHOWN: [OPEN, PASSES]}
 # where the library has what a change may use and no definition does
 LIBRARY = [("◌+◌", ("Rattle.std.specs.Prelude", "◌+◌")), ("is_none", ("Rattle.std.specs.Option", "is_none"))]
 
 
 @dataclasses.dataclass
 class Change:
-    """One change: for each crate that has the definition its file with the text after it, and what is expected of
-    it."""
+    """One change: for each crate that has the definition its file with the text after it, and its kind."""
 
     title: str
-    kind: str  # "made" by a rule, "unshown" by any world, by "hand", or "equal"
+    kind: str
     places: dict
 
     def is_right(self, verdict):
-        if self.kind == "equal":
-            return verdict == PASSES
-        return verdict not in WITNESSED if self.kind == "unshown" else verdict in REFUSED
+        return verdict in EXPECTED.get(self.kind, [self.kind])
 
 
 def changes():
     """All changes: those that are listed, and those by rule."""
-    *listed, unshown = re.split(f"{EQUAL}|{UNSHOWN}", CHANGES.read_text())
-    listed = [(kind, *it) for kind, part in zip(LISTED, listed) for it in blocks(part)]
-    marks, found = {line.strip(): False for line in unshown.split("\n") if line.startswith("  ")}, {}
+    _, *parts = re.split(r"(?m)^== (.*)\n", CHANGES.read_text())
+    parts = dict(zip(parts[::2], parts[1::2]))
+    marks, found = {line.strip(): False for line in parts.pop(UNSHOWN).split("\n") if line.startswith("  ")}, {}
+    listed = [(line, kind) for kind, part in parts.items() for line in re.sub(r"\n +", " ", part).split("\n") if line]
     for crate in COPYING:
         page = Page(crate)
-        for kind, title, name, old, new in listed:
+        for title, kind in listed:
+            name, rule = title.partition(" -- ")[0].split(": ", 1)
             for module in page.modules.values():
-                if name in module.texts and is_copy(module) and module.text.count(old) == 1:
-                    at = module.text.index(old)
-                    add(found, page, Change(title, kind, {}), module, at, at + len(old), new)
+                place = page_rules.change_by(module, name, rule) if name in module.texts and is_copy(module) else None
+                if place:
+                    add(found, page, Change(title, kind, {}), module, *place)
         for module, name, start, end, comes in page_rules.changes(page):
             text = module.text
             goes, new = (" ".join(it.split()) for it in (text[start:end], comes))
@@ -95,22 +93,11 @@ def changes():
             title = f"{name}: {f'{text[first:start]}⟪{goes} ⇒ {new}⟫{text[end:last]}'.strip()}"
             mine = [it for it in marks if title.startswith(it.split(" ")[0]) and it.partition(": ")[2] in title]
             marks.update(dict.fromkeys(mine, True))
-            change = Change(title, "unshown" if mine else "made", {})
-            add(found, page, change, module, start, end, comes)
-    lost = [it for it, is_made in marks.items() if not is_made] + [it[1] for it in listed if it[:2] not in found]
+            add(found, page, Change(title, UNSHOWN if mine else MADE, {}), module, start, end, comes)
+    lost = [it for it, is_made in marks.items() if not is_made] + [it for it, _ in listed if it not in found]
     if lost:
-        sys.exit("\n".join(["change_page: can't be made, or its text isn't there once:", *lost]))
+        sys.exit("\n".join(["change_page: can't be made:", *lost]))
     return [it for same in found.values() for it in same]
-
-
-def blocks(part):
-    """The changes of a part of the list: the title, the definition, the text before and after it."""
-    for block in part.strip().split("\n\n"):
-        found = BLOCK.fullmatch(block)
-        if not found:
-            sys.exit(f"change_page: {CHANGES} has a block that lacks a mark or has one twice:\n{block}")
-        title, name, before, goes, comes, after = found.groups()
-        yield title, name, *(f"{before}{it}{after}".replace("¶", "\n") for it in (goes, comes))
 
 
 def is_copy(module):
@@ -119,11 +106,12 @@ def is_copy(module):
 
 def add(found, page, change, module, start, end, comes):
     """Adds a change at this place, or the place to the change with this title that another crate has."""
-    same, text = found.setdefault((change.kind in LISTED and change.kind, change.title), []), module.text
+    same, text = found.setdefault(change.title, []), module.text
     if not same or page.crate in same[-1].places:
         same.append(change)
+    old = module.texts[change.title.partition(":")[0]]
     same[-1].places[page.crate] = module.name, functools.partial(
-        importing, names_of(page), text, text[:start] + comes + text[end:], comes)
+        importing, names_of(page), module, old, text[:start] + comes + text[end:], comes)
 
 
 @functools.cache
@@ -131,14 +119,24 @@ def names_of(page):
     """Where what a change may use is defined, and its name there."""
     named = [it for module in page.modules.values() for it in module.imports.items() if it[0] == it[1][1]] + LIBRARY
     copies = [(name, (it.name, name)) for it in page.modules.values() if is_copy(it) for name in it.names]
-    return {name.strip("◌").split("◌")[0]: it for name, it in named + copies}
+    return {sign_of(name): it for name, it in named + copies}
 
 
-def importing(known, old, new, comes):
-    """The changed text of a file with imports of what comes and isn't named there before."""
-    there, wanted = (set(re.findall(r"(?<![\w.])\w+|\[]|[^\w\s()[\];,]+", it)) for it in (old, comes))
-    uses = [f"use {known[it][0]}.{{{known[it][1]}}}" for it in sorted(wanted - there) if it in known]
-    return new.replace("\n", "\n".join(["", *uses, ""]), 1)
+def sign_of(name):
+    """How a name begins where it is used: `if◌then◌else◌` as `if`, `[]` as `[`."""
+    return name.strip("◌]").split("◌")[0]
+
+
+def importing(known, module, old, text, comes):
+    """The changed text of a file with imports of what comes and isn't known there, nor bound in the old definition."""
+    there = {*signs_in(old), *map(sign_of, [*module.imports, *module.names])}
+    uses = [f"use {known[it][0]}.{{{known[it][1]}}}" for it in sorted(signs_in(comes) - there) if it in known]
+    return text.replace("\n", "\n".join(["", *uses, ""]), 1)
+
+
+def signs_in(text):
+    """The names and signs in a text, not those in comments and strings."""
+    return {it for kind, it, *_ in Parser(text).tokens if kind in ("name", "sign")}
 
 
 class Judge:
@@ -241,12 +239,12 @@ def prove_all(chosen):
         for crate in COPYING:
             mine = [it for it in chosen if next(iter(it[1].places)) == crate]
             room = make_room(folder, crate) if mine else ""
-            for number, change in [(0, Change("as it is", "equal", {})), *mine] if mine else ():
+            for number, change in [(0, Change("as it is", EQUAL, {})), *mine] if mine else ():
                 texts = {f"specs/{it.split('specs.')[1].replace('.', '/')}.antt": text()
                          for it, text in [*change.places.values()][:1]}
                 said = run_check(room, texts).stdout
                 is_proved = bool(re.search(r"(?m)^logic=proved", said))
-                wrong += is_proved != (change.kind in ("equal", "unshown"))
+                wrong += is_proved != (change.kind in (EQUAL, UNSHOWN))
                 errors = re.findall(r"(?m)^\./(\S+)\.antt:\d+:\d+: error: (.*(?:\n  .*)*)", said)
                 print(f"{number} {change.title}: {'PROVED' if is_proved else 'refused'}", flush=True)
                 for where, message in errors[:2]:
@@ -274,10 +272,11 @@ def main(*words):
     numbered = [*enumerate(changes(), 1)]
     if not words:
         for number, change in numbered:
-            print(f"{number} {change.title}{' (an equal form)' if change.kind == 'equal' else ''}")
+            print(f"{number} {change.title}{' (an equal form)' if change.kind == EQUAL else ''}")
         kinds = collections.Counter(it.kind for _, it in numbered)
-        says = (f"{kinds['made'] + kinds['unshown']} changes by rule, of which {kinds['unshown']} are marked as without "
-                f"a witness, {kinds['hand']} by hand, and {kinds['equal']}")
+        by_rule, equal = kinds[MADE] + kinds[UNSHOWN], kinds[EQUAL]
+        says = (f"{by_rule} changes by rule, of which {kinds[UNSHOWN]} are marked as without a witness, "
+                f"{kinds.total() - by_rule - equal} by hand, and {equal}")
         return int(evaluate.wrong_claims() + miscounted(says) > 0)
     if words[0] == "--some":
         return int(try_all(in_turn(numbered), int(words[1]))[0] > 0)
@@ -287,8 +286,8 @@ def main(*words):
         says = f"{witnessed} by a witness, {verdicts[FACT]} by a fact, {verdicts[LOSS]} by a loss"
         return int(wrong + miscounted(says) > 0)
     if words[0] == "--sample":
-        some = [it for it in in_turn(numbered) if it[1].kind in ("made", "hand")]
-        return int(prove_all([it for it in numbered if it[1].kind == "equal"] + some[:30]) > 0)
+        some = [it for it in in_turn(numbered) if it[1].kind not in (EQUAL, UNSHOWN)]
+        return int(prove_all([it for it in numbered if it[1].kind == EQUAL] + some[:30]) > 0)
     chosen = {int(it) for it in words if it.isdigit()}
     if max(chosen) > len(numbered):
         script.misused(f"there are {len(numbered)} changes")

@@ -49,11 +49,16 @@ class Node:
         """The nodes of which it is made."""
         return [*nodes_in(self.parts)]
 
+    def all_below(self):
+        """It, and all that it is made of, in their order."""
+        yield self
+        for node in self.below():
+            yield from node.all_below()
+
     @functools.cached_property
     def names(self):
         """The names in it, in their order."""
-        own = [self.parts[0]] if self.kind == "name" else []
-        return dict.fromkeys([*own, *(name for node in self.below() for name in node.names)])
+        return dict.fromkeys(it.parts[0] for it in self.all_below() if it.kind == "name")
 
     def result(self):
         """What stands behind the last arrow of a type, and the nodes before that, of which a binder has one each
@@ -224,19 +229,17 @@ class Parser:
 
 
 class Function:
-    """A definition by equations: its type, and its clauses, each with its patterns and what it is then."""
+    """A definition by equations: its type, and its clauses, each with its patterns and the expression that it is
+    then."""
 
     def __init__(self, type_, clauses):
         self.type, self.clauses = type_, clauses
+        self.expressions = [body for _, body in clauses]
         self.count = len(clauses[0][0])
         last, before = type_.result()
         self.is_fact = last.head() == "Type"  # what it gives is a fact, or a type
         self.is_constant = not (before or self.is_fact)
         self.takes = before  # the types of its arguments
-
-    def uses(self):
-        """The names in what it is."""
-        return dict.fromkeys(name for _, body in self.clauses for name in body.names)
 
 
 class Rule:
@@ -259,7 +262,7 @@ class Relation:
     and the rules."""
 
     def __init__(self, kind, parameters, indices, fields):
-        self.is_data, self.fields = kind == "data", fields
+        self.is_data, self.fields, self.expressions = kind == "data", fields, [*fields.values()]
         self.parameters = explicit(parameters)
         self.takes = [*self.parameters.values(), *indices]
         self.count = len(self.takes)
@@ -269,10 +272,6 @@ class Relation:
             rule.bound = {name: type_ for name, type_ in fields.items() if type_.head() in OF_VALUES}
             rule.premises = [type_ for name, type_ in fields.items() if name not in rule.bound]
             self.rules = [rule]
-
-    def uses(self):
-        """The names in what it is."""
-        return dict.fromkeys(name for type_ in self.fields.values() for name in type_.names)
 
 
 class Module:

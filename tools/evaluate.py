@@ -102,7 +102,7 @@ class Page:
         found = collections.defaultdict(set)
         for module in self.modules.values():
             for name, one in module.names.items():
-                for used in one.uses() if not isinstance(one, int) else ():
+                for used in {it for whole in getattr(one, "expressions", ()) for it in whole.names}:
                     _, source, own = self.meaning(module, used)
                     found[source and source.name, own].add((module.name, name))
         return found

@@ -1,4 +1,5 @@
-"""Changes of the definitions that crates/page copies, made by rule from their syntax; for tools/change_page.py."""
+"""Changes of the definitions that crates/page and page_commands copy, made by rule from their syntax: by rules for all
+definitions, or by one for a single definition. For tools/change_page.py."""
 
 import collections
 import re
@@ -75,7 +76,7 @@ TABLE = collections.defaultdict(list)
 for left, sign, right in re.findall("(.+) ([⇒⇔]) (.+)", RULES):
     for one, others in [(left, right), *([(right, left)] if sign == "⇔" else [])]:
         pattern = Parser(one).whole()
-        TABLE[pattern.kind, pattern.head()].append((pattern, others.split("; ")))
+        TABLE[pattern.kind, pattern.head()] += [(pattern, template) for template in others.split("; ")]
 ESCAPED = str.maketrans({"\\": "\\\\", '"': '\\"', **{it: f"\\{name}" for name, it in ESCAPES.items()}})
 # the items of a type that are of one type
 ITEMS = {"ModuleVersion": "01", "ℕ × ℕ": "01", "Parts": "012"}
@@ -86,7 +87,7 @@ def fits(pattern, node, found):
     if pattern.kind == "name" and re.fullmatch("[a-z]", pattern.parts[0]):
         found[pattern.parts[0]] = node
         return True
-    own, others = ([it for it in one.parts if isinstance(it, str)] for one in (pattern, node))
+    own, others = ([it for it in one.parts if isinstance(it, (str, int))] for one in (pattern, node))
     return pattern.kind == node.kind and own == others and len(pattern.below()) == len(node.below()) and all(
         fits(*it, found) for it in zip(pattern.below(), node.below()))
 
@@ -102,17 +103,22 @@ class Maker:
         text = self.text[node.start:node.end]
         return text if node.kind in ("name", "number", "text", "nil", "part", "tuple") else f"({text})"
 
+    def made(self, pattern, template, node):
+        """The change of a node of this pattern, as a list, or none."""
+        found = {}
+        if not fits(pattern, node, found):
+            return []
+        new = re.sub(r"(?<![\w.\"])[a-z](?![\w'])", lambda it: self.of(found[it[0]]) if it[0] in found else it[0], template)
+        return [(node.start, node.end, f"({new})" if " " in template else new)]
+
     def changes(self, node, scope):
         """The changes of a node and of those below it: from where to where, and what comes."""
         kind, parts, below = node.kind, node.parts, node.below()
         if kind in ("all", "some", "lambda"):
             bound = {name: self.of(of).strip("()") if of else None for name, of in parts[0].items()}
             scope, below = {**scope, **bound}, [parts[1]]
-        for pattern, templates in TABLE[kind, node.head()]:
-            found = {}
-            for template in templates if fits(pattern, node, found) else ():
-                new = re.sub(r"(?<![\w.\"])[a-z](?![\w'])", lambda it: self.of(found[it[0]]), template)
-                yield node.start, node.end, f"({new})" if " " in template else new
+        for pattern, template in TABLE[kind, node.head()]:
+            yield from self.made(pattern, template, node)
         for new in TYPED.get(kind, lambda *_: ())(self, parts, scope):
             yield node.start, node.end, new
         if kind == "record" and {"text", "report"} <= dict(parts[1]).keys():
@@ -213,6 +219,15 @@ def changes(page):
                 if text != old and text not in seen:
                     seen.add(text)
                     yield module, name, start, end, new
+
+
+def change_by(module, name, rule):
+    """The change of a definition by a rule for it alone, at the first place that the rule fits: from where to where, and
+    what comes."""
+    pattern, template = rule.split(" ⇒ ")
+    pattern, maker = Parser(pattern).whole(), Maker(module.text)
+    nodes = (it for whole in module.names[name].expressions for it in whole.all_below())
+    return next((it for node in nodes for it in maker.made(pattern, template, node)), None)
 
 
 def bare(text):
