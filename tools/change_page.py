@@ -12,9 +12,9 @@
 
 Changes are made by rule (tools/page_rules.py). tools/page_changes.txt has those that no rule for all definitions makes,
 each by a rule for one: the definition, what goes and what comes at the first place that fits, and ` -- ` with a title.
-They stand below what refuses them. After `== equal forms` come changes that say the same in other words. After
-`== no witness` come reasons, each with changes by rule that no world shows: the name of the definition, and a piece of
-the change as it is listed.
+They stand below what refuses them, or below `== OPEN` if that can't be told. After `== equal forms` come changes that
+say the same in other words. After `== no witness` come reasons, each with changes by rule that no world shows: the name
+of the definition, and a piece of the change as it is listed.
 
 tools/evaluate.py judges: it computes each world's outcomes by the changed definitions. A change is refused by a value
 (another outcome), a second outcome, an outcome of a run that has none, a file (that the run needs now and didn't ask
@@ -22,8 +22,8 @@ for, or asked for without need), a fact (of a single definition, as of a path or
 loss (no outcome any more; nothing else shows it). It prints the world with both outcomes, or with the file. If both
 crates have the definition, the worlds of either may refuse its change.
 
-The status is 1 if a change is not as it should be, can't be made since its text isn't there once, or if a count
-differs. It needs python3, and to prove rt and 2 GB of memory.
+The status is 1 if a change is not as it should be or can't be made, a claim or a case is otherwise, or a count differs.
+It needs python3, and to prove rt and 2 GB of memory.
 """
 
 import collections
@@ -140,49 +140,56 @@ def signs_in(text):
 
 
 class Judge:
-    """A page as it is, and what is said of its worlds, with the names that this reaches; those that reach least
-    first."""
+    """A page as it is, and what is said of its worlds, with the names that this reaches; those that reach least first;
+    and what isn't so."""
 
     def __init__(self, page):
-        self.page, self.claims, self.refusing, results = page, [], {}, {}
-        for claim in evaluate.all_claims(self.page):
-            self.page.values, self.page.results, self.page.reached = {}, {}, set()
-            claim.is_so(self.page)
-            self.claims.append((claim, self.page.reached))
-            results |= self.page.results
-        self.page.results = results
-        self.claims.sort(key=lambda it: (it[0].said is None, len(it[1])))
+        self.page, self.claims, self.wrong, self.refusing, results = page, [], [], {}, {}
+        for claim in evaluate.all_claims(page):
+            page.values, page.results, page.reached = {}, {}, set()
+            self.wrong += [claim.title] if differing(page, claim) else []
+            self.claims.append((claim, page.reached))
+            results |= page.results
+        page.results = results
+        self.claims.sort(key=lambda it: len(it[1]))
 
     def judge(self, name, module, text):
-        """What refuses a change, and the world with what is said and what is so now: the first that reaches it."""
+        """What refuses a change, and the world with what is said and what is so now: the first that reaches it. Facts
+        of single definitions come after the worlds, however much time these took."""
         try:
             page = Page(base=self.page, file=module, text=text())
         except (Unreadable, ValueError) as error:
             return OPEN, f"it can't be read: {error}"
-        left, begun = (PASSES, ""), time.process_time()
-        for claim, reached in sorted(self.claims, key=lambda it: it[0] is not self.refusing.get(name)):
-            try:
-                found = differing(page, claim) if page.changed & reached else None
-            except Exception as error:
-                if left[0] == PASSES:
-                    left = OPEN, f"{claim.title}: {type(error).__name__} {shown(error.args[0])[:80]}"
-                if time.process_time() > begun + MOST:
-                    return left
-                continue
-            if found and found[0] != LOSS:
-                if claim.said is not None:  # it may refuse the next one, too
+        left = PASSES, ""
+        for is_fact in (False, True):
+            begun = time.process_time()
+            for claim, reached in sorted(self.claims, key=lambda it: it[0] is not self.refusing.get(name)):
+                # what facts have in common is kept, so that only the first reaches it
+                is_reached = page.is_touched(*claim.fact[::2]) if is_fact else page.changed & reached
+                if (claim.said is None) != is_fact or not is_reached:
+                    continue
+                try:
+                    found = differing(page, claim)
+                except Exception as error:
+                    why = f"{claim.title}: {type(error).__name__} {shown(error.args[0])[:80]}"
+                    left = (OPEN, why) if left[0] == PASSES else left
+                    if time.process_time() > begun + MOST:
+                        break
+                    continue
+                if found and found[0] != LOSS:
                     self.refusing[name] = claim
-                    self.claims.sort(key=lambda it: it[0] is not claim)
-                return found
-            left = found or left
+                    self.claims.sort(key=lambda it: it[0] is not claim)  # it may refuse the next one, too
+                    return found
+                left = found or left
         return left
 
 
 def differing(page, claim):
     """The kind of a difference and what differs, if a claim isn't so by the page."""
-    if claim.said is None:
-        return None if claim.is_so(page) else (FACT, f"{claim.title} doesn't hold")
-    found, said = page.outcomes(*claim.fact), claim.said
+    said = claim.said
+    if said is None:
+        return None if page.is_so(*claim.fact) else (FACT, f"{claim.title} doesn't hold")
+    found = page.outcomes(*claim.fact)
     if found == said:
         return None
     if found:
@@ -212,10 +219,23 @@ def verdict_of(judges, change):
     return min(found, key=lambda it: (FACT, LOSS, OPEN, PASSES).index(it[0]))
 
 
+def all_judges():
+    """A judge of each page, and how many of its claims are otherwise, which are printed."""
+    judges = [*map(Judge, evaluate.all_pages())]
+    return judges, told([title for it in judges for title in it.wrong])
+
+
+def told(wrong):
+    """Prints what is otherwise than said, and gives how much that is."""
+    for title in wrong:
+        print(f"change_page: {title} is otherwise")
+    return len(wrong)
+
+
 def try_all(chosen, most):
-    """Tries these changes, until so many CPU seconds are over; gives how many were wrong, and how many had each
-    verdict."""
-    judges, wrong, verdicts = [*map(Judge, evaluate.all_pages())], 0, collections.Counter()
+    """Tries these changes, until so many CPU seconds are over; gives how many were wrong, with the claims that are, and
+    how many had each verdict."""
+    (judges, wrong), verdicts = all_judges(), collections.Counter()
     for number, change in chosen:
         if most and time.process_time() >= most:
             break
@@ -261,10 +281,12 @@ def miscounted(says):
 
 
 def in_turn(numbered):
-    """The changes in an order that mixes their files, those first whose turn it is by the number of commits."""
+    """The changes in an order that mixes their files: one of each kind, and then those whose turn it is by the number
+    of commits."""
     mixed = sorted(numbered, key=lambda it: it[0] * 0.6180339887 % 1)
     at = 151 * int(script.git("rev-list", "--count", "HEAD") or 0) % len(mixed)
-    return mixed[at:] + mixed[:at]
+    one_each = {change.kind: number for number, change in reversed(numbered)}.values()
+    return sorted(mixed[at:] + mixed[:at], key=lambda it: it[0] not in one_each)
 
 
 def main(*words):
@@ -277,7 +299,12 @@ def main(*words):
         by_rule, equal = kinds[MADE] + kinds[UNSHOWN], kinds[EQUAL]
         says = (f"{by_rule} changes by rule, of which {kinds[UNSHOWN]} are marked as without a witness, "
                 f"{kinds.total() - by_rule - equal} by hand, and {equal}")
-        return int(evaluate.wrong_claims() + miscounted(says) > 0)
+        (judges, wrong), (cases, count) = all_judges(), evaluate.wrong_cases()
+        wrong += told(cases)
+        claims = sum(len(it.claims) for it in judges)
+        print(f"{claims} claims and {count} cases, {wrong} not as said")
+        agrees = f"agrees with the prover on all {claims} claims"
+        return int(wrong + miscounted(says) + miscounted(agrees) > 0)
     if words[0] == "--some":
         return int(try_all(in_turn(numbered), int(words[1]))[0] > 0)
     if words[0] == "--all":

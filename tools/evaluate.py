@@ -374,27 +374,30 @@ class Page:
         """What has to be the same so that an expression is this list: one way for each place at which it can be cut."""
         if node.kind == "++":
             head = self.value(node.parts[0], env, module)
-            heads = [whole[:at] for at in range(len(whole) + 1)] if isinstance(head, Unknown) else [
-                head] if whole[:len(known(head))] == head else []
-            return [[(head, it), *others] for it in heads
-                    for others in self.cuts(whole[len(it):], node.parts[1], env, module)]
+            places = range(len(whole) + 1) if isinstance(head, Unknown) else [len(known(head))]
+            return [[(head, whole[:at]), *others] for at in places
+                    for others in self.cuts(whole[at:], node.parts[1], env, module)]
         if node.head() in INVERSE:
             *given, last = (self.value(it, env, module) for it in node.arguments())
             return [[(last, it)] for it in INVERSE[node.head()](whole, *given)]
         return [[(self.value(node, env, module), whole)]]
 
-    def follows(self, node, premises, env, module):
-        """Whether a fact is so in each solution of the premises; those before its arrows are added."""
+    def follows(self, node, premises, env, module, bound=()):
+        """Whether a fact is so in each solution of the premises, whatever the bound unknowns are; those before its
+        arrows are added."""
         kind, parts = node.kind, node.parts
         if kind == "all":
-            return self.follows(parts[1], premises, {**env, **unknowns_of(parts[0])}, module)
+            more = unknowns_of(parts[0])
+            return self.follows(parts[1], premises, {**env, **more}, module, (*bound, *more.values()))
         if kind in ("→", "¬"):
             added = [*premises, self.fact(parts[0], env, module)]
-            return self.follows(parts[1], added, env, module) if kind == "→" else not self.holds(added)
+            return self.follows(parts[1], added, env, module, bound) if kind == "→" else not self.holds(added)
         if kind == "↔":
-            return all(self.follows(two, [*premises, self.fact(one, env, module)], env, module)
+            return all(self.follows(two, [*premises, self.fact(one, env, module)], env, module, bound)
                        for one, two in (parts, parts[::-1]))
-        return all(self.holds([self.fact(node, env, module)]) for _ in self.solve(premises))
+        fact = self.fact(node, env, module)
+        used = tuple(it for it in bound if any(it is one for one in fact.items[1].values()))
+        return all(self.holds([fact]) for _ in self.solve(premises) for _ in self.values_of(used))
 
     def holds(self, goals):
         return any(True for _ in self.solve(goals))
@@ -606,8 +609,9 @@ class Page:
         return [("doesn't ask for", needed - asked), ("asks without need for", asked - needed)]
 
     def is_so(self, node, env, module):
-        """Whether a fact holds, over all worlds."""
-        self.begin()
+        """Whether a fact holds, over all worlds, or of the texts in it."""
+        texts = (text(it.parts[0]) for it in node.all_below() if it.kind == "text" and self.crate != "page")
+        self.begin(*texts)
         return self.holds([self.fact(node, env, module)])
 
     def universe_of(self, values):
@@ -662,14 +666,8 @@ COMPARED = {"≢": operator.ne, "≤": operator.le, "<": operator.lt}
 # ---- what the page says of its worlds
 
 
-class Claim:
-    """What is said: a fact; and the value of its last argument, or none, if it is one that has outcomes."""
-
-    def __init__(self, title, node, env, module, said=None):
-        self.title, self.fact, self.said = title, (node, env, module), said
-
-    def is_so(self, page):
-        return page.is_so(*self.fact) if self.said is None else page.outcomes(*self.fact) == self.said
+# what is said: a fact; and all values of its last argument, or None, if it is one that has no outcomes
+Claim = collections.namedtuple("Claim", "title fact said", defaults=[None])
 
 
 def claims_of(page, title, node, env, module):
@@ -678,9 +676,10 @@ def claims_of(page, title, node, env, module):
     one, source, name = page.meaning(module, head) if head else (None, None, "")
     is_of_worlds = source and source.name.startswith(page.own + "Worlds")
     if head in ENDS:
-        return [Claim(title, node, env, module, [complete(page.value(arguments[-1], env, module))])]
-    if node.kind == "all" and node.parts[1].kind == "→" and node.parts[1].parts[0].head() in ENDS:
-        return [Claim(title, node.parts[1].parts[0], env, module, [])]
+        return [Claim(title, (node, env, module), [complete(page.value(arguments[-1], env, module))])]
+    conclusion, premises = node.result()
+    if node.kind == "all" and conclusion.head() == "⊥" and premises[-1].head() in ENDS:
+        return [Claim(title, (premises[-1], env, module), [])]
     if head == "AllByRecursion":
         one = Node("call", (arguments[0], [Node("name", ("one",))]))
         return [it for number, world in enumerate(page.value(arguments[1], env, module)) for it in claims_of(
@@ -692,7 +691,7 @@ def claims_of(page, title, node, env, module):
         patterns, body = one.clauses[0]
         given = [page.value(it, env, module) for it in arguments]
         return claims_of(page, title, body, dict(zip((it.head() for it in patterns), given)), source)
-    return [Claim(title, node, env, module)]
+    return [Claim(title, (node, env, module))]
 
 
 def all_claims(page):
@@ -711,17 +710,11 @@ def all_pages():
     return Page(), Page(few=FEW), Page("page_commands")
 
 
-def wrong_claims():
-    """Compares all claims, and the cases, with what is computed; it prints what is otherwise, and gives how many
-    are."""
-    text = CASES.read_text()
-    claims = [(page, it) for page in all_pages() for it in all_claims(page)]
-    facts = re.findall(r"(?m)^(holds|fails) (.*)", text)
-    wrong = [it.title for page, it in claims if not it.is_so(page)]
-    page = Page()
-    cases = page.modules["cases"] = Module("cases", text[:text.index("\nholds")])
-    wrong += [f"{word} {it}" for word, it in facts if page.is_so(Parser(it).whole(), {}, cases) != (word == "holds")]
-    for title in wrong:
-        print(f"evaluate: {title} is otherwise")
-    print(f"{len(claims)} claims and {len(facts)} cases, {len(wrong)} not as said")
-    return len(wrong)
+def wrong_cases():
+    """The cases that are otherwise, and how many there are."""
+    said, page = CASES.read_text(), Page()
+    facts = re.findall(r"(?m)^(holds|fails) (.*)", said)
+    cases = page.modules["cases"] = Module("cases", said[:said.index("\nholds")])
+    wrong = [f"{word} {it}" for word, it in facts
+             if page.is_so(Parser(it).whole(), {}, cases) != (word == "holds")]
+    return wrong, len(facts)

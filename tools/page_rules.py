@@ -108,7 +108,8 @@ class Maker:
         found = {}
         if not fits(pattern, node, found):
             return []
-        new = re.sub(r"(?<![\w.\"])[a-z](?![\w'])", lambda it: self.of(found[it[0]]) if it[0] in found else it[0], template)
+        texts = {letter: self.of(it) for letter, it in found.items()}
+        new = re.sub(r"(?<![\w.\"])[a-z](?![\w'])", lambda it: texts.get(it[0], it[0]), template)
         return [(node.start, node.end, f"({new})" if " " in template else new)]
 
     def changes(self, node, scope):
@@ -222,8 +223,8 @@ def changes(page):
 
 
 def change_by(module, name, rule):
-    """The change of a definition by a rule for it alone, at the first place that the rule fits: from where to where, and
-    what comes."""
+    """The change of a definition by a rule for it alone, at the first place that the rule fits: from where to where,
+    and what comes."""
     pattern, template = rule.split(" ⇒ ")
     pattern, maker = Parser(pattern).whole(), Maker(module.text)
     nodes = (it for whole in module.names[name].expressions for it in whole.all_below())
