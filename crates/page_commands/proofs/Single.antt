@@ -1,16 +1,16 @@
 -- Single definitions, told from others like them.
-use Rattle.std.proofs.Common.{◌≡◌, ◌↔◌, ◌∙◌, ◌++◌, ◌<◌, ◌==◌, ℕ, true, false, List, [], ◌∷◌, Some, None, Ok, Contains, ap, arith, codes, inl, inr, length, length-append, lit<, map, not, refl, subst, sym}
-use Rattle.std.specs.Prelude.{nat_lt, slice_index}
+use Rattle.std.proofs.Common.{◌≡◌, ◌↔◌, ◌∙◌, ◌++◌, ◌<◌, ◌==◌, ℕ, true, false, List, [], ◌∷◌, Some, None, Ok, Contains, ap, arith, codes, inl, inr, length, length-append, lit<, map, refl, subst, sym}
+use Rattle.std.specs.Prelude.{slice_index}
 use Rattle.std.specs.Fmt.{decimal}
 use Rattle.std.specs.List.Sorted.{IsStrictlySortedBy}
 use Rattle.std.specs.List.{join_with_byte, list_all, list_any}
-use Rattle.std.proofs.lemmas.Bool.{and_parts, false≢true}
+use Rattle.std.proofs.lemmas.Bool.{and_parts, false≢true, lt-ltb}
 use Rattle.std.proofs.lemmas.List.{append_assoc}
 use Rattle.page_commands.specs.Asked.{Name, Reply, absent, answer_in, bytes, list_file, mod_file}
 use Rattle.page_commands.specs.Chains.{IsChain, goes_on}
 use Rattle.page_commands.specs.DepLines.{IsDependencyIn}
 use Rattle.page_commands.specs.Document.{Line}
-use Rattle.page_commands.specs.Element.{has_outer_dot, is_dotted_name, is_element, is_path_byte, is_shortened, stem}
+use Rattle.page_commands.specs.Element.{is_element}
 use Rattle.page_commands.specs.Fields.{dependency_of}
 use Rattle.page_commands.specs.Files.{lines_in}
 use Rattle.page_commands.specs.Fit.{FitsMajor}
@@ -57,14 +57,14 @@ no_text ((x ∷ t) ∷ []) some joined each = cc joined
 no_text ((x ∷ t) ∷ next ∷ rest) some joined each = cc joined
 
 -- no element begins with a slash
-slash_first : (x : ℕ) (t : List ℕ) (rest : List (List ℕ)) → 47 ≡ x → list_all is_element ((x ∷ t) ∷ rest) ≡ true → ⊥
+no_element : (t : List ℕ) → is_element (47 ∷ t) ≡ false
 unfolding on_literals
+no_element t = rw (lt-ltb 0 (length (47 ∷ t)) (omega arith)) refl
+
+slash_first : (x : ℕ) (t : List ℕ) (rest : List (List ℕ)) → 47 ≡ x → list_all is_element ((x ∷ t) ∷ rest) ≡ true → ⊥
 slash_first x t rest is each =
     let from = subst (λ (y : ℕ). list_all is_element ((y ∷ t) ∷ rest) ≡ true) (sym is) each in
-    let element = (and_parts (is_element (47 ∷ t)) (list_all is_element rest) from).0 in
-    let dotted = (and_parts (is_dotted_name (47 ∷ t)) _ (and_parts _ (not (is_shortened (stem (47 ∷ t)))) element).0).0 in
-    let bytes = (and_parts (nat_lt 0 (length (47 ∷ t))) (list_all is_path_byte (47 ∷ t)) (and_parts _ (not (has_outer_dot (47 ∷ t))) dotted).0).1 in
-    false≢true (and_parts (is_path_byte 47) (list_all is_path_byte t) bytes).0
+    false≢true (sym (no_element t) ∙ (and_parts (is_element (47 ∷ t)) (list_all is_element rest) from).0)
 
 no_slash : (elements : List (List ℕ)) → codes "/a" ≡ join_with_byte 47 elements → list_all is_element elements ≡ true → ⊥
 unfolding on_literals
@@ -135,6 +135,7 @@ paths_are_exact = record {
   first = no_first;
   first_so = no_first_so;
   bare = no_bare;
+  built = λ is. false≢true (version_back (codes "v1.0.0+meta") is);
 }
 
 -- ---- other definitions

@@ -26,6 +26,7 @@ use Rattle.page_commands.specs.Tokens.{Placed}
 use Rattle.page_commands.specs.Types.Major.{Dot, Slash}
 use Rattle.page_commands.specs.Types.Step.{Main, Of}
 use Rattle.page_commands.specs.Types.Sum.{Good}
+use Rattle.page_commands.specs.Version.{IsVersion}
 use Rattle.page_commands.specs.Versions.{VersionsEnds, VersionsNeed}
 use Rattle.page_commands.specs.Worlds.{prints}
 use Rattle.page_commands.specs.Worlds.Chains.{a}
@@ -53,6 +54,8 @@ pub record PathsAreExact : Type 0 where
   pub first : IsFront 1 0 0 (codes "a.0.") → ⊥
   pub first_so : IsFront 1 0 1 (codes "0.") → ⊥
   pub bare : IsFront 2 0 0 (codes ".0.") → ⊥
+  -- a version has no build but `+incompatible`
+  pub built : IsVersion (codes "v1.0.0+meta") → ⊥
 
 -- ---- other definitions
 
