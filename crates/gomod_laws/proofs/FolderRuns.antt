@@ -12,6 +12,7 @@ use Rattle.gm_graph_select.proofs.Ascending.{no_member}
 use Rattle.gm_graph_select.proofs.RankedLists.{in_mapped}
 use Rattle.gm_graph.specs.declared.fault.Fault.{Fault}
 use Rattle.gm_graph.specs.Run as graph
+use Rattle.gm_graph_cache.specs.Sayings as sayings
 use Rattle.gm_graph.specs.Run.{AreFaults, AskedInTurn, IsSettled}
 use Rattle.gm_graph_cache.specs.Sayings.{FileSays, run_of}
 use Rattle.gm_graph.proofs.Exactly.{names_push}
@@ -151,8 +152,8 @@ pub no_fault_read : (main : Main) (table : Option Sums) (asked : Pairs) → IsSe
 no_fault_read main table asked settled none name reply class at is =
     let (x, opens, file, askable) = (settled.needed name).0 (answered_name _ _ _ at) in
     let one : Fault = record { vertex = x; class = class } in
-    let says = graph.answered reply askable at is in
-    no_member _ ((none.each one).1 (opens, graph.faulty (rw file says)))
+    let says = sayings.answered reply askable at is in
+    no_member _ ((none.each one).1 (opens, sayings.faulty (rw file says)))
 
 -- what was asked for was read
 asked_is_file : (file : List ℕ) (sums : Option (List ℕ)) (asked : Pairs) (main : Main) (table : Option Sums)
