@@ -71,6 +71,11 @@ class Table(dict):
     is_busy, is_used = True, False
 
 
+def joined_in(node):
+    """The expressions that an expression joins by `++`, however they are grouped."""
+    return [it for part in node.parts for it in joined_in(part)] if node.kind == "++" else [node]
+
+
 class Page:
     """The definitions of a crate, or those of another page with another text of a file; what was computed of them."""
 
@@ -364,19 +369,22 @@ class Page:
                 try:
                     self.value(cut, env, module)
                 except Stuck:
-                    return [(found, []) for found in self.cuts(known(self.value(whole, env, module)), cut, env, module)]
+                    whole = known(self.value(whole, env, module))
+                    return [(found, []) for found in self.cuts(whole, joined_in(cut), env, module)]
         return self.same(parts[0], env, module, self.value(parts[1], env, module))
 
     def same(self, node, env, module, value):
         return [([(self.value(node, env, module), value)], [])]
 
-    def cuts(self, whole, node, env, module):
-        """What has to be the same so that an expression is this list: one way for each place at which it can be cut."""
-        if node.kind == "++":
-            head = self.value(node.parts[0], env, module)
+    def cuts(self, whole, nodes, env, module):
+        """What has to be the same so that these, joined, are this list: one way for each place at which it can be
+        cut."""
+        node, *others = nodes
+        if others:
+            head = self.value(node, env, module)
             places = range(len(whole) + 1) if isinstance(head, Unknown) else [len(known(head))]
-            return [[(head, whole[:at]), *others] for at in places
-                    for others in self.cuts(whole[at:], node.parts[1], env, module)]
+            return [[(head, whole[:at]), *more] for at in places
+                    for more in self.cuts(whole[at:], others, env, module)]
         if node.head() in INVERSE:
             *given, last = (self.value(it, env, module) for it in node.arguments())
             return [[(last, it)] for it in INVERSE[node.head()](whole, *given)]
