@@ -4,11 +4,10 @@
 #   . tools/lib.sh
 
 # The script itself: its path from here. Its own name may be one from another folder.
-self=tools/${0##*/}
-[ -e "$self" ] || self=bench/${0##*/}
 case $0 in
   *build) self=./build ;;
   *run) self=.ci/run ;;
+  *) for self in {tools/*,bench}/"${0##*/}"; do [ ! -e "$self" ] || break; done ;;
 esac
 own_name=${self##*/} own_name=${own_name%.*}
 
@@ -51,7 +50,7 @@ program_sources() {
 
 # Prints the checksum of all that an unproved program is made of, but for the toolchain.
 checksum_of_program() {
-  program_sources | sort -z | xargs -0 sha256sum -- tools/unproved.sh tools/unproved.py | sha256sum | cut -d ' ' -f 1
+  program_sources | sort -z | xargs -0 sha256sum -- tools/release/unproved.sh tools/release/unproved.py | sha256sum | cut -d ' ' -f 1
 }
 
 # Prints the commit that is here, and whether there are changes.
@@ -60,7 +59,7 @@ commit_here() {
   echo "$(git rev-parse HEAD)$([ -z "$(git status --porcelain)" ] || echo " with changes")"
 }
 
-# Where a proof leaves the program, how its version ends, and what tools/unproved.sh puts there.
+# Where a proof leaves the program, how its version ends, and what tools/release/unproved.sh puts there.
 readonly PROVED_PROGRAM=crates/gomod/out/gomod PROVED_MARK='\(Rattle, logic [0-9a-f]{16}\)'
 readonly UNPROVED_MARK='(Rattle, nothing is proved)'
 

@@ -1,4 +1,5 @@
-"""What the scripts in Python share. Those that are run begin with `script.run(main)`."""
+"""What the scripts in Python share. Those that are run name the folder of this file before they import it, which finds
+the modules in all folders of tools/, and begin with `script.run(main)`."""
 
 import collections
 import contextlib
@@ -16,8 +17,9 @@ import tempfile
 # how much there is side by side: from 24 on, cases that open descriptors 62 and 63 would meet those of a pool
 AT_ONCE = min(len(os.sched_getaffinity(0)), 16)
 TOP = pathlib.Path(__file__).resolve().parent.parent  # the root of the repository
-SCRIPT = pathlib.Path("tools", pathlib.Path(sys.argv[0]).name)
+SCRIPT = pathlib.Path(os.path.relpath(os.path.realpath(sys.argv[0]), TOP))
 NAME = SCRIPT.stem
+sys.path += map(str, TOP.glob("tools/*/"))
 
 
 def misused(reason):

@@ -1,5 +1,5 @@
 # Completion of gomod for bash, kept by hand: `source` this file, or put it, named gomod, where bash-completion looks
-# (~/.local/share/bash-completion/completions). tools/check_help.py compares it with `gomod --help`.
+# (~/.local/share/bash-completion/completions). tools/try/check_help.py compares it with `gomod --help`.
 # No text of a file or a folder reaches `compgen -W`, which expands each word.
 
 # The folders of --proxy, of a list the last one: those here, and go's cache if nothing is typed of it. bash completes

@@ -1,4 +1,4 @@
-# Completion of gomod for fish, kept by hand: put it into ~/.config/fish/completions. tools/check_help.py compares it
+# Completion of gomod for fish, kept by hand: put it into ~/.config/fish/completions. tools/try/check_help.py compares it
 # with `gomod --help`: the commands of an option are those that its condition names.
 
 # The folders of --proxy, of a list the last one: those here, and go's cache if nothing is typed of it. fish quotes what

@@ -1,0 +1,385 @@
+#!/usr/bin/env bash
+# Checks the scripts of the repository: by shellcheck and pyflakes3, if they are installed, --help and a wrong argument
+# of each, and what guards the merge gate and a release, in a scratch repository, with a command `rt` that does as said.
+#
+#   tools/check/check-scripts.sh
+#
+# It prints each difference, and how many things were compared. The status is 1 if there is a difference. It needs git,
+# python3 and a C compiler. .ci/run runs it before the merge gate.
+
+# shellcheck disable=SC2016,SC2053
+set -euo pipefail
+cd "$(dirname "$0")/../.."
+# shellcheck source=tools/lib.sh
+. tools/lib.sh
+begin_script "$@"
+[ $# -eq 0 ] || misused "unknown argument '$1'"
+
+work=$(mktemp -d)
+trap 'rm -rf "$work"' EXIT
+readonly TOP=$work/top MACHINE=$work/machine DATA=crates/run_cases/data
+readonly PROVED='echo "gomod 1.0 (Rattle, logic 0123456789abcdef)" # GLIBC_2.34'
+export PATH=$work/path:$PATH GOMOD_MACHINE=$MACHINE
+wrong=0 compared=0
+mapfile -t scripts < <(git ls-files -s | awk '$1 == 100755 { print $4 }')
+mapfile -t files < <(git ls-files ./*.md .ci .gitignore bench build docs/DECISIONS.md example share tools)
+
+# Compares what was got, the third argument, with a pattern.
+same() {
+  compared=$((compared + 1))
+  [[ $3 != $2 ]] || return 0
+  printf '%s\n  wanted: %s\n  got:    %s\n' "$1" "${2//$'\n'/$'\n          '}" "${3//$'\n'/$'\n          '}"
+  wrong=$((wrong + 1))
+}
+
+# Runs a command in the scratch repository, and compares its status, a colon, its output and its errors with a pattern.
+# It may take 300 seconds of CPU time.
+ends() {
+  local status=0
+  (cd "$TOP" && ulimit -t 300 && exec "${@:2}") > "$work/output" 2> "$work/errors" || status=$?
+  same "${*:2}" "$1" "$status:$(cat "$work/output" "$work/errors")"
+}
+
+# Lays a program of these lines below the scratch folder.
+lay() {
+  mkdir -p "$(dirname "$work/$1")"
+  printf '#!/usr/bin/env bash\n%s\n' "$2" > "$work/$1"
+  chmod +x "$work/$1"
+}
+
+# Makes a command rt, which leaves a file, and then does what is said.
+make_rt() {
+  rm -f "$work/called"
+  lay path/rt "touch '$work/called'"$'\n'"$1"
+}
+
+calls_no_rt() { same "$1 calls no rt" "" "$(find "$work" -name called)"; }
+
+# Whether a record is as wanted: a pattern, or nothing if there must be none.
+leaves() { same "bin/$1" "$2" "$(cat "$TOP/bin/$1" 2> /dev/null || true)"; }
+
+there() { (cd "$TOP" && "$@"); }
+sum_of_gomod() { there sha256sum bin/gomod; }
+
+commit() {
+  there git add .
+  there git -c user.name=x -c user.email=x@example.com commit -qm x
+}
+
+# Makes the scratch repository anew, whose only crate is gomod, with a program that says it is proved, and all scripts.
+# Those of tools/ that are run only say what .ci/run calls them, but for these.
+scratch() {
+  local name
+  rm -rf "$TOP"
+  mkdir -p "$TOP/crates/gomod/src" "$TOP/$DATA"
+  cp --parents -t "$TOP" "${files[@]}"
+  for name in tools/*/*; do
+    [ ! -x "$name" ] || [[ " $* " == *" $name "* ]] || lay "top/$name" 'echo "$GATE_CHECK"'
+  done
+  echo "gomod: std" > "$TOP/crates.txt"
+  touch "$TOP/crates/gomod/src/main.rt"
+  lay top/bin/gomod "$PROVED"
+  lay top/crates/gomod/out/gomod "$PROVED"
+  there git init -q
+  commit
+}
+
+# Makes the files of a machine anew, with so many MB available, and in /a of its control groups these limits.
+machine() {
+  local group=$MACHINE/sys/fs/cgroup/a
+  rm -rf "$MACHINE"
+  mkdir -p "$MACHINE/proc/self" "$group/b"
+  printf 'MemTotal: 99999999 kB\nMemAvailable: %d kB\n' $(($1 * 1024)) > "$MACHINE/proc/meminfo"
+  echo 0::/a/b > "$MACHINE/proc/self/cgroup"
+  [ $# -eq 1 ] || echo $(($2 << 20)) > "$group/memory.max"
+  echo $((100 << 20)) > "$group/memory.current"
+  printf 'anon 1\ninactive_file %d\n' $((40 << 20)) > "$group/memory.stat"
+  echo "${3:-max 100000}" > "$group/cpu.max"
+}
+
+# What a command says of the files that git has with these names, if it is there.
+check_code() {
+  if command -v "$1" > /dev/null; then
+    same "$1" "" "$(git ls-files -z "${@:3}" | xargs -0 $2 2>&1)"
+  else
+    echo "skipped, for want of $1: the scripts ${*:3}"
+  fi
+}
+
+# What each script says of --help and an argument that none takes. It calls no rt, and writes nothing.
+check_words() {
+  local script
+  make_rt "exit 9"
+  scratch "${scripts[@]}"
+  for script in "${scripts[@]}"; do
+    ends "0:$(sed -n '/^#!/d;s/^"""//;s/"""$//;s/^# //;p;q' "$script")*" "./$script" --help
+    [[ $script == example/* ]] || ends "2:*" "./$script" --nosuch
+  done
+  same "what --help writes" "" "$(there git status --porcelain)"
+  calls_no_rt "--help"
+  ends "1:sources: ?Errno 28? No space left*" bash -c "tools/check/sources.py gomod > /dev/full"
+}
+
+check_limits() {
+  # sourced anew, since the folder of the machine is read at that time
+  local limits=(bash -c '. tools/lib.sh; free_memory_mb; processors')
+  scratch
+  machine 5000 1200 "100000 100000"
+  ends $'0:1140\n1' "${limits[@]}"
+  machine 5000 9000
+  ends "0:5000"$'\n'"$(nproc)" "${limits[@]}"
+  rm "$MACHINE/proc/self/cgroup"
+  ends "0:5000"$'\n'"$(nproc)" "${limits[@]}"
+  ends "0:9001 MB of disk, and 9000 MB are free" bash -c '. tools/lib.sh; lacking 5000 9001'
+}
+
+# Compares why the scripts that need the toolchain don't start with this PATH.
+refuse_to_start() {
+  PATH=$1 ends "1:*$2" ./build
+  PATH=$1 ends "1:*$2" .ci/run
+  PATH=$1 ends "125:*$2" ./build --try list
+}
+
+check_refusals() {
+  local without=$work/without folder
+  scratch tools/release/unproved.sh
+  rm "$TOP/bin/gomod"
+  echo before > "$TOP/bin/gate.txt"
+  machine 9000
+  # all commands but rt
+  mkdir "$without"
+  for folder in ${PATH//:/ }; do cp -sn "$folder"/* "$without" 2> /dev/null || true; done
+  rm -f "$without/rt"
+  refuse_to_start "$without" "needs the command rt: install the toolchain of Rattle*"
+  make_rt "exit 9"
+  CC=no-cc ends "1:run: the gate needs the command no-cc" .ci/run
+  RT_JOBS=0 ends "1:run: RT_JOBS is '0', and not a number*" .ci/run
+  ends "2:run: unknown argument 'x'; '.ci/run --help' says what it takes" .ci/run x
+  machine 9000 1260
+  refuse_to_start "$PATH" "MB of memory, and 1200 MB are free here"
+  calls_no_rt "what was refused"
+  leaves gate.txt before
+}
+
+check_gate() {
+  local jobs=1
+  scratch
+  unset RT_JOBS
+  [ "$(nproc)" -eq 1 ] || jobs=2
+  make_rt 'echo "$RT_JOBS jobs"; echo "1 passed, 0 failed"'
+  machine 7300
+  ends "0:*
+$jobs jobs
+1 passed, 0 failed
+tools/check/documents.py*
+tools/try/refuse-memory.sh
+tools/try/faults.py
+tools/try/doubling.py
+tools/release/release.sh
+1 passed, 0 failed" .ci/run
+  leaves gate.txt $'1 passed, 0 failed\n'"$(sum_of_gomod)"
+  machine 5900
+  make_rt 'echo "rt: gomod: the program was stopped by signal 9"; echo "0 passed, 1 failed"; exit 1'
+  ends "1:*0 passed, 1 failed
+*likely to take more than 150 minutes*killed most likely wanted memory*" .ci/run
+  leaves gate.txt ""
+  make_rt 'echo "BAD EDIT x"; echo "1 passed, 0 failed"'
+  RT_JOBS=2 ends "1:*1 passed, 0 failed" .ci/run
+}
+
+# Compares how .ci/run --quick ends if tools/release/unproved.sh and tools/try/readme.py have these lines, with these names.
+quick() {
+  local before
+  lay top/tools/release/unproved.sh "$2"
+  lay top/tools/try/readme.py "$3"
+  before=$(find "$TOP/bin" -type f -printf '%p %T@\n')
+  ends "$1; nothing was proved" .ci/run --quick "${@:4}"
+  same ".ci/run --quick leaves bin/ as it was" "$before" "$(find "$TOP/bin" -type f -printf '%p %T@\n')"
+}
+
+check_quick() {
+  local can='install -m 755 /dev/null "$2"'
+  scratch
+  machine 2500
+  make_rt ""
+  quick "0:*14 checks passed, 0 failed, skipped for want of dot: 3 examples" "$can" \
+    "echo 'skipped, for want of dot: 3 examples'"
+  quick "1:*
+wrong
+run: tools/release/unproved.sh --both run_cases failed, *5 checks passed, 1 failed, 8 did not run" 'echo wrong && exit 1' ""
+  quick "0:*2 checks passed, 0 failed" "$can" "" documents layout
+  ends "2:run: --quick has no check 'x'*" .ci/run --quick x
+  make_rt 'echo x >> src/main.rt'
+  quick "1:*run: layout failed*" "$can" "" layout
+  lay top/tools/release/unproved.sh "echo \$\$ > '$work/begun'; sleep 60; touch '$work/finished'"
+  (cd "$TOP" && exec .ci/run --quick > /dev/null) &
+  until [ -s "$work/begun" ] || ! kill -0 $! 2> /dev/null; do sleep 0.1; done
+  kill $! || true
+  wait $! || true
+  same "a signal ends what .ci/run --quick has begun" "" \
+    "$(find "$work" -name finished && ps -o stat= -p "$(cat "$work/begun")" | grep -v ^Z)"
+  machine 2400
+  ends "1:run: --quick needs 2500 MB of memory, and 2400 MB are free here" .ci/run --quick
+}
+
+check_unproved() {
+  scratch tools/release/unproved.sh tools/release/release.sh
+  ends "1:unproved: $TOP/program is in the repository*" tools/release/unproved.sh "$TOP/program"
+  lay top/bin/gomod "$PROVED of other sources"
+  ends "1:build: bin/gomod isn't the program that the last proof left*" ./build --install "$work/installed"
+  lay top/bin/gomod 'echo "gomod 1 (Rattle, nothing is proved)"'
+  cp "$TOP/bin/gomod" "$TOP/crates/gomod/out"
+  ends "1:build: bin/gomod isn't the program that the last proof left*" ./build --install "$work/installed"
+  ends "1:release: bin/gomod isn't the program that the last proof left*" tools/release/release.sh "$work/released"
+  ends "1:release: bin/gomod isn't proved: its version is 'gomod 1 (Rattle, nothing is proved)'" \
+    tools/release/release.sh --check
+  same "what was refused was not installed" "" "$(find "$work" -name installed -o -name released)"
+  lay top/bin/gomod "$PROVED"
+  cp "$TOP/bin/gomod" "$TOP/crates/gomod/out"
+  touch -d "1 hour" "$TOP/crates/gomod/PROOFS.md"
+  ends "0:$work/installed/bin/gomod*/example" ./build --install "$work/installed"
+  touch -d "1 hour" "$TOP/crates/gomod/src/main.rt"
+  ends "0:*build: bin/gomod is older than*" ./build --install "$work/installed"
+  same "what is installed" "$PROVED CHANGELOG.md README.md docs example" \
+    "$(tail -n 1 "$work/installed/bin/gomod") $(cd "$work/installed/share/doc/gomod" && echo *)"
+}
+
+# Compares how tools/try/refuse-memory.sh ends where each call of tools/try/program.sh does this, and its record.
+refuse_memory() {
+  lay top/tools/try/program.sh "echo \"\$REFUSE_LATER:\$#:\$*\"; $1"
+  ends "$2" tools/try/refuse-memory.sh "${@:4}"
+  leaves refused.txt "$3"
+}
+
+check_refused_memory() {
+  local passes='echo "2 passed, 0 failed, 30 runs with an allocation refused"' head
+  scratch tools/try/refuse-memory.sh
+  refuse_memory "" "1:refuse-memory: there is no case 'selection.txt: The*" "" --check
+  cp "$DATA"/*.txt "$TOP/$DATA"
+  mkdir -p "$TOP/crates/run_cases/out" "$TOP/docs/proof"
+  "${CC:-cc}" -x c -o "$TOP/crates/run_cases/out/run_cases" - <<< 'int main(void) { return 0; }'
+  echo "at 01234567 none of 1,234 runs was wrong" > "$TOP/docs/proof/PROVED.md"
+  refuse_memory "$passes" "0:yes:*:$DATA/chains.txt *calls of libraries, 1 runs" "" --check
+  commit
+  head=$(there git rev-parse HEAD)
+  refuse_memory "$passes" "0:*" "61 runs, none wrong, on $(date -u +%F) at commit $head"$'\n'"$(sum_of_gomod)"
+  same "PROVED.md" "at ${head:0:8} none of 61 runs was wrong" "$(cat "$TOP/docs/proof/PROVED.md")"
+  refuse_memory 'exit 1' "1:*2 failures*" ""
+  refuse_memory 'echo "# x" >> bin/gomod' "1:*refuse-memory: bin/gomod isn't the program that it was at the start" ""
+  CC=no-cc refuse_memory "" "1:refuse-memory: there is no command no-cc*" ""
+}
+
+# Compares how tools/try/program.sh ends where tools/try/program.py prints this line and ends with this status, and its record.
+program() {
+  printf 'import sys\nprint("%s")\nsys.exit(%d)\n' "$1" "$2" > "$TOP/tools/try/program.py"
+  ends "$2:$1" tools/try/program.sh "${@:4}"
+  leaves opened.txt "$3"
+}
+
+check_opened() {
+  local passes="2 passed, 0 failed, 5 commands open nothing else" head
+  scratch tools/try/program.sh
+  head=$(there git rev-parse HEAD)
+  program "$passes" 0 "" a.txt
+  program "$passes" 0 "5 commands, none opens more than it names, on $(date -u +%F) at commit $head with changes
+$(sum_of_gomod)"
+  program "2 passed, 0 failed; what they open was not looked at" 0 ""
+  echo before > "$TOP/bin/opened.txt"
+  program "$passes" 1 ""
+}
+
+# Compares why a release is refused.
+refuses() { ends "1:release: $1" tools/release/release.sh "$work/released" --gate "${2-5 passed, 0 failed}"; }
+
+check_release() {
+  local records='' name right
+  scratch tools/release/release.sh
+  lay top/tools/try/readme.py ""
+  printf '%s\n' "glibc 2.34" "## Try it" "## When to use it" > "$TOP/README.md"
+  echo "## 1.0 (unreleased)" > "$TOP/CHANGELOG.md"
+  touch "$TOP/x"
+  ends "1:release: there is no bin/gate.txt: run .ci/run*" tools/release/release.sh "$work/released"
+  printf '5 passed, 0 failed\n%s\n' "$(sum_of_gomod | tr 0-9 1-90)" > "$TOP/bin/gate.txt"
+  ends "1:release: bin/gate.txt is of another program*" tools/release/release.sh "$work/released"
+  refuses "this is no gate that passed: '5 passed, 1 failed'" "5 passed, 1 failed"
+  refuses "there are changes that aren't committed"
+  commit
+  for name in refused opened checked mistakes texts; do
+    refuses "there is no bin/$name.txt: run tools/*"
+    right=$(sum_of_gomod)
+    case $name in checked | mistakes) right=$(there bash -c '. tools/lib.sh; checksum_of_program') ;; esac
+    printf '%s\n' "of $name" "$(tr 0-9 1-90 <<< "$right")" > "$TOP/bin/$name.txt"
+    refuses "bin/$name.txt is of another program or sources (of $name): run tools/*"
+    printf '%s\n' "of $name" "$right" > "$TOP/bin/$name.txt"
+    records+="*: of $name"
+  done
+  refuses "CHANGELOG.md begins with '1.0 (unreleased)', and not with '1.0' and its day in brackets"
+  there git tag v1.0
+  echo "## 1.0 (2026-01-02)" > "$TOP/CHANGELOG.md"
+  commit
+  refuses "the tag v1.0 is at another commit, $(there git rev-parse v1.0)"
+  there git tag -d v1.0 > /dev/null
+  ends "0:*gate: 5 passed, 0 failed$records*" tools/release/release.sh "$work/released" --gate "5 passed, 0 failed"
+  same "RELEASE.txt" "*$records*" "$(tar -xzOf "$work"/released/*.tar.gz --wildcards '*/RELEASE.txt')"
+}
+
+check_build() {
+  local how
+  scratch
+  rm "$TOP/bin/gomod"
+  machine 9000
+  for how in 'kill -9 $$' 'exit 247' 'echo "clang failed with signal: 9 (SIGKILL)"; exit 1' \
+    'echo "rt: the check was killed, most likely for memory: once more"; exit 1'; do
+    make_rt "$how"
+    ends "1:*the proof of crates/gomod was killed, most likely for want of memory*" ./build
+  done
+  make_rt 'echo "src/main.rt: error"; exit 1'
+  ends $'1:*src/main.rt: error\nbuild: failed in crates/gomod' ./build
+  make_rt 'mkdir -p out; install -m 755 /dev/null out/gomod'
+  ends "0:*$TOP/bin/gomod" ./build
+}
+
+# Compares how ./build --try ends in a folder with a blank in its name, and how often it has compiled.
+try() {
+  ends "$1" env -C "$work/a b" "$TOP/build" --try "${@:3}"
+  same "build --try compiles" "$2" "$(wc -l < "$work/compiled")"
+}
+
+check_try() {
+  scratch
+  make_rt "exit 9"
+  mkdir "$work/a b"
+  lay tried 'IFS="|"; echo "$PWD|$*"; cat; echo a.mod:2: OpenBlock >&2; exit 3'
+  lay top/tools/release/unproved.sh "echo \"\$1\" >> '$work/compiled'; cp '$work/tried' \"\$2\""
+  try "3:$work/a b|fmt|go.mod||a  b
+given
+build: *nothing is proved*a.mod:2: OpenBlock" 1 fmt go.mod "" "a  b" < <(echo given)
+  same "build --try: what is compiled" --checked "$(cat "$work/compiled")"
+  touch "$TOP/crates/gomod/PROOFS.md"
+  try "3:$TOP|list|--mod|example/go.mod|--proxy|example/cache/download*" 1 < /dev/null
+  echo >> "$TOP/crates/gomod/src/main.rt"
+  try "3:$work/a b|list*" 2 list < /dev/null
+  same "build --try keeps one program" 1 "$(find "$TOP/build.try" -type f | wc -l)"
+  echo >> "$TOP/crates/gomod/src/main.rt"
+  lay top/tools/release/unproved.sh 'echo wrong >&2; exit 1'
+  try "125:*wrong" 2 list
+  calls_no_rt "build --try"
+}
+
+# the disk, of which there are 9 GB
+lay path/df 'printf "Filesystem 1024-blocks Used Available Capacity Mounted\n/dev/x 1 1 9216000 1%% /\n"'
+check_code shellcheck "shellcheck -x -S warning" '*.sh' build .ci/run
+check_code pyflakes3 pyflakes3 '*.py'
+check_words
+check_limits
+check_refusals
+check_gate
+check_quick
+check_unproved
+check_refused_memory
+check_opened
+check_release
+check_build
+check_try
+echo "scripts: $compared things compared, $wrong wrong"
+[ "$wrong" -eq 0 ]

@@ -1,0 +1,350 @@
+#!/usr/bin/env -S python3 -B
+"""Checks what the documents name, and all else that files alone show.
+
+    tools/check/documents.py                  README.md, all documents of docs/, PROOFS.md and MISTAKES.md of crates, and what
+                                        is told of below
+    tools/check/documents.py FILE..           what these name alone
+    tools/check/documents.py --accept NAME..  writes the checksums anew of the sentences bound to these laws, or to `all`
+    tools/check/documents.py --trusted LOG    whether docs/proof/PROVED.md has the `axioms` lines and the verdict of gomod in
+                                        a log of `rt ci`, or of `rt check` in crates/gomod
+    tools/check/documents.py --trust LOG      writes them there
+
+What a document names is a table in docs/dev/DEVELOPING.md ("What a document names"). How long one may be is a table
+below, without bars of tables, fenced code, comments, quotes (`>`), and what scripts write between marks (`<!-- show`).
+README.md has at most 600 words outside examples and tables, and eight sentences of 30 on what is verified; a release
+has 500 in CHANGELOG.md. README.md's figures of speed are those of docs/dev/BENCHMARKS.md, and both name the commit that
+was measured, which changed a source. What another file has too, as versions and counts, is compared (ALIKE). Other
+facts have a comment below them, `<!-- read beside OTHERS: CHECKSUM -->`: if the text changes, read it beside these
+again, and write the checksum that is printed. Types derive no Hash, and Debug if they are errors or docs/lib/LIBRARY.md
+names them.
+
+If a sentence on what is proved, or what its law states, isn't the one of its checksum (tools/check/sentences.py), both are
+printed. Who changes one compares them before --accept. Then come the lines that cases print (tools/check/messages.py), names
+of options (tools/check/names.py), what no contract says of a body (tools/check/bodies.py), and whether each edit that must fail
+names its clause, has a twin, and changes src/ alone.
+
+It needs git and python3, but no program. In a clone without its whole history no commits are looked for. The status is
+1 if something is wrong.
+"""
+
+import collections
+import fnmatch
+import functools
+import glob
+import itertools
+import os
+import pathlib
+import re
+import sys
+
+sys.path.append(f"{sys.path[0]}/..")
+import script
+import bodies
+import messages
+import names
+import refusals
+import sentences
+from script import Tally, checksum, git, read
+from sources import code_of, functions, items_of, plain
+
+# what documents name that no source has: names of the toolchain and of other commands, and parts of names
+ELSEWHERE = set("Dec Lts RT_JOBS axioms com1 com9 cpu drain extern into_iter lpt1 lpt9 rattle reserved-name sub"
+                " timeout tred v2".split())
+OTHER_ROOTS = {"Env", "Rc", "Vec", "anyhow", "env", "std"}  # what a path of such names begins with
+MADE = re.compile("crates/hello(/|$)|.*/out(/|$)")  # what LIBRARY.md, or a build, makes
+# how many words documents may have together: a number, and the documents or patterns of their names
+BUDGETS = """
+ 7550 docs/use/*.md
+ 2000 docs/use/GO.md
+12100 docs/proof/*.md
+ 5090 docs/proof/SPEC.md
+ 1500 docs/lib/*.md
+ 6500 docs/dev/*.md
+ 1800 docs/dev/CASES.md
+ 3050 docs/DECISIONS.md
+ 1800 docs/dev/PROOFS.md
+ 4930 docs/dev/PROOFS.md crates/*/PROOFS.md
+  550 docs/dev/BENCHMARKS.md
+"""
+HELP, COUNTS = "crates/gomod_words/src/help.rt", "crates/run_cases/stdout"
+MISTAKES, FIGURES = "crates/run_cases/MISTAKES.md", "docs/dev/BENCHMARKS.md"
+LIBRARY, PROVED = "docs/lib/LIBRARY.md", pathlib.Path("docs/proof/PROVED.md")
+# what documents have, each time, and the file that has the same
+ALIKE = (
+    ("*", r"\bgomod (\d+\.\d+\.\d+ \([^()]*\))", HELP, r'VERSION: &str = "(.*)"'),
+    ("*", r"\bgomod-(\d[\d.]+\d)-", HELP, r'VERSION: &str = "(\S+)'),
+    ("*", r"\blogic (?:is )?`?([0-9a-f]{16})\b", HELP, r'VERSION: &str = ".*logic (\w+)'),
+    (MISTAKES, r"\b[Aa]ll (\d[\d,]*) cases\b", COUNTS, r"(\d+) passed, 0 failed"),
+    (MISTAKES, r"\ball (\d[\d,]*) runs\b", COUNTS, r"failed, (\d+) runs"),
+    ("docs/use/RECIPES.md", r"curl (\d+\.\d+) or newer", "example/fetch-missing.sh", r"curl \((\d+\.\d+) or newer"),
+    ("docs/proof/PROVED.md", r"calls of the system alone: ([\w, ]+?) \|", "tools/try/opened.py", r"OWN = set\(\"([\w ]+)"),
+    ("README.md", r"in (\d+ to \d+) minutes on four cores", "build", r"from nothing this takes (\d+ to \d+) minutes"),
+    ("README.md", r"(\d+) GB of disk", "build", r"DISK_MB=(\d+)000"),
+    ("README.md", r"(\d+) GB of memory", "build", r"MEMORY_MB=(\d+)000"),
+    ("README.md", r"SIG\w+ \((\d+)", "docs/use/RECIPES.md", r"SIG\w+, (\d+)"),
+    ("docs/use/RECIPES.md", r"SIGXFSZ, (\d+)", "docs/use/RECIPES.md", r"\(ulimit -f 0 .*\n    (\d+)"),
+    ("docs/use/COMMANDS.md", r"3 too if `head -1` leaves an output over (\d+,\d+) bytes",
+     "crates/gomod_run/src/reports/buffer.rt", r"pieces\.now\)\) ≤ (\d+) }"),
+    ("docs/use/COMMANDS.md", r"[Aa]fter `(.)` (?:the next folder is searched if a file is absent;|also if)",
+     HELP, r"after '(.)' (?:the next one is searched\nif a file is|also.* fails\.)"),
+)
+
+# names in backquotes one after another, each with a remark in brackets or without
+LIST = r"`\w+`(?: \([^()]*\))?(?:(?:, and |, | and )`\w+`(?: \([^()]*\))?)*"
+CALL = r"`(\w+(?:::\w+)*)`"
+DERIVE = r"#\[derive\((.*)\)\]\n(?:#.*\n)*(?:pub(?:\(crate\))? )?(?:struct|enum) (\w+)"
+SHOWN = r"^<!-- show [^\n]*? -->\n(.*?)^<!-- end -->$"
+PATH = re.compile(r"(?<![\w/.@:~$!-])\.?\w[\w.-]*(?:/[\w.*-]+)*/?")
+FILE = re.compile(r"[\w-]+\.(?:rt|antt|sh|py|rs|txt|md)")
+EDIT = re.compile(r"(?:gm|gomod)_\w+/[a-z]+_\w+")
+CAPITALS = re.compile(r"(?<![^/])[A-Z]+(?=/|$|\.(?!md))")  # a part of a path that stands for any name
+COMMIT = re.compile(r"(?<![\w.=-])(?=\d*[a-f])(?=[a-f]*\d)(?:[0-9a-f]{40}|[0-9a-f]{7,12})(?![\w-])")
+WORD = re.compile(r"[^\s(){}\[\],;.:<>&|\"`]+")
+CASES = re.compile(r"crates/run_cases/data/(sizes/|program/)?\w+\.txt")
+
+
+# ---- names
+
+
+def listed(text):
+    return re.findall(r"`(\w+)`", re.sub(r" \([^()]*\)", "", text))
+
+
+class Sources:
+    """What the repository has: of each kind the forms in which documents name it."""
+
+    def __init__(self):
+        self.known = collections.defaultdict(set, names=set(ELSEWHERE))
+        self.tops = {"src", "specs", "proofs"}  # what a path begins with
+        for path in map(pathlib.Path, git("ls-files", "-co", "--exclude-standard").split("\n")):
+            if os.path.lexists(path):
+                self.read_path(path)
+                self.read_text(path)
+
+    def read_path(self, path):
+        """Reads the parts of a path, with its ending and without."""
+        self.tops |= {path.parts[0], *(["/".join(path.parts[1:3])] if path.parts[0] == "crates" else [])}
+        for parts in (path.parts, path.with_suffix("").parts):
+            places = itertools.combinations(range(len(parts) + 1), 2)
+            self.known["files"].update("/".join(parts[begin:end]) for begin, end in places)
+            self.known["names"].update(parts)
+        if path.suffix == ".edit":
+            self.known["edits"] |= {path.stem, f"{path.parts[1]}/{path.stem}"}
+
+    def read_text(self, path):
+        """Reads a source, a page, or cases."""
+        if path.suffix in (".rt", ".antt"):
+            text = code_of(path) if path.suffix == ".rt" else plain(path.read_text(encoding="utf-8"))
+            kind = "names in proofs" if path.parts[2] == "proofs" else "names"
+            self.known[kind].update(WORD.findall(text), path.with_suffix("").parts)
+            if path.suffix == ".rt":
+                self.read_code(path, text)
+        elif path.suffix == ".md" or CASES.fullmatch(str(path)):
+            for title in re.findall(r"(?m)^(?:===|#+) (.*)", read(path)):
+                self.known["titles"] |= {f'{path.name}, "{title}"', f'any file, "{title}"'}
+                self.known["choices"].update(f"{path.name} {it}" for it in re.findall(r"\w+", title))
+
+    def read_code(self, path, text):
+        """Reads the items of a source."""
+        crate, *modules = path.parts[1], *path.with_suffix("").parts[3:]
+        is_law = crate.endswith("_laws") or "laws" in modules
+        self.known["tests"].update(re.findall(r"(?m)^ *#\[test\]\n(?: *#\[.*\n)* *(?:pub )?fn (\w+)", text))
+        for number, module in enumerate(modules):
+            self.add_path(module, [crate, *modules[:number]], True)
+        for one in items_of(text):
+            self.add_path(one.name, [crate, *modules], one.visibility == "pub")
+            for variant in WORD.findall(one.text) if one.kind == "enum" else ():
+                self.add_path(variant, [one.name], one.visibility == "pub")
+        for one, block in functions(text):
+            owners = [crate, *modules]
+            owners += [it.split("::")[-1] for it in [*re.findall(r"^[\w:]+", block.trait), block.name]] if block else []
+            is_public = one.visibility == "pub" or block and (block.trait or block.kind == "trait")
+            paths = [one.name, *self.add_path(one.name, owners, is_public)]
+            self.known["laws"] |= {one.name} if is_law else set()
+            self.known["parts"].update(f"{one.name} of {it}" for it in owners)
+            for clause in re.findall(r"(?m)^\s+(?:ensures|requires)\*? ([a-z]\w*)", one.text):
+                self.known["parts"].update(f"{clause} of {it}" for it in paths)
+
+    def add_path(self, name, owners, is_public):
+        """Adds the paths of a name by what it is in."""
+        paths = [f"{it}::{name}" for it in owners]
+        self.known["paths of names"].update(paths)
+        self.known["public paths of names"].update(paths if is_public else ())
+        return paths
+
+    def has(self, kind, thing):
+        """Whether there is such a thing."""
+        if kind == "commits":
+            whole = git("rev-parse", f"{thing}^{{commit}}")
+            return is_shallow() or whole and whole == git("merge-base", whole, "HEAD")
+        if "::" in thing:
+            *owners, last = thing.split("::")
+            return all(f"{it}::{last}" in self.known[kind] for it in owners)
+        if kind == "files" and thing not in self.known[kind]:
+            form = CAPITALS.sub("*", thing)
+            return "*" in form and bool(fnmatch.filter(self.known[kind], form))
+        return thing in self.known[kind] or kind == "names in proofs" and thing in self.known["names"]
+
+
+@functools.cache
+def is_shallow():
+    return git("rev-parse", "--is-shallow-repository") == "true"
+
+
+def mentioned(line, page, tops):
+    """What a line of a page names: the kind of each thing, and the thing."""
+    base, is_code = os.path.basename(page), line.startswith("    ")
+    for word in (it.rstrip("./") for it in PATH.findall(line)):
+        first, *rest = word.split("/")
+        if EDIT.fullmatch(word):
+            yield "edits that went" if page == MISTAKES else "edits", word
+        elif not MADE.match(word) and (tops & {first, "/".join([first, *rest[:1]])} if rest
+                                       else not is_code and FILE.fullmatch(word)):
+            yield "files", word
+    file = "any file" if page == MISTAKES and line.startswith("|") else ""
+    for named, title in re.findall(r'\b([\w-]+\.(?:txt|md)), (?=")|"([^"]{3,})"', line):
+        file = named or file
+        if title and file:
+            yield "titles", f'{file}, "{title}"'
+    if is_code:
+        yield from (("choices", it) for it in re.findall(r"\brun_cases ([a-z_]+\.txt \w+)", line))
+        return
+    of_names = "names in proofs" if base == "PROOFS.md" or "proofs/" in line else "names"
+    of_paths = "public paths of names" if base in ("README.md", "LIBRARY.md") else "paths of names"
+    for text in re.findall(r"`([^`]+)`", line):
+        if re.fullmatch(r"\w+(::\w+)+", text) and text.split("::")[0] not in OTHER_ROOTS:
+            yield of_paths, text
+        elif re.fullmatch(r"[A-Za-z]\w*" + "(-[a-z]+)*" * (base == "PROOFS.md"), text):
+            yield of_names, text
+    yield from ((of_names, it) for it in re.findall(r"(?<![\w/.@])(?:gm|gomod)_\w+", line))
+    for kind, found in re.findall(rf"\b(law|test|edit)s? ({LIST})", line):
+        yield from ((f"{kind}s", it) for it in listed(found))
+    for found, owner in re.findall(rf"({LIST}) of {CALL}", line):
+        yield from (("parts", f"{it} of {owner}") for it in listed(found))
+    yield from (("commits", it) for it in COMMIT.findall(line))
+
+
+def keep_names(tally, page, sources):
+    """Looks up all that a page names."""
+    text = re.sub(r"(?ms)^```.*?^```$", lambda it: "\n" * it[0].count("\n"), read(page))
+    for number, line in enumerate(text.split("\n"), 1):
+        for kind, thing in mentioned(line, page, sources.tops):
+            is_right = not sources.has("edits", thing) if kind == "edits that went" else sources.has(kind, thing)
+            tally.tell(kind, is_right, f"{page}:{number}: {kind}: there is {'a' if 'went' in kind else 'no'} {thing}")
+
+
+# ---- lengths
+
+
+def words_of(text):
+    """How many words a text has, without bars of tables, fenced code, comments, and what other files say."""
+    text = re.sub(rf"(?ms)^```.*?^```$|{SHOWN}|<!--.*?-->|^>[^\n]*$|^\|[-:| ]+\|$", "", text)
+    return sum(len((re.sub(r"(?<!\\)\|", " ", it) if it.startswith("|") else it).split()) for it in text.split("\n"))
+
+
+def keep_budgets(tally):
+    """Whether all documents are as short as they should be."""
+    readme = re.sub(r"(?m)^(?:    |\|).*", "", read("README.md"))
+    claims = re.findall(r"(?m)^- (.*)", readme.partition("\n## What is verified\n")[2].partition("\n## ")[0])
+    budgets = [("README.md", words_of(readme), 600), ("README.md, What is verified", len(claims), 8)]
+    budgets += [(f"README.md, '{it}'", len(it.split()), 30) for it in claims]
+    budgets += [(f"CHANGELOG.md, {it.partition(chr(10))[0]}", words_of(it), 500)
+                for it in re.split(r"(?m)^(?=## )", read("CHANGELOG.md"))]
+    for most, *patterns in (it.split() for it in BUDGETS.strip().split("\n")):
+        pages = {name: words_of(read(name)) for it in patterns for name in glob.glob(it)}
+        budgets.append((" ".join(patterns), sum(pages.values()) if pages else float("inf"), int(most)))
+    for what, number, most in budgets:
+        tally.tell("budgets", number <= most, f"{what}: {number:,}, and at most {most:,} should be")
+
+
+# ---- what two files say
+
+
+def pages():
+    return sorted(["README.md", *glob.glob("docs/**/*.md", recursive=True), *glob.glob("crates/*/PROOFS.md"), MISTAKES])
+
+
+def keep_alike(tally):
+    """Whether documents have the versions, counts and names that another file has."""
+    for page, form, other, its_form in ALIKE:
+        texts = map(read, pages() if page == "*" else [page])
+        here, there = ({it.replace(",", "") for text in those for it in re.findall(form, text)}
+                       for form, those in ((form, texts), (its_form, [read(other)])))
+        tally.tell("figures", here and here == there, f"{page}: '{form}' has {here}, and {other} has {there}")
+
+
+def keep_pins(tally):
+    """Whether each block that was read beside others, `<!-- read beside OTHERS: CHECKSUM -->`, is as it was then, and
+    so each page that has a comment `page read beside`."""
+    for page in pages():
+        blocks = re.findall(r"(?m)((?:^.+\n)+)^<!-- read beside (.+): (\w+) -->$", read(page))
+        whole = re.findall(r"(?s)\A(.*)<!-- page read beside ([^\n]+): (\w+) -->\n(.*)\Z", read(page))
+        for text, others, then in [*blocks, *((head + rest, *of) for head, *of, rest in whole)]:
+            now = checksum(text)
+            tally.tell("texts read beside others", now == then, f"{page}: read this beside {others}, and write {now} "
+                       f"below it: {text[:100]}")
+
+
+def keep_figures(tally):
+    """Whether each line of README.md's table of speed begins one of docs/dev/BENCHMARKS.md, and both name a commit that
+    was measured."""
+    shown, page = "".join(re.findall(SHOWN, read("README.md"), re.M | re.S)), read(FIGURES)
+    for it in shown.split("\n"):
+        is_there = f"\n{it}" in page
+        tally.tell("figures", is_there, f"README.md: {FIGURES} has no '{it}'; bench/tables.sh --write writes both")
+    for needed in "| `gomod list` |", "Measured at `":
+        tally.tell("figures", needed in shown, f"README.md: between its marks there is no '{needed}'")
+    for commit in re.findall(r"(?m)^Measured at `(\w+)`\.$", page) if not is_shallow() else []:
+        is_right = git("log", "-1", "--format=%H", commit, "--", "*.rt").startswith(commit)
+        tally.tell("figures", is_right, f"{FIGURES}: {commit} is no commit that changed a .rt file")
+        later = git("log", "--format=%h", f"{commit}..HEAD", "--", "*.rt").split()
+        if is_right and later:
+            print(f"{FIGURES}: measured at {commit}, before {len(later)} commits that changed .rt files")
+
+
+def keep_derives(tally):
+    """Whether types derive no Hash, and Debug if they are errors or docs/lib/LIBRARY.md names them: each is proved."""
+    named = set(re.findall(CALL, re.search(r"`Debug` is derived by errors and by (.*), `Hash`", read(LIBRARY))[1]))
+    derives = [(name, words.split(", ")) for path in glob.glob("crates/*/src/**/*.rt", recursive=True)
+               for words, name in re.findall(DERIVE, read(path))]
+    wrong = named ^ {name for name, words in derives if "Debug" in words and "Error" not in words}
+    wrong |= {name for name, words in derives if "Hash" in words}
+    tally.tell("derives", not wrong, f"{LIBRARY}: what it says of Debug and Hash isn't so: {', '.join(sorted(wrong))}")
+
+
+def trusted(log, is_written):
+    """Compares what a log says that the check of gomod trusts with PROVED.md, or writes it there; gives the status."""
+    parts = re.split(r"(?m)^== (\S+).*\n", read(log))
+    said = dict(zip(parts[1::2], parts[2::2])).get("gomod", "") if len(parts) > 1 else parts[0]
+    verdicts = re.findall(r"(?m)^logic=proved.*target=.*", said)
+    if not verdicts:
+        print("documents: the log has no verdict of gomod, so nothing was compared")
+        return 0
+    # what speeds a check up alone isn't in the gate's verdict
+    lines = [*re.findall(r"(?m)^axioms \w+: .*", said), re.sub(" (incremental|cache)=trusted", "", verdicts[-1])]
+    text, count = re.subn(r"(?ms)^(<!-- show trusted -->\n```\n).*?^(```\n<!-- end -->)$",
+                          lambda it: it[1] + "".join(f"{line}\n" for line in lines) + it[2], PROVED.read_text())
+    if not count:
+        sys.exit(f"documents: {PROVED} has no marks `<!-- show trusted -->`")
+    return script.keep(PROVED, text, not is_written, "tools/check/documents.py --trust LOG")
+
+
+def main(*words):
+    """Looks up what the documents name, prints what isn't there, and returns the status."""
+    if words[:1] == ("--accept",):
+        return sentences.accept(words[1:])
+    if words[:1] in (("--trust",), ("--trusted",)):
+        return trusted(words[1], words[0] == "--trust")
+    if not git("rev-parse", "HEAD"):
+        sys.exit("documents: this is no repository of git, so nothing can be looked up")
+    sources, tally = Sources(), Tally()
+    for page in words or pages():
+        keep_names(tally, page, sources)
+    for keep in () if words else (sentences.keep, keep_budgets, keep_figures, keep_alike, keep_pins, keep_derives,
+                                  messages.keep, names.keep, bodies.keep, refusals.keep):
+        keep(tally)
+    return tally.status()
+
+
+if __name__ == "__main__":
+    script.run(main, r"(( --accept)?( (?!-)\S+)+| --trust(ed)? (?!-)\S+)?")

@@ -1,0 +1,288 @@
+#!/usr/bin/env -S python3 -B
+"""Runs each example of README.md and of the documents, and compares what it prints byte for byte.
+
+    tools/try/readme.py                     README.md, CHANGELOG.md and all documents of docs/
+    tools/try/readme.py FILE..              these
+    tools/try/readme.py --quick [FILE..]    the same without compiling the program of docs/lib/LIBRARY.md
+    tools/try/readme.py --archive FOLDER    the documents of a release that was unpacked into FOLDER, with its program
+
+An example is a block of lines that are indented by four spaces, the first of which begins `$ `: each such line is a
+command of a shell, and the lines up to the next one are what it prints, on both streams. All blocks of a document run
+in one shell: in bash in their order, and backwards in zsh, or in bash if there is no zsh. A block that only makes a
+scratch folder (`NAME=$(mktemp -d)`) is the first in both. They run at the top of a scratch folder with the files of the
+repository, which they have to leave as it was, and with bin/ on the PATH. A block is skipped if it, or a script that it
+runs, calls bwrap, curl, dot, git, jq or vim and there is no such command, or bwrap may not make a sandbox.
+
+The commands of COMMANDS.md and RECIPES.md run once more, on a stranger's project with hostile texts and links: no file
+outside their scratch folders may change, no text may run, and what is fetched has to have the bytes of the proxy.
+
+The pieces of code of docs/lib/LIBRARY.md, fenced as rust, have to stand in the sources of the crate that is named
+before them (`From CRATE:`); the whole program, that of crates/library_example, is compiled and runs in a fresh folder,
+by the commands beside it. Each link to a file of the repository, or to a heading of one, has to lead there, and in
+README.md and docs/use no comment may follow a command, since zsh takes one that is typed for words.
+
+It needs bin/gomod (./build makes it), and unless --quick is given the toolchain of Rattle and 3.4 GB of memory. The
+last lines count what was right and wrong, and the examples that were skipped for want of which commands. The status is
+1 if one was wrong.
+"""
+
+import collections
+import contextlib
+import functools
+import glob
+import json
+import os
+import re
+import shutil
+import subprocess
+import sys
+import tempfile
+
+sys.path.append(f"{sys.path[0]}/..")
+import script
+from case_files import content_of
+from completions import HOSTILE
+from script import Tally, read, run_within, write
+
+SECONDS = 300
+OPTIONAL = ("bwrap", "curl", "dot", "git", "jq", "vim")
+COPIED = ("README.md", "CHANGELOG.md", "docs", "example", "share")
+BASH, ZSH = ["bash", "-c"], ["zsh", "-f", "-c"]
+# what users paste into a shell that they type in
+PASTED = r"README\.md|docs/use/\w+\.md"
+# the section whose program is compiled: commands that make a crate, the program, and an example that runs it
+SECTION = r"(?ms)^## A whole program\n.*?(?=^## |\Z)"
+INDENTED = r"((?:^    [^\n]*\n)+)"
+PROGRAM = rf"(?ms){INDENTED}.*?^```rust\n(//!.*?)^```$.*?{INDENTED}"
+PROGRAM_LINES = 40  # how many it may have
+SANDBOX = ["bwrap", "--unshare-all", "--ro-bind", "/", "/", "true"]
+
+
+def blanked(pattern, text):
+    """A text without what a pattern matches, whose lines keep their numbers."""
+    return re.sub(pattern, lambda it: "\n" * it[0].count("\n"), text)
+
+
+def number_at(text, place):
+    return text.count("\n", 0, place) + 1
+
+
+def blocks(text):
+    """The blocks of examples, each of commands: the number of the line, the command, and what it prints."""
+    for block in re.finditer(r"(?m)^    .*\n(?:    .*\n|\n+(?=    ))*", text):
+        if block[0].startswith("    $ "):
+            yield [(number_at(text, block.start() + it.start()), it[1], re.sub("(?m)^    ", "", it[2]))
+                   for it in re.finditer(r"(?m)^    \$ (.*)\n((?:(?!    \$ ).*\n)*)", block[0])]
+
+
+def only_makes_a_folder(block):
+    return all(re.fullmatch(r"\w+=\$\(mktemp -d\)", command) for _, command, _ in block)
+
+
+def absent(commands):
+    """The optional commands that these, or scripts which they run, call and that aren't there."""
+    words = set(re.findall(r"[\w./-]+", "\n".join(commands)))
+    for file in [it for it in words if it.endswith(".sh") and os.path.isfile(it)]:
+        words |= set(re.findall(r"[\w./-]+", re.sub(r"(?m)^\s*#.*", "", read(file))))
+    return [it for it in OPTIONAL if it in words and not is_there(it)]
+
+
+@functools.cache
+def is_there(command):
+    return shutil.which(command) and (
+        command != "bwrap" or subprocess.run(SANDBOX, capture_output=True).returncode == 0)
+
+
+def files_in(room):
+    """What a folder has: each folder, link and file below it, with its content."""
+    paths = [os.path.join(folder, it) for folder, folders, names in os.walk(room) for it in [*folders, *names]]
+    return {os.path.relpath(it, room): content_of(it, os.lstat(it)) for it in paths}
+
+
+@contextlib.contextmanager
+def scratch_room():
+    """A scratch folder with the files of this one in `top`, of which those that examples may read are copied and others
+    are links, and a folder for temporary files beside it."""
+    with tempfile.TemporaryDirectory(prefix="gomod-readme-") as folder:
+        os.makedirs(f"{folder}/top")
+        os.makedirs(f"{folder}/tmp")
+        names = set(os.listdir()) - {".git"}
+        subprocess.run(["cp", "-a", *names.intersection(COPIED), f"{folder}/top"], check=True)
+        for name in names.difference(COPIED):
+            os.symlink(os.path.abspath(name), f"{folder}/top/{name}")
+        yield folder
+
+
+def lay_stranger(room):
+    """Lays a stranger's project, and what it asks for. It leads to `outside`, beside top."""
+    mod = read("example/go.mod")
+    for number, text in enumerate(HOSTILE):
+        write(f"{room}/top/stranger/{text}/go.mod", f"module z.x/m{number}\n")
+        if "\n" not in text:
+            mod += f"require z.x/m{number} v1.0.0\nreplace z.x/m{number} => {json.dumps('./' + text)}\n"
+    # two that would lead from $scratch/mods to the room, and one to fetch, which doesn't fit
+    for words in ("./q => ../../../outside/a v1.0.0", "./q => .. ../../../outside/go", 'z.x/B" "v2.0.0'):
+        mod += f'replace z.x/b{len(mod)} v1.0.0 => "{words}"\n'
+    write(f"{room}/top/stranger/go.mod", mod)
+    for name in ("outside/a/@v/v1.0.0", "outside/go", "example/cache/download/z.x/!b/@v/v2.0.0"):
+        write(f"{room}/top/{name}.mod", "module z.x/b\n")
+    os.mkdir(f"{room}/outside")
+    for name in ("old.mod", "new.mod", "go.mod.new", "go.mod.list", "go.mod.errors"):
+        os.symlink(f"{room}/outside/{name}", f"{room}/top/stranger/{name}")
+
+
+def quoted(text):
+    return "".join(f"      {line}\n" for line in text.splitlines()) or "      (nothing)\n"
+
+
+class Documents:
+    """The documents, what was right and wrong in them, and what was skipped."""
+
+    def __init__(self, program):
+        self.program = program
+        self.tally = Tally()
+        self.skipped = collections.Counter()
+
+    def run(self, commands, shell, lay=lambda room: None):
+        """Runs commands in one shell and a fresh room: what each prints, all files then, and what of them changed."""
+        text = "".join(f"ended=$?; printf '\\036'; (exit $ended)\n{it}\n" for it in commands)
+        with scratch_room() as room:
+            lay(room)
+            before = files_in(room)
+            ran = run_within([*shell, text], SECONDS, cwd=f"{room}/top", stdin=subprocess.DEVNULL,
+                             stdout=subprocess.PIPE, stderr=subprocess.STDOUT, env={
+                                 **os.environ, "PATH": f"{self.program}:{os.environ['PATH']}", "TMPDIR": f"{room}/tmp"})
+            after = files_in(room)
+        changed = [it for it in {*before, *after} if before.get(it) != after.get(it) and not it.startswith("tmp/")]
+        return ran.stdout.decode("utf-8", "replace").split("\036")[1:], after, changed
+
+    def run_examples(self, name, text):
+        """Runs the examples of a document, all in one shell, in order and backwards."""
+        found, wrong = [], set()
+        for block in blocks(text):
+            if lacking := absent([command for _, command, _ in block]):
+                self.skipped[", ".join(lacking)] += len(block)
+            else:
+                found.append(block)
+        for title, shell, step in (("in order", BASH, 1), ("backwards", ZSH, -1)) if found else ():
+            if not shutil.which(shell[0]):
+                self.skipped[shell[0]] += sum(map(len, found))
+                shell = BASH
+            order = sorted(found[::step], key=only_makes_a_folder, reverse=True)
+            wrong |= self.run_pass(f"{name} ({title}, in {shell[0]})", [it for block in order for it in block], shell)
+        self.tally["examples", True] += sum(map(len, found)) - len(wrong)
+        self.tally["examples", False] += len(wrong)
+
+    def run_pass(self, name, examples, shell):
+        """Runs examples in a shell. It gives the lines of those that print something else."""
+        wrong = set()
+        got, _, changed = self.run([command for _, command, _ in examples], shell)
+        got += ["(it did not run)\n"] * (len(examples) - len(got))
+        for (number, command, wanted), came in zip(examples, got):
+            if came != wanted:
+                wrong.add(number)
+                print(f"{name}:{number}: $ {command}\n    prints\n{quoted(came)}", end="")
+                print(f"    and should print\n{quoted(wanted)}", end="")
+        message = f"{name}: the examples leave changed: {', '.join(sorted(changed))}"
+        self.tally.tell("folders left as they were", not changed, message)
+        return wrong
+
+    def run_on_stranger(self):
+        """Runs the commands of two pages on a stranger's project, which cp copies."""
+        text = read("docs/use/COMMANDS.md") + read("docs/use/RECIPES.md")
+        text = re.sub(r"example/[\w-]+\.mod", "stranger/go.mod", text)
+        commands = ['cp() { command cp -a stranger/. "${@: -1}"; }', "seq() { echo 1 2; }"]
+        commands += [it for it in re.findall(r"(?m)^    \$ (.*)", text) if not absent([it])]
+        # a folder with a link that leads out of it
+        commands += ["mkdir $scratch/linked && ln -s $PWD/stranger $scratch/linked/rsc.io",
+                     "example/fetch-missing.sh stranger/go.mod $scratch/linked file://$PWD/example/cache/download"]
+        # without a prompt, but writing a file
+        commands += [f"cp $TMPDIR && cd $TMPDIR && {it}" for it in re.findall(r"(?m)^    (\w.* > .*)", text)]
+        got, after, wrong = self.run(commands, BASH, lay_stranger)
+        wrong += [it for it in after if it.endswith("/ran")] + commands[len(got):]
+        fetched, there = ({it.split(place)[1]: after[it] for it in after if re.search(rf"{place}.*\.mod$", it)}
+                          for place in ("/mods/", "top/example/cache/download/"))
+        if shutil.which("curl") and fetched != there:
+            wrong.append("$scratch/mods")
+        self.tally.tell("strangers' projects", not wrong, f"a stranger's project: {', '.join(wrong)}")
+
+    def find_comments(self, name, text):
+        """Whether no indented line has a comment behind a command: zsh takes one that is typed for words."""
+        for it in re.finditer(r"(?m)^    (?!\$ )(.*)", text):
+            message = f"{name}:{number_at(text, it.start())}: a comment behind a command, which zsh takes for words"
+            self.tally.tell("lines without a prompt", not re.search(r"\S\s+# ", it[1]), message)
+
+    def compare_code(self, name, text):
+        """Whether each piece of code is in a source of the crate that was named last before it, and the whole program
+        in library_example."""
+        for found in re.finditer(r"(?ms)^```rust\n(.*?)^```$", text):
+            crates = re.findall(r"(?m)\bFrom (\w+):$", text[:found.start()]) or [""]
+            crate = "library_example" if found[1].startswith("//!") else crates[-1]
+            is_right = any(found[1] in read(it) for it in glob.glob(f"crates/{crate}/src/**/*.rt", recursive=True))
+            message = f"{name}:{number_at(text, found.start())}: this code is not in crates/{crate}"
+            self.tally.tell("pieces of code", is_right, message)
+
+    def follow_links(self, name, text):
+        """Whether each link to a file, or to a heading of one, leads there."""
+        for found in re.finditer(r"\]\(((?![a-z]+:)[^)#\s]*)(?:#([^)\s]*))?\)", text):
+            path = os.path.join(os.path.dirname(name), found[1]) if found[1] else name
+            is_right = os.path.exists(path) and (found[2] is None or found[2] in anchors(path))
+            self.tally.tell("links", is_right, f"{name}:{number_at(text, found.start())}: there is no {found[0][2:-1]}")
+
+
+def anchors(path):
+    """The headings of a page, as links have them."""
+    headings = re.findall(r"(?m)^#+ (.*)", blanked(r"(?ms)^```.*?^```", read(path))) if path.endswith(".md") else []
+    return {re.sub(r"[^\w\- ]", "", it.lower()).replace(" ", "-") for it in headings}
+
+
+def problem_of(text):
+    """What is wrong with the whole program of a page, or an empty text. Its commands run in a folder outside the
+    repository, in which gomod is a link to it, and the standard output of the last is compared."""
+    section = re.search(SECTION, text)
+    parts = section and re.search(PROGRAM, section[0])
+    if not parts:
+        return "there are no commands, no program or no run"
+    make, run, program = *(re.sub(r"(?m)^    ", "", parts[it]) for it in (1, 3)), parts[2]
+    code = [it for it in program.split("\n") if it.strip() and not re.match(r"\s*//|(?:ghost )?use ", it)]
+    if len(code) > PROGRAM_LINES:
+        return f"the program has {len(code)} lines outside use, blank lines and comments; {PROGRAM_LINES} are the most"
+    command, _, wanted = run.removeprefix("$ ").partition("\n")
+    with tempfile.TemporaryDirectory(prefix="gomod-library-") as folder:
+        os.symlink(os.path.abspath("."), f"{folder}/gomod")
+        steps = f"set -eu\nexec 3>&1 > /dev/null\n{make}cat > crates/hello/src/main.rt\nexec >&3\n{command}\n"
+        ran = subprocess.run([*BASH, steps], cwd=folder, input=program, text=True, capture_output=True,
+                             env={**os.environ, "TMPDIR": folder})
+    return "" if (ran.returncode, ran.stdout) == (0, wanted) else f"it prints\n{quoted(ran.stdout + ran.stderr)}"
+
+
+def main(*names):
+    """Tries the documents that the words name."""
+    is_quick, is_archive = names[:1] == ("--quick",), names[:1] == ("--archive",)
+    documents = Documents(os.path.abspath(f"{names[1]}/bin" if is_archive else "bin"))
+    if is_archive:
+        os.chdir(f"{names[1]}/share/doc/gomod")
+    else:
+        script.need_gomod()
+    names, has_sources = () if is_archive else names[is_quick:], os.path.isdir("crates")
+    for name in names or ["README.md", "CHANGELOG.md", *sorted(glob.glob("docs/**/*.md", recursive=True))]:
+        text = read(name)
+        documents.run_examples(name, blanked(SECTION, text))
+        documents.follow_links(name, text)
+        if re.fullmatch(PASTED, name):
+            documents.find_comments(name, text)
+        if os.path.basename(name) == "LIBRARY.md" and has_sources:
+            documents.compare_code(name, text)
+            if not is_quick:
+                wrong = problem_of(text)
+                documents.tally.tell("programs", not wrong, f"{name}: the whole program: {wrong}")
+    if not names and has_sources:
+        documents.run_on_stranger()
+    status = documents.tally.status()
+    for tools, number in sorted(documents.skipped.items()):
+        print(f"skipped, for want of {tools}: {number} examples")
+    return status
+
+
+if __name__ == "__main__":
+    script.run(main, r"( --archive \S+|( --quick)?( (?!-)\S+)*)")
