@@ -1,5 +1,5 @@
-"""Checks what no contract says of a body, for tools/check/documents.py: that it reaches the system as it should, and makes up
-no want of memory.
+"""Checks what no contract says of a body, for tools/check/documents.py: that it reaches the system as it should, and
+makes up no want of memory.
 
 What a function does with real files, words and streams is in no clause, and a body that answers "no memory" meets any
 contract. So each function of the libraries and of the program has a row in tools/check/bodies.txt if it

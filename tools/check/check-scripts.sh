@@ -187,7 +187,8 @@ tools/release/release.sh
   RT_JOBS=2 ends "1:*1 passed, 0 failed" .ci/run
 }
 
-# Compares how .ci/run --quick ends if tools/release/unproved.sh and tools/try/readme.py have these lines, with these names.
+# Compares how .ci/run --quick ends if tools/release/unproved.sh and tools/try/readme.py have these lines, with these
+# names.
 quick() {
   local before
   lay top/tools/release/unproved.sh "$2"
@@ -269,7 +270,8 @@ check_refused_memory() {
   CC=no-cc refuse_memory "" "1:refuse-memory: there is no command no-cc*" ""
 }
 
-# Compares how tools/try/program.sh ends where tools/try/program.py prints this line and ends with this status, and its record.
+# Compares how tools/try/program.sh ends where tools/try/program.py prints this line and ends with this status, and its
+# record.
 program() {
   printf 'import sys\nprint("%s")\nsys.exit(%d)\n' "$1" "$2" > "$TOP/tools/try/program.py"
   ends "$2:$1" tools/try/program.sh "${@:4}"

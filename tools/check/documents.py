@@ -18,10 +18,10 @@ facts have a comment below them, `<!-- read beside OTHERS: CHECKSUM -->`: if the
 again, and write the checksum that is printed. Types derive no Hash, and Debug if they are errors or docs/lib/LIBRARY.md
 names them.
 
-If a sentence on what is proved, or what its law states, isn't the one of its checksum (tools/check/sentences.py), both are
-printed. Who changes one compares them before --accept. Then come the lines that cases print (tools/check/messages.py), names
-of options (tools/check/names.py), what no contract says of a body (tools/check/bodies.py), and whether each edit that must fail
-names its clause, has a twin, and changes src/ alone.
+If a sentence on what is proved, or what its law states, isn't the one of its checksum (tools/check/sentences.py), both
+are printed. Who changes one compares them before --accept. Then come the lines that cases print
+(tools/check/messages.py), names of options (tools/check/names.py), what no contract says of a body
+(tools/check/bodies.py), and whether each edit that must fail names its clause, has a twin, and changes src/ alone.
 
 It needs git and python3, but no program. In a clone without its whole history no commits are looked for. The status is
 1 if something is wrong.

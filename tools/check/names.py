@@ -1,6 +1,6 @@
-"""Checks that each option and each operation is named once, for tools/check/documents.py: as a string in one file of src/ and
-in one of specs/, over all crates. A string is a name with or without its dashes or its `=`; longer texts, such as help,
-aren't looked at, but for help's list of operations, which has those that there are.
+"""Checks that each option and each operation is named once, for tools/check/documents.py: as a string in one file of
+src/ and in one of specs/, over all crates. A string is a name with or without its dashes or its `=`; longer texts, such
+as help, aren't looked at, but for help's list of operations, which has those that there are.
 
 Each row of the tables of hints (src/hints.rt of gomod_hints) has a command in tips.txt or words.txt: with one of its
 names, or with any word for a form (`*.mod`), and with its text as the tip. Each command of gomod that a tip shows, up

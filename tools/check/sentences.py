@@ -1,11 +1,12 @@
-"""Keeps sentences of README.md and docs/proof/PROVED.md bound to the laws that state them, for tools/check/documents.py.
+"""Keeps sentences of README.md and docs/proof/PROVED.md bound to the laws that state them, for
+tools/check/documents.py.
 
 Beside a sentence that names a law, in PROVED.md's "What you can rely on", and beside those of its "The main promise",
 stands a comment: the laws' names, a checksum of the sentence and one of what the laws state. For README.md's "What is
-verified" tools/check/readme_sentences.txt has the same, a line for each sentence. A law states the clauses of its function,
-and all definitions in specs/ of any crate that these reach (tools/check/sources.py), each with its file. Comments of sources
-and blanks don't count. If a definition isn't as it was when the checksums were written, which git tells, the check
-names it.
+verified" tools/check/readme_sentences.txt has the same, a line for each sentence. A law states the clauses of its
+function, and all definitions in specs/ of any crate that these reach (tools/check/sources.py), each with its file.
+Comments of sources and blanks don't count. If a definition isn't as it was when the checksums were written, which git
+tells, the check names it.
 """
 import collections
 import dataclasses

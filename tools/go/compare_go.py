@@ -18,8 +18,8 @@ network, with all that it writes in a scratch folder. If go updates the main fil
 
 It prints the version of go, each difference that docs/use/GO.md does not name in full, with the number of its world,
 and for each command how many results were the same, refused by both, or differ in a way that has a row in the table of
-docs/use/GO.md (tools/go/go_differences.py), which is called by its first words; a result can differ in several. The status
-is 1 if there is a difference without a name.
+docs/use/GO.md (tools/go/go_differences.py), which is called by its first words; a result can differ in several. The
+status is 1 if there is a difference without a name.
 
 --rows asks both in worlds made by hand. The status is 1 unless each row of the table has a world, each world has a
 difference of its row and of no other, and both programs say what tools/go/go_rows.py has of them.

@@ -1,4 +1,5 @@
-"""What differs between go and gomod, for tools/go/compare_go.py: each command in one world, and the rows of docs/use/GO.md
+"""What differs between go and gomod, for tools/go/compare_go.py: each command in one world, and the rows of
+docs/use/GO.md
 that a difference has."""
 import collections
 import functools

@@ -1,5 +1,6 @@
-"""Texts with one odd character, word or line for tools/go/compare_go.py, each from its number alone, and a reader of them
-that is go or gomod, but for one row of docs/use/GO.md, in which it may be the other. A text shows a row if go and gomod
+"""Texts with one odd character, word or line for tools/go/compare_go.py, each from its number alone, and a reader of
+them that is go or gomod, but for one row of docs/use/GO.md, in which it may be the other. A text shows a row if go and
+gomod
 read it differently, and one of them another way with that row."""
 import collections
 import random

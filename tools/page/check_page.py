@@ -6,8 +6,8 @@ exit status.
     tools/page/check_page.py --program FILE .. the same with another program
 
 A world is made from its number alone; in nearly half of them each module's file is there and right, so that no fault
-hides the list. tools/page/evaluate.py computes by the definitions which files are needed and which outcomes there may be;
-what the files say is known, since they are written from that.
+hides the list. tools/page/evaluate.py computes by the definitions which files are needed and which outcomes there may
+be; what the files say is known, since they are written from that.
 
 It prints each world in which the program and the definitions differ, and a line with the counts. The status is 1 if
 there is one. It needs bin/gomod (./build makes it) and python3. A world takes some 0.4 s of CPU time.

@@ -16,8 +16,9 @@ An edit, crates/NAME/must-fail/EDIT.edit, has lines that the merge gate passes o
 
 For each edit it prints a line: `refused`, `other` with the goals where it was refused instead, or `PROVED`; and for its
 twin `twin proved` or `twin REFUSED`. The status is 1 if an edit was not refused at its clause, or its twin was not
-proved. A goal whose answer only names what the edit took away does not count. tools/check/documents.py looks that each edit
-names a clause, has a twin, and changes src/ alone: one that takes answers out of proofs/ may be refused for that alone.
+proved. A goal whose answer only names what the edit took away does not count. tools/check/documents.py looks that each
+edit names a clause, has a twin, and changes src/ alone: one that takes answers out of proofs/ may be refused for that
+alone.
 
 It needs rt and python3, and the crates as ./build or `rt all check` leaves them (the libraries below a crate are enough
 for `--only`), and takes about half a minute a check.

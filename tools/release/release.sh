@@ -8,13 +8,13 @@
 #   tools/release/release.sh --check --unproved  the same with a program that tools/release/unproved.sh made
 #
 # Into FOLDER it writes gomod-VERSION-x86_64-linux.tar.gz and beside it a file with its sha256. The archive has one
-# folder with bin/ and share/; share/doc/gomod/ has the documents and examples, as tools/release/release.py adapts them, and
-# RELEASE.txt: version, commit, the gate's last line, the records below, what the program needs and its sha256. The same
-# files give the same archive.
+# folder with bin/ and share/; share/doc/gomod/ has the documents and examples, as tools/release/release.py adapts them,
+# and RELEASE.txt: version, commit, the gate's last line, the records below, what the program needs and its sha256. The
+# same files give the same archive.
 #
 # It unpacks what it made, and refuses an archive with a dangling link, an example that prints something else
-# (tools/try/readme.py) or another glibc in its documents than the program needs; without --unproved, also a program whose
-# version doesn't say that it is proved. Unless --check is given, it refuses a version that isn't the first one in
+# (tools/try/readme.py) or another glibc in its documents than the program needs; without --unproved, also a program
+# whose version doesn't say that it is proved. Unless --check is given, it refuses a version that isn't the first one in
 # CHANGELOG.md with its day, or whose tag (as v1.2.0) is at another commit, a program that isn't the one that the last
 # proof left, a gate that failed or ran with another program, changes that aren't committed, and a program without one
 # of the records that are listed below, files of bin/.

@@ -4,9 +4,10 @@
 #   tools/try/cases.sh              as both compilers built it for the merge gate, in crates/run_cases/out
 #   tools/try/cases.sh PROGRAM..    these executables
 #   tools/try/cases.sh --quick PROGRAM..
-#                               these, which tools/release/unproved.sh --both made, on the cases of the gate and the wrong ones;
-#                               where a case has the version of a proved program, it wants the marked one, and so many
-#                               runs fewer as that has bytes fewer: run_cases cuts each output after each byte
+#                               these, which tools/release/unproved.sh --both made, on the cases of the gate and the
+#                               wrong ones; where a case has the version of a proved program, it wants the marked one,
+#                               and so many runs fewer as that has bytes fewer: run_cases cuts each output after each
+#                               byte
 #   tools/try/cases.sh --checked    before a release: all cases, with a program that has Rattle's checks and the address
 #                               sanitizer, which it compiles (tools/release/unproved.sh --checked)
 #

@@ -120,7 +120,8 @@ def spread():
 
 
 def lists_of_one_tag(count, base):
-    """So many lists of eight of the numbers from `base` on whose tag is 0, as `tag_of` of gm_graph_cache makes it. Six are
+    """So many lists of eight of the numbers from `base` on whose tag is 0, as `tag_of` of gm_graph_cache makes it. Six
+    are
     chosen; the last two must cancel what these leave, and are looked up by their exclusive or."""
     factor = spread()
     inverse = pow(factor, -1, 1 << 32)

@@ -15,14 +15,15 @@ A file has the mistakes of its crate, with a blank line between them:
     new: TEXT              what takes its place; without `old:` it goes to the begin of that function's body
     passes: WHY            the case passes today
 
-All bodies stand in one program, which isn't proved (tools/release/unproved.sh --both). A changed function does what the wrong
-body does if a number in the program is that of the mistake, so a body may change nothing but what functions do. A case
-is run by run_cases and, if it passes there, by tools/try/program.sh. It fails, too, if a signal ends it, 100 seconds of CPU
-time, or a wait as long in which no CPU is used.
+All bodies stand in one program, which isn't proved (tools/release/unproved.sh --both). A changed function does what the
+wrong body does if a number in the program is that of the mistake, so a body may change nothing but what functions do. A
+case is run by run_cases and, if it passes there, by tools/try/program.sh. It fails, too, if a signal ends it, 100
+seconds of CPU time, or a wait as long in which no CPU is used.
 
 It prints each body on which its case passes, or which isn't needed for it to fail, and each whose text isn't in the
 sources: these are told, and not dropped. The status is 1 if there is one that has no `passes:`. It needs what
-tools/release/unproved.sh needs, and git; it takes two to three CPU minutes to compile, and about as long to run the cases.
+tools/release/unproved.sh needs, and git; it takes two to three CPU minutes to compile, and about as long to run the
+cases.
 """
 
 import concurrent.futures

@@ -23,13 +23,13 @@
 # that it needs takes no byte, the status must be 3, and the other one empty.
 #
 # Then all cases run once more in the other world, where strace, if it may look at processes, shows what a command opens
-# and calls (tools/try/opened.py). If it doesn't, the last line says so. If tools/try/refuse-memory.sh sets REFUSE_MEMORY, each
-# command runs again with each of its allocations refused, and there is no other world.
+# and calls (tools/try/opened.py). If it doesn't, the last line says so. If tools/try/refuse-memory.sh sets
+# REFUSE_MEMORY, each command runs again with each of its allocations refused, and there is no other world.
 #
-# Without arguments it removes bin/opened.txt, and if all pass and strace is there makes it anew for tools/release/release.sh:
-# the number of commands, the day and the commit, and the sha256 of bin/gomod. It does neither without git, or in a bin/
-# that it may not write. It needs bin/gomod (./build makes it) and python3, and prints each difference and how many
-# cases passed and failed. The status is 1 if one failed.
+# Without arguments it removes bin/opened.txt, and if all pass and strace is there makes it anew for
+# tools/release/release.sh: the number of commands, the day and the commit, and the sha256 of bin/gomod. It does neither
+# without git, or in a bin/ that it may not write. It needs bin/gomod (./build makes it) and python3, and prints each
+# difference and how many cases passed and failed. The status is 1 if one failed.
 set -euo pipefail
 cd "$(dirname "$0")/../.."
 # shellcheck source=tools/lib.sh

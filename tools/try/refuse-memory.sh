@@ -16,8 +16,9 @@
 # --check refuses each allocation of the cases alone and then together with all later ones, until a run meets no
 # refusal. In each run before that one the output has to be empty, the report `gomod: no memory` and the status 3.
 #
-# Without arguments it removes bin/refused.txt, and if nothing goes wrong makes it anew for tools/release/release.sh: the number
-# of runs, the day and the commit, and the sha256 of bin/gomod. The number and the commit are written into PROVED.md.
+# Without arguments it removes bin/refused.txt, and if nothing goes wrong makes it anew for tools/release/release.sh:
+# the number of runs, the day and the commit, and the sha256 of bin/gomod. The number and the commit are written into
+# PROVED.md.
 #
 # It needs a C compiler (`cc`, or what CC names), bin/gomod (./build makes it) and python3 for the cases, run_cases for
 # the calls (`rt ci` leaves it in out/), and `rt` for a crate whose tests are not built: `rt test` leaves them in

@@ -1,4 +1,4 @@
--- A copy from crates/gm_graph_select/specs/BuildList.antt, which tools/headline.py writes.
+-- A copy from crates/gm_graph_select/specs/BuildList.antt, which tools/check/headline.py writes.
 use Rattle.std.specs.Prelude.{◌≡◌, ◌≢◌, ◌↔◌, ℕ, false, List, ◌∷◌, ◌++◌, map, Option, None, Contains}
 use Rattle.std.specs.declared.cmp.Ordering.{Ordering}
 use Rattle.std.specs.Ordering.{is_gt, nat_cmp}

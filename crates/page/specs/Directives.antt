@@ -1,4 +1,4 @@
--- A copy from crates/gm_file/specs/Directives.antt, which tools/headline.py writes.
+-- A copy from crates/gm_file/specs/Directives.antt, which tools/check/headline.py writes.
 use Rattle.std.specs.Prelude.{ℕ, List, Option, Some, None}
 
 -- how a file is read: strictly, as the main file, or laxly, as a dependency's

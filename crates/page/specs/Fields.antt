@@ -1,4 +1,4 @@
--- A copy from crates/gm_file/specs/Fields.antt, which tools/headline.py writes.
+-- A copy from crates/gm_file/specs/Fields.antt, which tools/check/headline.py writes.
 use Rattle.std.specs.Prelude.{ℕ, List, find, Option}
 use Rattle.std.specs.Option.{option_map, option_or}
 use Rattle.page.specs.ModuleVersion.{ModuleVersion}

@@ -1,4 +1,4 @@
--- A copy from crates/gm_graph_select/specs/Graph.antt, which tools/headline.py writes.
+-- A copy from crates/gm_graph_select/specs/Graph.antt, which tools/check/headline.py writes.
 use Rattle.page.specs.ModuleVersion.{ModuleVersion}
 use Rattle.page.specs.Types.{Step}
 

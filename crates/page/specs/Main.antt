@@ -1,4 +1,4 @@
--- A copy from crates/gm_file/specs/Main.antt, which tools/headline.py writes.
+-- A copy from crates/gm_file/specs/Main.antt, which tools/check/headline.py writes.
 use Rattle.std.specs.Prelude.{ℕ, ◌==◌, ◌&&◌, ◌||◌, not, nat_lt, nat_le, Bool, List, filter, Option}
 use Rattle.std.specs.List.{list_any}
 use Rattle.page.specs.ModuleVersion.{ModuleVersion, pair_eq}

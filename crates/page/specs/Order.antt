@@ -1,4 +1,4 @@
--- A copy from crates/gm_graph_select/specs/Order.antt, which tools/headline.py writes.
+-- A copy from crates/gm_graph_select/specs/Order.antt, which tools/check/headline.py writes.
 use Rattle.std.specs.Prelude.{◌≡◌, List, AllPairs}
 use Rattle.std.specs.declared.cmp.Ordering.{Ordering}
 use Rattle.std.specs.declared.cmp.Ordering.TheVariants.{Less}

@@ -1,4 +1,4 @@
--- A copy from crates/gm_name/specs/Path.antt, which tools/headline.py writes.
+-- A copy from crates/gm_name/specs/Path.antt, which tools/check/headline.py writes.
 use Rattle.std.specs.Prelude.{ℕ, ◌==◌, ◌||◌, Bool, List, ◌&&◌, not, slice_index}
 use Rattle.std.specs.Char.{is_ascii_digit, is_ascii_lowercase}
 use Rattle.std.specs.List.{before_first, list_all, list_any}

@@ -1,4 +1,4 @@
--- A copy from crates/gm_graph/specs/Run.antt, which tools/headline.py writes.
+-- A copy from crates/gm_graph/specs/Run.antt, which tools/check/headline.py writes.
 use Rattle.std.specs.Prelude.{◌≡◌, ◌↔◌, ◌⊎◌, ◌<◌, ◌≤◌, true, false, List, length, AllPairs, Contains, None, Ok, Err, Result, Some}
 use Rattle.std.specs.List.{IsDistinct}
 use Rattle.std.specs.declared.cmp.Ordering.TheVariants.{Less}

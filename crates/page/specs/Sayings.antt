@@ -1,4 +1,4 @@
--- A copy from crates/gm_graph_cache/specs/Sayings.antt, which tools/headline.py writes.
+-- A copy from crates/gm_graph_cache/specs/Sayings.antt, which tools/check/headline.py writes.
 use Rattle.std.specs.Prelude.{◌≡◌, true, false, List, Contains, Option, Some, Result, Ok, Err}
 use Rattle.page.specs.ModuleVersion.{ModuleVersion}
 use Rattle.page.specs.Fields.{Dependency}

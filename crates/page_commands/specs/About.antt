@@ -1,4 +1,4 @@
--- A copy from crates/gm_file_edit/specs/About.antt, which tools/headline.py writes.
+-- A copy from crates/gm_file_edit/specs/About.antt, which tools/check/headline.py writes.
 use Rattle.std.specs.Prelude.{ℕ, ◌&&◌, Bool, false, List, Option, Some, None}
 use Rattle.std.specs.Str.{bytes_eq}
 use Rattle.page_commands.specs.ModuleVersion.{ModuleVersion, pair_eq}

@@ -1,4 +1,4 @@
--- A copy from crates/gm_graph_select/specs/BuildList.antt, which tools/headline.py writes.
+-- A copy from crates/gm_graph_select/specs/BuildList.antt, which tools/check/headline.py writes.
 use Rattle.std.specs.Prelude.{◌≡◌, ◌≢◌, ℕ, List, ◌∷◌, ◌++◌, Option, Contains}
 use Rattle.page_commands.specs.Types.Step.{Step, Main, Of}
 

@@ -1,4 +1,4 @@
--- A copy from crates/gm_graph_select/specs/Chains.antt, which tools/headline.py writes.
+-- A copy from crates/gm_graph_select/specs/Chains.antt, which tools/check/headline.py writes.
 use Rattle.std.specs.Prelude.{◌≡◌, ℕ, zero, suc, ◌≤◌, false, List, [], ◌∷◌, ◌++◌}
 use Rattle.std.specs.Ordering.{is_lt}
 use Rattle.page_commands.specs.ModuleVersion.{ModuleVersion}

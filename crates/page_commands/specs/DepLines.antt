@@ -1,4 +1,4 @@
--- A copy from crates/gm_file/specs/DepLines.antt, which tools/headline.py writes.
+-- A copy from crates/gm_file/specs/DepLines.antt, which tools/check/headline.py writes.
 use Rattle.std.specs.Prelude.{◌≡◌, ℕ, List, None, Ok}
 use Rattle.page_commands.specs.Tokens.{Placed}
 use Rattle.page_commands.specs.Document.{Line}

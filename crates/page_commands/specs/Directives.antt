@@ -1,4 +1,4 @@
--- A copy from crates/gm_file/specs/Directives.antt, which tools/headline.py writes.
+-- A copy from crates/gm_file/specs/Directives.antt, which tools/check/headline.py writes.
 use Rattle.std.specs.Prelude.{ℕ, ◌&&◌, ◌||◌, if◌then◌else◌, Bool, true, false, List, [], ◌∷◌, codes, Option, Some, None, option_and_then}
 use Rattle.std.specs.Option.{option_map}
 use Rattle.std.specs.List.{after_first, before_first, filter_map}

@@ -1,4 +1,4 @@
--- A copy from crates/gm_syntax/specs/Document.antt, which tools/headline.py writes.
+-- A copy from crates/gm_syntax/specs/Document.antt, which tools/check/headline.py writes.
 use Rattle.std.specs.Prelude.{ℕ, ◌+◌, ◌==◌, ◌&&◌, Bool, true, false, List, [], ◌∷◌, map, Option, Some, None, Result, Ok, Err, if◌then◌else◌}
 use Rattle.page_commands.specs.Types.SyntaxKind.{SyntaxKind, StrayClose, NestedOpen}
 use Rattle.page_commands.specs.Types.Kind.{Kind, Bare, Text, Mark}

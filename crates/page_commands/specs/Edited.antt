@@ -1,4 +1,4 @@
--- A copy from crates/gm_file_edit/specs/Edited.antt, which tools/headline.py writes.
+-- A copy from crates/gm_file_edit/specs/Edited.antt, which tools/check/headline.py writes.
 use Rattle.std.specs.Prelude.{ℕ, ◌&&◌, not, if◌then◌else◌, Bool, List, [], ◌∷◌, ◌++◌, codes, Option, Some, None, is_some}
 use Rattle.page_commands.specs.Tokens.{Placed}
 use Rattle.page_commands.specs.Document.{Line, Blank, Close}

@@ -1,4 +1,4 @@
--- A copy from crates/gm_file_edit/specs/Edits.antt, which tools/headline.py writes.
+-- A copy from crates/gm_file_edit/specs/Edits.antt, which tools/check/headline.py writes.
 use Rattle.std.specs.Prelude.{ℕ, ◌-◌, ◌==◌, ◌&&◌, ◌||◌, nat_lt, if◌then◌else◌, Bool, List, length, take, drop, slice_index, Option, Some, None, is_some, take_while, option_and_then}
 use Rattle.std.specs.Option.{option_map}
 use Rattle.std.specs.List.{suffix_len}

@@ -1,4 +1,4 @@
--- A copy from crates/gm_name/specs/Element.antt, which tools/headline.py writes.
+-- A copy from crates/gm_name/specs/Element.antt, which tools/check/headline.py writes.
 use Rattle.std.specs.Prelude.{ℕ, ◌-◌, ◌==◌, ◌&&◌, ◌||◌, not, nat_lt, Bool, List, length, codes, map, slice_index, take}
 use Rattle.std.specs.Char.{is_ascii_alphanumeric, is_ascii_digit, to_ascii_lowercase}
 use Rattle.std.specs.Int.{is_in_range}

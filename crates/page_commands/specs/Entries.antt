@@ -1,4 +1,4 @@
--- A copy from crates/gm_graph/specs/Entries.antt, which tools/headline.py writes.
+-- A copy from crates/gm_graph/specs/Entries.antt, which tools/check/headline.py writes.
 use Rattle.std.specs.Prelude.{Option}
 use Rattle.page_commands.specs.Directives.{Right}
 use Rattle.page_commands.specs.Types.Step.{Step}

@@ -1,4 +1,4 @@
--- A copy from crates/gm_file_edit/specs/Fates.antt, which tools/headline.py writes.
+-- A copy from crates/gm_file_edit/specs/Fates.antt, which tools/check/headline.py writes.
 use Rattle.std.specs.Prelude.{ℕ, ◌&&◌, ◌||◌, if◌then◌else◌, Bool, true, false, List, [], ◌∷◌, Option, Some, None, is_none}
 use Rattle.std.specs.List.{filter_map}
 use Rattle.page_commands.specs.Tokens.{Placed}

@@ -1,4 +1,4 @@
--- A copy from crates/gm_file/specs/Faults.antt, which tools/headline.py writes.
+-- A copy from crates/gm_file/specs/Faults.antt, which tools/check/headline.py writes.
 use Rattle.std.specs.Prelude.{ℕ, ◌+◌, ◌==◌, ◌&&◌, ◌||◌, not, nat_lt, if◌then◌else◌, Bool, true, false, List, [], ◌∷◌, ◌++◌, map, find, length, Option, Some, None, is_some}
 use Rattle.std.specs.Option.{option_or}
 use Rattle.std.specs.List.{filter_map, flat_map, list_all, list_any}

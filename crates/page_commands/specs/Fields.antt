@@ -1,4 +1,4 @@
--- A copy from crates/gm_file/specs/Fields.antt, which tools/headline.py writes.
+-- A copy from crates/gm_file/specs/Fields.antt, which tools/check/headline.py writes.
 use Rattle.std.specs.Prelude.{ℕ, ◌==◌, if◌then◌else◌, List, [], ◌∷◌, length, Option, Some, None, unwrap_or, option_and_then}
 use Rattle.std.specs.List.{filter_map}
 use Rattle.page_commands.specs.ModuleVersion.{ModuleVersion}

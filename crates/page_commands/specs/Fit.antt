@@ -1,4 +1,4 @@
--- A copy from crates/gm_name/specs/Fit.antt, which tools/headline.py writes.
+-- A copy from crates/gm_name/specs/Fit.antt, which tools/check/headline.py writes.
 use Rattle.std.specs.Prelude.{◌≡◌, ℕ, ◌<◌, ◌≤◌, ◌⊎◌, List, [], ◌++◌, codes}
 use Rattle.page_commands.specs.Path.{HasMajor}
 use Rattle.page_commands.specs.Version.{parts_in}

@@ -1,4 +1,4 @@
--- A copy from crates/gm_file/specs/Values.antt, which tools/headline.py writes.
+-- A copy from crates/gm_file/specs/Values.antt, which tools/check/headline.py writes.
 use Rattle.std.specs.Prelude.{ℕ, ◌||◌, nat_eq, Bool, List, codes, Option, Some, None}
 use Rattle.std.specs.List.{starts_with}
 use Rattle.std.specs.Str.{bytes_eq}

@@ -1,4 +1,4 @@
--- A copy from crates/gm_name/specs/Lines.antt, which tools/headline.py writes.
+-- A copy from crates/gm_name/specs/Lines.antt, which tools/check/headline.py writes.
 use Rattle.std.specs.Prelude.{ℕ, ◌==◌, ◌||◌, nat_lt, Bool, List, drop, length}
 use Rattle.std.specs.List.{before_first, filter, prefix_len, slice_split}
 

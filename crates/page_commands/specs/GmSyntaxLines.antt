@@ -1,4 +1,4 @@
--- A copy from crates/gm_syntax/specs/Lines.antt, which tools/headline.py writes.
+-- A copy from crates/gm_syntax/specs/Lines.antt, which tools/check/headline.py writes.
 use Rattle.std.specs.Prelude.{ℕ, ◌==◌, List, [], ◌∷◌, if◌then◌else◌}
 
 abbrev pub put_first : ℕ → List (List ℕ) → List (List ℕ)

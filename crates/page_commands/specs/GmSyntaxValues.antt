@@ -1,4 +1,4 @@
--- A copy from crates/gm_syntax/specs/Values.antt, which tools/headline.py writes.
+-- A copy from crates/gm_syntax/specs/Values.antt, which tools/check/headline.py writes.
 use Rattle.std.specs.Prelude.{ℕ, ◌-◌, ◌==◌, if◌then◌else◌, List, [], ◌∷◌, length, take}
 use Rattle.page_commands.specs.Types.Kind.{Kind, Bare, Text, Mark}
 

@@ -1,4 +1,4 @@
--- A copy from crates/gm_file/specs/GoVersions.antt, which tools/headline.py writes.
+-- A copy from crates/gm_file/specs/GoVersions.antt, which tools/check/headline.py writes.
 use Rattle.std.specs.Prelude.{ℕ, ◌==◌, ◌&&◌, ◌||◌, nat_lt, if◌then◌else◌, Bool, List, length, drop, slice_index, Option, Some, None, is_some, take_while}
 use Rattle.std.specs.Char.{is_ascii_digit, is_ascii_lowercase}
 use Rattle.std.specs.List.{after_first, before_first, list_all, list_any}

@@ -1,4 +1,4 @@
--- A copy from crates/gm_store_sums/specs/Hash.antt, which tools/headline.py writes.
+-- A copy from crates/gm_store_sums/specs/Hash.antt, which tools/check/headline.py writes.
 use Rattle.std.specs.Prelude.{ℕ, List, ◌++◌, codes}
 use Rattle.page_commands.specs.Types.{sha256, encode_lower, encode_of, standard}
 

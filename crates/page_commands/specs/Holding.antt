@@ -1,4 +1,4 @@
--- A copy from crates/gm_file_edit/specs/Holding.antt, which tools/headline.py writes.
+-- A copy from crates/gm_file_edit/specs/Holding.antt, which tools/check/headline.py writes.
 use Rattle.std.specs.Prelude.{◌||◌, Bool, false, List, [], ◌∷◌, Option, Some, None}
 use Rattle.std.specs.Option.{option_map}
 use Rattle.page_commands.specs.Tokens.{Placed}

@@ -1,4 +1,4 @@
--- A copy from crates/gm_file_edit/specs/Kinds.antt, which tools/headline.py writes.
+-- A copy from crates/gm_file_edit/specs/Kinds.antt, which tools/check/headline.py writes.
 use Rattle.std.specs.Prelude.{Bool, true}
 use Rattle.page_commands.specs.Names.{does_fit}
 use Rattle.page_commands.specs.Faults.{does_left_fit}

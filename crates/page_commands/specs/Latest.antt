@@ -1,4 +1,4 @@
--- A copy from crates/gm_store/specs/Latest.antt, which tools/headline.py writes.
+-- A copy from crates/gm_store/specs/Latest.antt, which tools/check/headline.py writes.
 use Rattle.std.specs.Prelude.{◌≡◌, ◌⊎◌, ℕ, ◌==◌, ◌||◌, not, Bool, true, false, List, length, Contains}
 use Rattle.std.specs.Ordering.{is_gt}
 use Rattle.page_commands.specs.Version.{parts_in, version_cmp}

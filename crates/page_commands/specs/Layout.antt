@@ -1,4 +1,4 @@
--- A copy from crates/gm_syntax/specs/Layout.antt, which tools/headline.py writes.
+-- A copy from crates/gm_syntax/specs/Layout.antt, which tools/check/headline.py writes.
 use Rattle.std.specs.Prelude.{ℕ, Bool, true, false, not, ◌&&◌, ◌||◌, List, [], ◌∷◌, ◌++◌, Option, Some, None, if◌then◌else◌}
 use Rattle.page_commands.specs.Words.{Word}
 use Rattle.page_commands.specs.Document.{Line, Blank, Comment, Open, Close, Entry, is_mark, inside_after}

@@ -1,4 +1,4 @@
--- A copy from crates/gm_syntax/specs/LineViews.antt, which tools/headline.py writes.
+-- A copy from crates/gm_syntax/specs/LineViews.antt, which tools/check/headline.py writes.
 use Rattle.std.specs.Prelude.{List, map}
 use Rattle.page_commands.specs.Words.{Word}
 use Rattle.page_commands.specs.Tokens.{Placed}

@@ -1,4 +1,4 @@
--- A copy from crates/gm_store/specs/Listed.antt, which tools/headline.py writes.
+-- A copy from crates/gm_store/specs/Listed.antt, which tools/check/headline.py writes.
 use Rattle.std.specs.Prelude.{◌↔◌, ℕ, List, map, Contains}
 use Rattle.std.specs.List.Sorted.{IsStrictlySortedBy}
 use Rattle.page_commands.specs.Fit.{Fits}

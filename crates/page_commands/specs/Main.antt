@@ -1,4 +1,4 @@
--- A copy from crates/gm_file/specs/Main.antt, which tools/headline.py writes.
+-- A copy from crates/gm_file/specs/Main.antt, which tools/check/headline.py writes.
 use Rattle.std.specs.Prelude.{◌≡◌, ℕ, List, None, Ok}
 use Rattle.page_commands.specs.ModuleVersion.{ModuleVersion}
 use Rattle.page_commands.specs.Tokens.{Placed}

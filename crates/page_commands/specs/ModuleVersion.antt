@@ -1,4 +1,4 @@
--- A copy from crates/gm_name/specs/ModuleVersion.antt, which tools/headline.py writes.
+-- A copy from crates/gm_name/specs/ModuleVersion.antt, which tools/check/headline.py writes.
 use Rattle.std.proofs.Common.{◌&&◌, ℕ, Bool, List, nat_eq}
 use Rattle.std.specs.Cmp.Lexicographic.{pointwise, slice_cmp}
 use Rattle.std.specs.Ordering.{nat_cmp, ordering_then}

@@ -1,4 +1,4 @@
--- A copy from crates/gm_name/specs/Names.antt, which tools/headline.py writes.
+-- A copy from crates/gm_name/specs/Names.antt, which tools/check/headline.py writes.
 use Rattle.std.specs.Prelude.{ℕ, ◌-◌, ◌^◌, ◌==◌, ◌&&◌, ◌||◌, not, nat_lt, nat_eq, if◌then◌else◌, Bool, false, List, length, take, drop, slice_index, codes, Option, Some, None, Result, Ok, Err, is_some, option_and_then}
 use Rattle.std.specs.Option.{option_map, option_map_or}
 use Rattle.std.specs.Char.{is_ascii_digit}

@@ -1,4 +1,4 @@
--- A copy from crates/gm_name/specs/Number.antt, which tools/headline.py writes.
+-- A copy from crates/gm_name/specs/Number.antt, which tools/check/headline.py writes.
 use Rattle.std.specs.Prelude.{ℕ, Bool, List, length, slice_index, nat_lt, ◌==◌, ◌&&◌, ◌||◌}
 
 -- whether the text is empty, or begins with a plus sign or with a zero before more digits

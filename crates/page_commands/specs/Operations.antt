@@ -1,4 +1,4 @@
--- A copy from crates/gm_operation/specs/Operations.antt, which tools/headline.py writes.
+-- A copy from crates/gm_operation/specs/Operations.antt, which tools/check/headline.py writes.
 use Rattle.std.specs.Prelude.{ℕ, ◌==◌, ◌∷◌, if◌then◌else◌, Bool, List, [], codes, Option, Some, None}
 use Rattle.std.specs.Option.{option_map}
 use Rattle.std.specs.List.{after_first, before_first, find, list_any}

@@ -1,4 +1,4 @@
--- A copy from crates/gm_name/specs/Pseudo.antt, which tools/headline.py writes.
+-- A copy from crates/gm_name/specs/Pseudo.antt, which tools/check/headline.py writes.
 use Rattle.std.specs.Prelude.{◌≡◌, ℕ, ◌<◌, ◌⊎◌, true, List, [], ◌++◌, length, codes}
 use Rattle.std.specs.Char.{is_ascii_alphanumeric, is_ascii_digit}
 use Rattle.std.specs.List.{list_all}

@@ -1,4 +1,4 @@
--- A copy from crates/gm_store/specs/Relative.antt, which tools/headline.py writes.
+-- A copy from crates/gm_store/specs/Relative.antt, which tools/check/headline.py writes.
 use Rattle.std.specs.Prelude.{ℕ, ◌==◌, ◌&&◌, nat_lt, Bool, List, ◌++◌, length, codes, slice_index, ◌-◌, if◌then◌else◌}
 use Rattle.page_commands.specs.Escape.{escaped_text}
 use Rattle.page_commands.specs.Asked.{Name, mod_file, folder_file, list_file}

@@ -1,4 +1,4 @@
--- A copy from crates/gm_file_edit/specs/Renewing.antt, which tools/headline.py writes.
+-- A copy from crates/gm_file_edit/specs/Renewing.antt, which tools/check/headline.py writes.
 use Rattle.std.specs.Prelude.{ℕ, ◌-◌, List, [], ◌∷◌, ◌++◌, length, take, if◌then◌else◌, Option, is_some}
 use Rattle.page_commands.specs.Tokens.{Placed}
 use Rattle.page_commands.specs.Document.{Line, Entry}

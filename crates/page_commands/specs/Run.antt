@@ -1,4 +1,4 @@
--- A copy from crates/gm_graph/specs/Run.antt, which tools/headline.py writes.
+-- A copy from crates/gm_graph/specs/Run.antt, which tools/check/headline.py writes.
 use Rattle.std.specs.Prelude.{◌↔◌, List, Contains}
 use Rattle.page_commands.specs.Types.Edge.{Edge}
 use Rattle.page_commands.specs.Graph.{edge_cmp}

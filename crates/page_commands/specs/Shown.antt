@@ -1,4 +1,4 @@
--- A copy from crates/gm_file/specs/Shown.antt, which tools/headline.py writes.
+-- A copy from crates/gm_file/specs/Shown.antt, which tools/check/headline.py writes.
 use Rattle.std.specs.Prelude.{ℕ, ◌&&◌, not, Bool, List}
 use Rattle.std.specs.List.{filter, list_any}
 use Rattle.std.specs.Ordering.{is_gt}

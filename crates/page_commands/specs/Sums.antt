@@ -1,4 +1,4 @@
--- A copy from crates/gm_store_sums/specs/Sums.antt, which tools/headline.py writes.
+-- A copy from crates/gm_store_sums/specs/Sums.antt, which tools/check/headline.py writes.
 use Rattle.std.specs.Prelude.{◌≡◌, ◌≢◌, ◌<◌, ◌≤◌, ◌+◌, ℕ, ◌&&◌, not, nat_eq, Bool, true, false, List, [], ◌∷◌, ◌++◌, length, map, codes, Contains, if◌then◌else◌}
 use Rattle.std.specs.List.{list_any, position_or_len, starts_with}
 use Rattle.std.specs.Str.{bytes_eq, is_utf8}

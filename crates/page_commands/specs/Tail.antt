@@ -1,4 +1,4 @@
--- A copy from crates/gm_name/specs/Tail.antt, which tools/headline.py writes.
+-- A copy from crates/gm_name/specs/Tail.antt, which tools/check/headline.py writes.
 use Rattle.std.specs.Prelude.{ℕ, ◌-◌, Bool, List, length, take, drop}
 use Rattle.std.specs.List.{suffix_len}
 

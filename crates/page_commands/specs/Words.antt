@@ -1,4 +1,4 @@
--- A copy from crates/gm_syntax/specs/Words.antt, which tools/headline.py writes.
+-- A copy from crates/gm_syntax/specs/Words.antt, which tools/check/headline.py writes.
 use Rattle.std.specs.Prelude.{ℕ, ◌==◌, ◌||◌, List, [], ◌∷◌, if◌then◌else◌}
 use Rattle.std.specs.List.{flat_map}
 use Rattle.page_commands.specs.Types.Kind.{Kind}
