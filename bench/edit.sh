@@ -4,8 +4,8 @@
 # command. The requires are bare words with numbered and with random names, paths in quotes, blocks of one entry, and
 # paths that all have one hash in gomod.
 #
-#   bench/edit.sh            what docs/dev/BENCHMARKS.md has
-#   bench/edit.sh --small    2,000 lines and fewer operations, to see in seconds whether it runs
+#   bench/edit.sh          what docs/dev/BENCHMARKS.md has
+#   bench/edit.sh --small  2,000 lines and fewer operations, to see in seconds whether it runs
 #
 # It needs bin/gomod (./build makes it), python3, a C compiler, and 20 MB for temporary files. It prints for each
 # command, of three runs (one with --small), the fastest: elapsed seconds, CPU seconds, and peak memory. The status is 1

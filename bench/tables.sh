@@ -2,9 +2,9 @@
 # Measures gomod beside a plain program in Rust, the go command, sort and cat, and prints the tables of
 # docs/dev/BENCHMARKS.md.
 #
-#   bench/tables.sh               all tables
-#   bench/tables.sh --write       and writes them into BENCHMARKS.md, README.md and COMMANDS.md, after .ci/run
-#   bench/tables.sh --small       small files, to see in a minute whether it runs
+#   bench/tables.sh          all tables
+#   bench/tables.sh --write  and writes them into BENCHMARKS.md, README.md and COMMANDS.md, after .ci/run
+#   bench/tables.sh --small  small files, to see in a minute whether it runs
 #
 #   --only TABLE,..      some of graphs, versions, fmt, edit, sums, strangers, growth (with --write growth alone)
 #   --go COMMAND         this go, as /usr/lib/go-1.19/bin/go

@@ -50,7 +50,7 @@ program_sources() {
 
 # Prints the checksum of all that an unproved program is made of, but for the toolchain.
 checksum_of_program() {
-  program_sources | sort -z | xargs -0 sha256sum -- tools/release/unproved.sh tools/release/unproved.py | sha256sum | cut -d ' ' -f 1
+  program_sources | sort -z | xargs -0 sha256sum -- tools/release/unproved.{sh,py} | sha256sum | cut -d ' ' -f 1
 }
 
 # Prints the commit that is here, and whether there are changes.

@@ -207,7 +207,8 @@ check_quick() {
     "echo 'skipped, for want of dot: 3 examples'"
   quick "1:*
 wrong
-run: tools/release/unproved.sh --both run_cases failed, *5 checks passed, 1 failed, 8 did not run" 'echo wrong && exit 1' ""
+run: tools/release/unproved.sh --both run_cases failed, *5 checks passed, 1 failed, 8 did not run" \
+    'echo wrong && exit 1' ""
   quick "0:*2 checks passed, 0 failed" "$can" "" documents layout
   ends "2:run: --quick has no check 'x'*" .ci/run --quick x
   make_rt 'echo x >> src/main.rt'

@@ -1,12 +1,13 @@
 #!/usr/bin/env -S python3 -B
 """Checks what the documents name, and all else that files alone show.
 
-    tools/check/documents.py                  README.md, all documents of docs/, PROOFS.md and MISTAKES.md of crates, and what
-                                        is told of below
+    tools/check/documents.py                  README.md, all documents of docs/, PROOFS.md and MISTAKES.md of crates,
+                                              and what is told of below
     tools/check/documents.py FILE..           what these name alone
-    tools/check/documents.py --accept NAME..  writes the checksums anew of the sentences bound to these laws, or to `all`
-    tools/check/documents.py --trusted LOG    whether docs/proof/PROVED.md has the `axioms` lines and the verdict of gomod in
-                                        a log of `rt ci`, or of `rt check` in crates/gomod
+    tools/check/documents.py --accept NAME..  writes the checksums anew of the sentences bound to these laws, or to
+                                              `all`
+    tools/check/documents.py --trusted LOG    whether docs/proof/PROVED.md has the `axioms` lines and the verdict of
+                                              gomod in a log of `rt ci`, or of `rt check` in crates/gomod
     tools/check/documents.py --trust LOG      writes them there
 
 What a document names is a table in docs/dev/DEVELOPING.md ("What a document names"). How long one may be is a table
@@ -77,7 +78,8 @@ ALIKE = (
     (MISTAKES, r"\b[Aa]ll (\d[\d,]*) cases\b", COUNTS, r"(\d+) passed, 0 failed"),
     (MISTAKES, r"\ball (\d[\d,]*) runs\b", COUNTS, r"failed, (\d+) runs"),
     ("docs/use/RECIPES.md", r"curl (\d+\.\d+) or newer", "example/fetch-missing.sh", r"curl \((\d+\.\d+) or newer"),
-    ("docs/proof/PROVED.md", r"calls of the system alone: ([\w, ]+?) \|", "tools/try/opened.py", r"OWN = set\(\"([\w ]+)"),
+    ("docs/proof/PROVED.md", r"calls of the system alone: ([\w, ]+?) \|",
+     "tools/try/opened.py", r"OWN = set\(\"([\w ]+)"),
     ("README.md", r"in (\d+ to \d+) minutes on four cores", "build", r"from nothing this takes (\d+ to \d+) minutes"),
     ("README.md", r"(\d+) GB of disk", "build", r"DISK_MB=(\d+)000"),
     ("README.md", r"(\d+) GB of memory", "build", r"MEMORY_MB=(\d+)000"),

@@ -2,11 +2,11 @@
 """Keeps the pages on what `gomod list` is proved to print, and the crates page and page_commands, in step with the
 definitions and with docs/proof/SPEC.md.
 
-    tools/check/headline.py          writes anew what HEADLINE.md, REPORTS.md and DEFINITIONS.md show of the sources, and
-                               copies of the definitions that `list` needs into crates/page/specs, and of those that
-                               the other commands need into crates/page_commands/specs
+    tools/check/headline.py          writes anew what HEADLINE.md, REPORTS.md and DEFINITIONS.md show of the sources,
+                                     and copies of the definitions that `list` needs into crates/page/specs, and of
+                                     those that the other commands need into crates/page_commands/specs
     tools/check/headline.py --check  changes nothing, and tells which page or copy is out of step, or too long, and what
-                               tools/check/private.py finds wrong; the status is 1 if there is one
+                                     tools/check/private.py finds wrong; the status is 1 if there is one
 
 Between the marks `<!-- show .. -->` and `<!-- end -->` of a page stands what the sources say; the rest is by hand:
 

@@ -2,9 +2,9 @@
 """Checks that definitions which no public contract reaches stand apart, in specs/Private of their crate, so that who
 opens specs/ finds what the promises of a crate mean.
 
-    tools/check/private.py    prints each definition that stands in the wrong folder, each public name that definitions in two
-                        files of specs/ have, and each file of src/ or specs/ that doesn't begin with a comment; the
-                        status is 1 if there is one
+    tools/check/private.py  prints each definition that stands in the wrong folder, each public name that definitions in
+                            two files of specs/ have, and each file of src/ or specs/ that doesn't begin with a comment;
+                            the status is 1 if there is one
 
 Public contracts are those of the public functions in a crate's root or a public module, the laws among them, or that
 one of these exports; of public methods; of what a type implements and a trait declares; and the models of public types.

@@ -143,8 +143,8 @@ def judged(one):
     now = one.now()
     what = " and ".join(it for it, old, new in zip(("the sentence", "its law"), one.sums, now) if old != new)
     more = changed(one) if now[1] != one.sums[1] else ()
-    return now == one.sums, "\n".join([f"{place}: {what} changed; if they say the same, tools/check/documents.py --accept "
-                                       f"{one.laws[0]}:", f"  {one.text}", *more])
+    accept = f"tools/check/documents.py --accept {one.laws[0]}"
+    return now == one.sums, "\n".join([f"{place}: {what} changed; if they say the same, {accept}:", f"  {one.text}", *more])
 
 
 def accept(names):

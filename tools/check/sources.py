@@ -1,7 +1,7 @@
 #!/usr/bin/env -S python3 -B
 """Reads the sources of the crates for other scripts: what a comment, a `use`, a definition and an item of the code is.
 
-    tools/check/sources.py NAME    prints the crates to copy to use a library: those below it and itself, lowest first
+    tools/check/sources.py NAME  prints the crates to copy to use a library: those below it and itself, lowest first
 
     files, crates, with_below    which sources and crates there are
     scope_of, paths_of           what the names mean that a text imports, of definitions and of the code

@@ -1,15 +1,16 @@
 #!/usr/bin/env -S python3 -B
 """Compares bin/gomod with an installed go command on random modules, or on a module cache and a main file of one's own.
 
-    tools/go/compare_go.py [WORLDS [SEED]]     random worlds SEED, SEED + 1, .. (100 from 1)
+    tools/go/compare_go.py [WORLDS [SEED]]         random worlds SEED, SEED + 1, .. (100 from 1)
     tools/go/compare_go.py --cache DIR --mod FILE [EDITS [SEED]]
-                                            a cache/download folder, and a go.mod with random edits (100)
-    tools/go/compare_go.py --rows [ROW]        the worlds of tools/go/go_rows.py, for each row of docs/use/GO.md or this one
-    tools/go/compare_go.py --texts [COUNT [SEED]]
-                                            texts with one odd character, word or line, of tools/go/go_texts.py (2000)
-    tools/go/compare_go.py --go COMMAND ..     with this go, as /usr/lib/go-1.19/bin/go
-    tools/go/compare_go.py --check             the check of this script that .ci/run runs, which needs no go
-    tools/go/compare_go.py --record COMMAND    writes what go answers in that check anew
+                                                   a cache/download folder, and a go.mod with random edits (100)
+    tools/go/compare_go.py --rows [ROW]            the worlds of tools/go/go_rows.py, for each row of docs/use/GO.md or
+                                                   this one
+    tools/go/compare_go.py --texts [COUNT [SEED]]  texts with one odd character, word or line, of tools/go/go_texts.py
+                                                   (2000)
+    tools/go/compare_go.py --go COMMAND ..         with this go, as /usr/lib/go-1.19/bin/go
+    tools/go/compare_go.py --check                 the check of this script that .ci/run runs, which needs no go
+    tools/go/compare_go.py --record COMMAND        writes what go answers in that check anew
 
 First a module that `go mod tidy` and `go mod download` made ready, with packages, is compared; it isn't counted. A
 world (tools/go/go_worlds.py) is made from its number alone. Both programs are asked for list, graph, versions (with and

@@ -1,4 +1,4 @@
-"""Worlds by hand for tools/go/compare_go.py: in each shows a difference that has a row in the table of docs/use/GO.md."""
+"""Worlds by hand for tools/go/compare_go.py: each shows a difference that has a row in the table of docs/use/GO.md."""
 import os
 import typing
 

@@ -1,14 +1,15 @@
 #!/usr/bin/env -S python3 -B
 """Changes a definition that crates/page or page_commands copies, and shows by what outcome of a world it is refused.
 
-    tools/page/change_page.py                  lists the changes, each with its number and its definition, and compares their
-                                          counts with those in docs/proof/HEADLINE.md, and what is said of the worlds,
-                                          and tools/page/evaluate_cases.txt, with what is computed
-    tools/page/change_page.py NUMBER..         tries these
-    tools/page/change_page.py --all            tries all, and compares what refused them with HEADLINE, too
-    tools/page/change_page.py --some SECONDS   tries as many as fit into so many seconds of CPU time, others for each commit
+    tools/page/change_page.py                 lists the changes, each with its number and its definition, and compares
+                                              their counts with those in docs/proof/HEADLINE.md, and what is said of the
+                                              worlds, and tools/page/evaluate_cases.txt, with what is computed
+    tools/page/change_page.py NUMBER..        tries these
+    tools/page/change_page.py --all           tries all, and compares what refused them with HEADLINE, too
+    tools/page/change_page.py --some SECONDS  tries as many as fit into so many seconds of CPU time, others for each
+                                              commit
     tools/page/change_page.py --prove NUMBER.. lets the prover check these, which takes some 15 s of CPU time each
-    tools/page/change_page.py --sample         lets the prover check all equal forms, and thirty others for each commit
+    tools/page/change_page.py --sample        lets the prover check all equal forms, and thirty others for each commit
 
 Changes are made by rule (tools/page/page_rules.py). tools/page/page_changes.txt has those that no rule for all
 definitions makes, each by a rule for one: the definition, what goes and what comes at the first place that fits, and `

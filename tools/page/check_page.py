@@ -2,7 +2,7 @@
 """Compares bin/gomod with the definitions of crates/page on random modules: what `list` prints and reports, and its
 exit status.
 
-    tools/page/check_page.py [WORLDS [SEED]]   worlds SEED, SEED + 1, .. (40, others for each commit)
+    tools/page/check_page.py [WORLDS [SEED]]  worlds SEED, SEED + 1, .. (40, others for each commit)
     tools/page/check_page.py --program FILE .. the same with another program
 
 A world is made from its number alone; in nearly half of them each module's file is there and right, so that no fault

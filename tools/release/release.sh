@@ -3,7 +3,7 @@
 #
 #   tools/release/release.sh FOLDER              after .ci/run, which leaves the gate's last line in bin/gate.txt
 #   tools/release/release.sh FOLDER --gate LINE  after ./build; LINE is the last line of the gate on the same sources
-#                                        elsewhere, 'N passed, 0 failed'
+#                                                elsewhere, 'N passed, 0 failed'
 #   tools/release/release.sh --check             makes the archive of bin/gomod as it is, checks it and removes it
 #   tools/release/release.sh --check --unproved  the same with a program that tools/release/unproved.sh made
 #
@@ -59,7 +59,8 @@ lay_release() {
   local to=$1 documents=$1/share/doc/gomod glibc
   install_files "$to" > /dev/null
   glibc=$(least_glibc bin/gomod) || refuse "bin/gomod names no version of glibc"
-  python3 -B tools/release/release.py "$documents" "Release ${2%% *}, for x86-64 Linux with glibc $glibc or later." "$name"
+  python3 -B tools/release/release.py "$documents" \
+    "Release ${2%% *}, for x86-64 Linux with glibc $glibc or later." "$name"
   {
     echo "gomod $2"
     echo "commit $(git rev-parse HEAD)"

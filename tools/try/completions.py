@@ -17,7 +17,7 @@ import signal
 import tempfile
 import time
 
-from script import read, ticks_of, write
+from script import TOP, read, ticks_of, write
 
 # how long a shell may use no CPU
 SECONDS = 100

@@ -1,8 +1,8 @@
 #!/usr/bin/env -S python3 -B
 """Runs each command of bin/gomod at three sizes, each twice the one before it, and compares what they cost.
 
-    tools/try/doubling.py                   with bin/gomod: what .ci/run runs
-    tools/try/doubling.py --program FILE    with another program
+    tools/try/doubling.py                 with bin/gomod: what .ci/run runs
+    tools/try/doubling.py --program FILE  with another program
 
 tools/try/doubling.py has a row for each kind of input that may grow. Where valgrind is there, the cost is the number of
 instructions, and else CPU time, of inputs that are sixteen times as large. The cost of the last doubling may be at

@@ -1,5 +1,5 @@
-/* Makes calls of a program fail. It is loaded before the C library by tools/try/faults.py and tools/try/refuse-memory.sh, and
-   linked into nothing.
+/* Makes calls of a program fail. It is loaded before the C library by faults.py and refuse-memory.sh, and linked into
+   nothing.
 
    FAULTS has up to eight faults, with blanks between them: CALL:N:LATER:ERROR:LENGTH. CALL is memory (an allocation),
    open, read, write or close. The Nth such call from the start of main fails with the error of that number, and all

@@ -1,9 +1,9 @@
 #!/usr/bin/env -S python3 -B
 """Makes each open, read, write and close of command lines of bin/gomod fail in turn, and then two calls at once.
 
-    tools/try/faults.py                   with 2,000 pairs of faults: what .ci/run runs
-    tools/try/faults.py PAIRS [SEED]      with so many pairs, other ones for another seed (1)
-    tools/try/faults.py --whole [SEED]    before a release: with 20,000, and then over files that others change meanwhile
+    tools/try/faults.py                 with 2,000 pairs of faults: what .ci/run runs
+    tools/try/faults.py PAIRS [SEED]    with so many pairs, other ones for another seed (1)
+    tools/try/faults.py --whole [SEED]  before a release: with 20,000, and then over files that others change meanwhile
     tools/try/faults.py --program FILE .. the same with another program
 
 There are two command lines or more of each command, which read each kind of file that it has. What is right follows

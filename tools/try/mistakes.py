@@ -1,9 +1,11 @@
 #!/usr/bin/env -S python3 -B
 """Shows for each wrong body of crates/run_cases/data/mistakes that its case fails on it.
 
-    tools/try/mistakes.py             before a release: builds all bodies, runs each one's case, and leaves bin/mistakes.txt
-    tools/try/mistakes.py TEXT..      those alone of whose name, crate or cases one of these is a part, and leaves nothing
-    tools/try/mistakes.py --list ..   builds nothing, and prints them: look here before you remove a case
+    tools/try/mistakes.py            before a release: builds all bodies, runs each one's case, and leaves
+                                     bin/mistakes.txt
+    tools/try/mistakes.py TEXT..     those alone of whose name, crate or cases one of these is a part, and leaves
+                                     nothing
+    tools/try/mistakes.py --list ..  builds nothing, and prints them: look here before you remove a case
 
 A file has the mistakes of its crate, with a blank line between them:
 
@@ -180,7 +182,8 @@ def build(work, files):
         subprocess.run(["cp", "-r", "--parents", it, work / "top"], check=True)
     for path, it in files.items():
         write(work / "top" / path, it.whole())
-    subprocess.run([work / "top/tools/release/unproved.sh", "--both", work / "all"], stdin=subprocess.DEVNULL, check=True)
+    compiler = work / "top/tools/release/unproved.sh"
+    subprocess.run([compiler, "--both", work / "all"], stdin=subprocess.DEVNULL, check=True)
     shutil.copytree(CASES, work / "data")
     for path in (work / "data").rglob("*.txt"):
         write(path, re.sub(r"\(Rattle, logic [0-9a-f]{16}\)", "(Rattle, nothing is proved)", read(path)))

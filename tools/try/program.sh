@@ -1,12 +1,13 @@
 #!/usr/bin/env bash
 # Runs bin/gomod itself over the cases of command lines, and compares standard output, standard error and the status.
 #
-#   tools/try/program.sh                      the cases of crates/run_cases/data and its folders sizes and program
-#   tools/try/program.sh FILE.txt.. TITLE..   those of these files, or those whose titles have one of these texts
-#   tools/try/program.sh --unproved ..        the same with a program that tools/release/unproved.sh made: where a case has the
-#                                         version of a proved one, what it prints has to say that nothing is proved
-#   tools/try/program.sh --this ..            the same in this world alone
-#   tools/try/program.sh --other ..           the same in the other one alone
+#   tools/try/program.sh                     the cases of crates/run_cases/data and its folders sizes and program
+#   tools/try/program.sh FILE.txt.. TITLE..  those of these files, or those whose titles have one of these texts
+#   tools/try/program.sh --unproved ..       the same with a program that tools/release/unproved.sh made: where a case
+#                                            has the version of a proved one, what it prints has to say that nothing is
+#                                            proved
+#   tools/try/program.sh --this ..           the same in this world alone
+#   tools/try/program.sh --other ..          the same in the other one alone
 #
 # What this adds to the merge gate, which runs the same cases inside a process, is standard error and the whole way from
 # the words to the system. Calls, cases with a file at the root of the system, and those of files without permission for

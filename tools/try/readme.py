@@ -1,10 +1,10 @@
 #!/usr/bin/env -S python3 -B
 """Runs each example of README.md and of the documents, and compares what it prints byte for byte.
 
-    tools/try/readme.py                     README.md, CHANGELOG.md and all documents of docs/
-    tools/try/readme.py FILE..              these
-    tools/try/readme.py --quick [FILE..]    the same without compiling the program of docs/lib/LIBRARY.md
-    tools/try/readme.py --archive FOLDER    the documents of a release that was unpacked into FOLDER, with its program
+    tools/try/readme.py                   README.md, CHANGELOG.md and all documents of docs/
+    tools/try/readme.py FILE..            these
+    tools/try/readme.py --quick [FILE..]  the same without compiling the program of docs/lib/LIBRARY.md
+    tools/try/readme.py --archive FOLDER  the documents of a release that was unpacked into FOLDER, with its program
 
 An example is a block of lines that are indented by four spaces, the first of which begins `$ `: each such line is a
 command of a shell, and the lines up to the next one are what it prints, on both streams. All blocks of a document run

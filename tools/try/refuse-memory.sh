@@ -2,8 +2,9 @@
 # Refuses each allocation of each command of the cases and of each test in turn, and lists what goes wrong then.
 #
 #   tools/try/refuse-memory.sh                     all below: before a release
-#   tools/try/refuse-memory.sh --check             the cases that are listed below, the calls of tools/try/refused_calls.txt and
-#                                              the tests but those of reports: what .ci/run runs
+#   tools/try/refuse-memory.sh --check             the cases that are listed below, the calls of
+#                                                  tools/try/refused_calls.txt and the tests but those of reports: what
+#                                                  .ci/run runs
 #   tools/try/refuse-memory.sh --cases             all cases but the large ones
 #   tools/try/refuse-memory.sh --cases FILE.txt..  the cases of these files, but the large ones
 #   tools/try/refuse-memory.sh --cases TITLE..     the cases whose titles have one of these texts
