@@ -601,7 +601,7 @@ class Page:
         main, table, name = self.of("Files", "main_in", run.part("file")), Unknown(), Unknown("Name")
         are_sums = self.of("Types", "AreSums", run.part("sums"), table)
         for sums in self.found([are_sums], table) if main.name == "Ok" else ():
-            by_answers = self.of("Run", "run_of", main.items[0], sums, run.part("answers").part("asked"))
+            by_answers = self.of("Sayings", "run_of", main.items[0], sums, run.part("answers").part("asked"))
             return self.found([self.of("Run", "IsNeeded", by_answers, name)], name)
         return None
 
