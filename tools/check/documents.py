@@ -117,6 +117,7 @@ class Sources:
 
     def __init__(self):
         self.known = collections.defaultdict(set, names=set(ELSEWHERE))
+        self.owners = collections.defaultdict(list)  # by the kind of a path and its last name: all that this is in
         self.tops = {"src", "specs", "proofs"}  # what a path begins with
         for path in map(pathlib.Path, git("ls-files", "-co", "--exclude-standard").split("\n")):
             if os.path.lexists(path):
@@ -169,19 +170,18 @@ class Sources:
 
     def add_path(self, name, owners, is_public):
         """Adds the paths of a name by what it is in."""
-        paths = [f"{it}::{name}" for it in owners]
-        self.known["paths of names"].update(paths)
-        self.known["public paths of names"].update(paths if is_public else ())
-        return paths
+        for kind in ("paths of names", "public paths of names")[:2 if is_public else 1]:
+            self.owners[kind, name].append({*owners})
+        return [f"{it}::{name}" for it in owners]
 
     def has(self, kind, thing):
         """Whether there is such a thing."""
         if kind == "commits":
             whole = git("rev-parse", f"{thing}^{{commit}}")
             return is_shallow() or whole and whole == git("merge-base", whole, "HEAD")
-        if "::" in thing:
+        if kind.endswith("paths of names"):
             *owners, last = thing.split("::")
-            return all(f"{it}::{last}" in self.known[kind] for it in owners)
+            return any(it.issuperset(owners) for it in self.owners[kind, last])
         if kind == "files" and thing not in self.known[kind]:
             form = CAPITALS.sub("*", thing)
             return "*" in form and bool(fnmatch.filter(self.known[kind], form))
