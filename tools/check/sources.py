@@ -89,7 +89,7 @@ def paths_of(text):
     for path, group, other in PATHS.findall(text):
         parts = tuple(path.replace(" ", "").split("::"))
         for name, own in names_in(group) if group else [("", other or parts[-1])]:
-            found[own] = (*parts, *filter(None, name.split("::")))
+            found[own.rpartition("::")[2]] = (*parts, *filter(None, name.split("::")))
     return found
 
 
