@@ -36,7 +36,7 @@ GIVEN = rf"(?:Err\()?(?:\w+::)*{NO_MEMORY}\)?"
 # what asks for room, and what may be given to it: allocators, borrows, values, lengths and small numbers
 ROOM = r"(?:try_)?(?:reserve(?:_exact)?|resize(?:_with)?|with_capacity|from_elem)"
 LENGTH = r"(?:(?:[\w.]+\.(?:len|count|\w+_count)\(\))(?: \+ \d{1,3})?|\d{1,3})"
-GIFT = rf"(?:&(?:mut )?[\w.]+|(?:\w+\.)?alloc|[A-Z]\w*::\w+\([^()]*\)|{LENGTH})"
+GIFT = rf"(?:&(?:mut )?[\w.]+|(?:\w+\.)?alloc|[A-Z]\w*::(?:new|none|in_source)\([^()]*\)|{LENGTH})"
 LIST_OF = rf"\bvec!\[(?!in alloc; [^;\]]*(?:; {LENGTH})?\])"
 GROWS = {"push", "push_str", "extend_from_slice", "insert", "write_str", "append"}
 # calls of std that may refuse, or answer None; each takes no more than what it is given has
@@ -45,7 +45,7 @@ KNOWN = GROWS | {
     "split_first", "split_once", "strip_prefix", "strip_suffix", "to_ascii_lowercase", "to_string",
     "try_extend_from_slice", "vec", "format"}
 ARGUMENTS = r"[^()]*"
-for _ in range(4):
+for _ in range(9):
     ARGUMENTS = rf"(?:[^()]|\({ARGUMENTS}\))*"
 MAY_REFUSE = re.compile(rf"(?<!fn )(?<!\w)([a-z]\w*)!?\((?=(?:\w+\.)?alloc(?:\(\))?[,)]"
                         rf"|{ARGUMENTS}\)\s*(?:\?|\.(?:is_err|is_ok|ok|map_err|expect)\b))")
@@ -54,7 +54,7 @@ ENDLESS = re.compile(r"\b(?:cycle|repeat\w*|from_fn|successors)\(|\.(?:extend|co
 WIDTH = re.compile(r"\b(?:format|write|writeln)!\((?:[^\"]*)\"[^\"]*\{\w*:[^}\"]*(?:\$|\*|\d\d)")
 LOOP = re.compile(rf"\b(?:while\b|loop\b|for [^{{;]*\.\.(?![^{{;]*len\(\)))"
                   rf".*?(?:\)\?|\.(?:{'|'.join(GROWS)})\()", re.S)
-TURNS = {"gm_graph_cache": re.compile(r"\bLent(?:::at\(| \{)|\bturns\.with\(|\blend_at\("),
+TURNS = {"gm_graph_cache": re.compile(r"\bLent(?:::at\(| \{)|(?:(?<!names)\.|TurnHistory::)with\(|\blend_at\("),
          "gm_graph": re.compile(r"\b(?:known|lend)\(")}
 
 
