@@ -39,8 +39,7 @@ import script
 import private
 import sources
 from sources import (
-    CRATES, USE, USED, Definition, Leaf, definitions, first_sentence, functions, names_in, place, reached_from, used_by,
-    used_in_clauses,
+    CRATES, USE, USED, Definition, Leaf, cited, definitions, first_sentence, functions, names_in, place, reached_from,
 )
 
 FOLDER = pathlib.Path("docs/proof")
@@ -65,8 +64,12 @@ MOST_DEFINITIONS, MOST_LINES = 45, 170  # from `ListEnds` down, on HEADLINE
 @functools.cache
 def reached_by_run():
     """The definitions that the contract of `run` reaches, and those of them that `list` needs."""
-    every = (it for _, it in used_in_clauses(RUNNING, clauses_of(RUNNING, "run").values()))
-    return [set(reached_from(it)[0]) for it in (every, [place(*it) for it in LIST])]
+    every = (it for clause in clauses_of(RUNNING, "run").values() for it in cited(RUNNING, clause).values())
+    return [set(reached_from(it)) for it in (every, [place(*it) for it in LIST])]
+
+
+def used_by(one):
+    return cited(one.file, one.text)
 
 
 def clauses_of(file, function):
@@ -101,7 +104,7 @@ def shown(order):
     found = [known[it] for it in names.split()]
     if words:
         code = "\n".join(found)
-        return f"{link}, `{words[0]}`:\n```\n{code}\n```\n", [], used_in_clauses(file, found)
+        return f"{link}, `{words[0]}`:\n```\n{code}\n```\n", [], {it for clause in found for it in cited(file, clause).items()}
     code = "\n\n".join(one.whole() for one in found)
     return f"{link}:\n```\n{code}\n```\n", found, {it for one in found for it in used_by(one).items()}
 
@@ -219,16 +222,16 @@ class Copies:
                   for one in definitions(self.specs / f"{base}.antt").values()]
         self.names = {one.name: base for base, one in stands}
         self.constructors = {name: base for base, one in stands for name in one.constructors}
-        found, _ = reached_from([place(*it) for it in ends], self.stand_in)
+        found = reached_from([place(*it) for it in ends], self.stand_in)
         self.copied = {file: [it for it in definitions(file).values() if it in found]
                        for file in sorted({it.file for it in found})}
 
     def stand_in(self, one):
         """The module of the crate that has a stand-in for a definition or a leaf, or None."""
-        if not (isinstance(one, Leaf) and one.owner):
-            return self.names.get(one.name)
-        is_there = (self.specs / "Types" / f"{one.owner[2]}.antt").exists()
-        return f"Types.{one.owner[2]}" if is_there else self.names.get(one.name) or self.constructors.get(one.name)
+        kind = one.owner and one.owner[1]
+        if kind and (self.specs / f"Types/{kind}.antt").exists():
+            return f"Types.{kind}"
+        return self.names.get(one.name) or kind and self.constructors.get(one.name)
 
     def base_of(self, file):
         """The name of the copy of a file, with that of its crate if there are two."""
@@ -287,14 +290,14 @@ def faults_of(page, other, index):
         crate = it.file.parts[1]
         if crate in GRAPH and it in of_list or crate not in index.crates:
             yield f"{page.path}: neither it nor REPORTS.md has {it.name} of {it.file}"
-    for it in reached_from(every)[1]:
-        if it.owner and it.owner[2] not in exported(it.owner[0]):
+    for it in {it for one in every for it in used_by(one).values() if it.owner}:
+        if it.owner[1] not in exported(it.owner[0]):
             yield f"the contract of `run` reaches {it.name} of {it.source}, which isn't exported"
     legend = page.text.partition("\n## 2.")[2].partition("\n## 3.")[0]
     for name in sorted(it.name for _, it in page.uses if isinstance(it, Leaf) and it.source == "the standard library"):
         if not re.search(rf"\b{name}\b", legend):
             yield f"{page.path}: section 2 doesn't say what {name} is"
-    top, _ = reached_from([place(*LIST[0])], lambda one: one not in page.defined)
+    top = reached_from([place(*LIST[0])], lambda one: one not in page.defined)
     size, lines = (sum(it.size() for it in found) for found in (top, of_list))
     if len(top) > MOST_DEFINITIONS or size > MOST_LINES:
         yield f"{page.path}: from `ListEnds` down at most {MOST_DEFINITIONS} definitions and {MOST_LINES} lines"

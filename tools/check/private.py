@@ -19,8 +19,7 @@ import sys
 sys.path.append(f"{sys.path[0]}/..")
 import script
 from sources import (
-    COPYING, CRATES, code_of, definitions, exports, files, first_sentence, items_of, plain, reached_from, scope_of,
-    used_in,
+    COPYING, CRATES, cited, code_of, definitions, exports, files, first_sentence, members, plain, reached_from,
 )
 
 # forms that nothing uses, and that tools/check/sources.py doesn't follow
@@ -35,37 +34,33 @@ UNREAD = {
 def contracts(crate):
     """The contracts of a crate: for each the item that has it, whether it is public, of a model its type, and what the
     names in it mean."""
-    items = {file: list(items_of(code_of(file))) for file in files("src/**/*.rt", crate)}
-    public = [it for those in items.values() for it in those if it.visibility == "pub"]
+    items = [(file, *it) for file in files("src/**/*.rt", crate) for it in members(code_of(file))]
+    public = [it for _, it, block in items if it.visibility == "pub" and not block]
     modules = {it.name for it in public if it.kind == "mod"} | {"lib"}
     types = {it.name for it in public if it.kind in ("struct", "enum", "type")}
-    exported = {name for file in items for name in exports(file)}
-    for file, those in items.items():
-        imported = scope_of("\n".join(it.text for it in those if it.kind == "use"))
-        for one in those:
-            if one.kind not in ("impl", "trait"):
-                is_public = one.visibility == "pub" and (file.stem in modules or one.name in exported)
-                found = used_in(one.contract, imported, {}).values()
-                yield f"{file} {one.name}", is_public or one.name == "main", None, found
-                continue
-            model = one.name.rpartition("::")[2] if one.trait.startswith("Model") else None
-            for it in one.inner():
-                is_public = model in types if model else one.trait or one.kind == "trait" or it.visibility == "pub"
-                found = used_in(it.contract, imported | scope_of(one.text), {}).values()
-                yield f"{file} {it.name}", is_public, model, found
+    exported = {name for file in files("src/**/*.rt", crate) for name in exports(file)}
+    for file, one, block in items:
+        model, is_public = None, one.visibility == "pub"
+        if not block:
+            is_public = is_public and (file.stem in modules or one.name in exported) or one.name == "main"
+        elif block.trait.startswith("Model"):
+            model = block.name.rpartition("::")[2]
+            is_public = model in types
+        elif block.trait or block.kind == "trait":
+            is_public = True
+        yield f"{file} {one.name}", is_public, (crate, model), cited(file, one.contract).values()
 
 
 def misplaced(specs, crates):
     """The definitions that stand in the wrong folder."""
     public, models = [], collections.defaultdict(list)
-    for crate in crates:
-        for item, is_public, model, found in contracts(crate):
-            public += [(item, found)] if is_public else []
-            models[crate, model] += found
-    every = set(reached_from((it for _, found in public for it in found), models=models)[0])
+    for item, is_public, model, found in (it for crate in crates for it in contracts(crate)):
+        public += [(item, found)] if is_public else []
+        models[model] += found
+    every = set(reached_from((it for _, found in public for it in found), models=models))
     for it in (one for file in specs for one in definitions(file).values()):
         if (it in every) == ("Private" in it.file.parts):
-            by = next((item for item, found in public if it in reached_from(found, models=models)[0]), None)
+            by = next((item for item, found in public if it in reached_from(found, models=models)), None)
             yield f"{it.file}:{it.line}: {it.name}: " + (
                 f"a public contract reaches it, that of {by}" if by else "no public contract reaches it")
 

@@ -15,7 +15,7 @@ import re
 import sys
 
 from script import checksum, git, read, write
-from sources import definitions_in, files, items_of, reached_from, used_in_clauses
+from sources import cited, code_of, definitions_in, files, functions, reached_from
 
 README, PROVED = "README.md", "docs/proof/PROVED.md"
 SECTIONS = {README: ["What is verified"], PROVED: ["The main promise", "What you can rely on"]}
@@ -50,9 +50,8 @@ def public_functions():
     found = collections.defaultdict(list)
     for path in files("src/**/*.rt"):
         is_law = path.parts[1].endswith("_laws") or "laws" in path.with_suffix("").parts
-        for one in (it for it in items_of(path.read_text()) if it.kind == "fn" and it.visibility == "pub"):
-            stated = re.sub(r"(?m)^[ \t]*//.*\n", "", one.contract).removesuffix("{}").removesuffix("{")
-            found[one.name].append((path.parts[1], is_law, path, stated))
+        for one in (it for it, block in functions(code_of(path)) if not block and it.visibility == "pub"):
+            found[one.name].append((path.parts[1], is_law, path, one.contract))
     return found
 
 
@@ -74,9 +73,7 @@ def reached(name):
     """The definitions that the contract of a law reaches."""
     if name == CHECKS:
         return []
-    file, contract = law(name)
-    found, _ = reached_from(one for _, one in used_in_clauses(file, [contract]))
-    return sorted(found, key=lambda it: (str(it.file), it.line))
+    return sorted(reached_from(cited(*law(name)).values()), key=lambda it: (str(it.file), it.line))
 
 
 def statement(name):

@@ -8,7 +8,8 @@
     definitions, plain           what an .antt file declares; its text without comments and strings
     items_of, functions, code_of    the items of a .rt file and its functions; its text without comments
     public_items, exports        its public items, and what it exports of other modules
-    place, used_by, reached_from    the graph of definitions: what a name means, what a definition names and reaches
+    place, cited, reached_from   the graph of definitions: what a name means, what a definition or clause names and
+                                 reaches
 
 It relies on the layout of `rt fmt`: an item ends with the first line at its margin that ends with `}` or `;`, or before
 the next item; a definition ends before a blank line that no indented line follows, with comments directly above it.
@@ -121,6 +122,7 @@ class Definition:
     line: int
     comment: str
     text: str
+    owner = None
 
     def __post_init__(self):
         words, self.kind, self.name = HEAD.match(self.text).groups()
@@ -181,14 +183,15 @@ class Item:
     def contract(self):
         """The clauses of a function, or the whole of a ghost item."""
         found = CONTRACT.search(self.head) if self.kind == "fn" else None
-        return self.text if self.kind == "ghost" else self.head[found.start():] if found else ""
+        clauses = re.sub(r"(?:;|\n *\{\}?)\Z", "", self.head[found.start():]) if found else ""
+        return self.text if self.kind == "ghost" else clauses
 
     def signature(self):
-        return self.head.removesuffix(self.contract)
+        return CONTRACT.split(self.head)[0]
 
     def clauses(self):
         """The text of each clause, after the comments above it, by its name."""
-        contract = re.sub(rf"(?m)^{self.indent}(?:    |[{{}}].*\Z)", "", self.contract.removesuffix(";"))
+        contract = re.sub(rf"(?m)^{self.indent}    ", "", self.contract)
         return {it[1] or "": it[0].rstrip() for it in CLAUSE.finditer(contract)}
 
     def inner(self):
@@ -218,13 +221,14 @@ def exports(path):
     return paths_of("\n".join(it.text for it in public_items(path) if it.kind == "use"))
 
 
-def functions(text):
-    """All functions, each with the block that it is in, or None."""
+def members(text):
+    """All items but blocks, each with the block that it is in, or None."""
     for one in items_of(text):
-        if one.kind == "fn":
-            yield one, None
-        elif one.kind in ("impl", "trait"):
-            yield from ((it, one) for it in one.inner() if it.kind == "fn")
+        yield from ((it, one) for it in one.inner()) if one.kind in ("impl", "trait") else [(one, None)]
+
+
+def functions(text):
+    return [it for it in members(text) if it[0].kind == "fn"]
 
 
 # ---- the graph of definitions
@@ -241,39 +245,42 @@ BINDERS = [
 @dataclasses.dataclass(frozen=True)
 class Leaf:
     """A name that no file of specs/ defines: one of the standard library, of another package, or of a type of the code,
-    which is then given by its crate, its module and its own name."""
+    which is then given by its crate and its own name."""
 
     name: str
     source: str
     owner: tuple | None = None
 
 
-@functools.cache
-def scope_in(file):
-    """What each name means that a file of specs/ imports."""
-    return scope_of(file.read_text(encoding="utf-8"))
+def placed(scope):
+    """What these names mean: a definition or a leaf, or the path of a module."""
+    return {own: place(path, name) if name else path for own, (path, name) in scope.items()}
 
 
 @functools.cache
 def own_names(file):
-    """What the names that a file defines or passes on mean; that of a constructor means its definition."""
-    passed = scope_of(file.read_text(encoding="utf-8"), "pub ")
+    """What the names that a file of specs/ defines or passes on mean; that of a constructor means its definition."""
     own = {name: one for one in definitions(file).values() for name in (*one.constructors, one.name)}
-    return {name: place(*it) for name, it in passed.items() if it[1]} | own
+    return placed(scope_of(file.read_text(encoding="utf-8"), "pub ")) | own
+
+
+@functools.cache
+def known_in(file):
+    """What each name means that a file of specs/ or a source imports or defines."""
+    own = own_names(file) if file.suffix == ".antt" else {}
+    return placed(scope_of(file.read_text(encoding="utf-8"))) | own
 
 
 @functools.cache
 def place(path, name):
     """The definition of a name in a module, or the leaf that it is."""
-    package, *inner = path.split(".")
-    if package == "Rattle":
-        package, *inner = inner
+    package, *inner = path.removeprefix("Rattle.").split(".")
     if not (CRATES / package).is_dir():
         return Leaf(name, "the standard library" if package == "std" else f"the package {package}")
     if inner[1:2] == ["declared"]:
         *module, kind = names = [it for it in inner[2:] if it != "TheVariants"]
         of = f" of `{kind}`" if len(names) < len(inner) - 2 else ""
-        owner = None if kind == "TheConstants" else (package, tuple(module), kind)
+        owner = None if kind == "TheConstants" else (package, kind)
         return Leaf(name, f"`crates/{package}/src/{'/'.join(module)}.rt`{of}", owner)
     file = CRATES.joinpath(package, *inner).with_suffix(".antt")
     if not file.exists():
@@ -281,55 +288,38 @@ def place(path, name):
     return own_names(file).get(name) or sys.exit(f"{file} has no {name}")
 
 
-def bound_in(text, scope, own):
+def bound_in(text, known):
     """The variables and fields of a definition."""
     bound = {name for rule in BINDERS for group in re.findall(rule, text) for name in re.findall(VARIABLE, group)}
-    for left in re.findall(r"(?m)^[a-z_A-Z]\w*'? ([^=\n]*?) =(?!=)", text):
-        for name in re.findall(VARIABLE, left):
-            target = place(*scope[name]) if name in scope else own.get(name)
-            if not (isinstance(target, Definition) and name in target.constructors):
-                bound.add(name)
-    return bound
-
-
-def used_in(text, scope, own):
-    """What the names in a text mean, given what the names of its file do: a definition or a leaf, by the name as it is
-    written."""
-    text = plain(text)
-    bound, seen = bound_in(text, scope, own), {}
-    for module, name in USED.findall(text):
-        path, imported = scope.get(module or name, (None, None))
-        if module and path and not imported:
-            seen[f"{module}.{name}"] = place(path, name)
-            continue
-        name = module or name
-        if name not in bound and (name in own or imported):
-            seen[name] = own.get(name) or place(path, imported)
-    return seen
+    lefts = re.findall(r"(?m)^[a-z_A-Z]\w*'? ([^=\n]*?) =(?!=)", text)
+    found = {name for left in lefts for name in re.findall(VARIABLE, left)}
+    return bound | {it for it in found if it not in getattr(known.get(it), "constructors", ())}
 
 
 @functools.cache
-def used_by(one):
-    return used_in(one.text, scope_in(one.file), own_names(one.file))
-
-
-def used_in_clauses(file, clauses):
-    """What the names in clauses of a source mean: pairs of the name as it is written and a definition or a leaf."""
-    scope = scope_of(file.read_text())
-    return {it for clause in clauses for it in used_in(re.sub(r"(?m)^//.*$", "", clause), scope, {}).items()}
+def cited(file, text):
+    """What the names in a definition or clause of a file mean: a definition or a leaf, by the name as it is written."""
+    text, known, seen = plain(re.sub(r"(?m)^//.*$", "", text)), known_in(file), {}
+    bound = bound_in(text, known)
+    for module, name in USED.findall(text):
+        one = known.get(module or name)
+        if isinstance(one, str):
+            seen |= {f"{module}.{name}": place(one, name)} if module else {}
+        elif one and (module or name) not in bound:
+            seen[module or name] = one
+    return seen
 
 
 def reached_from(found, is_end=lambda one: False, models={}):
-    """All definitions that these reach, but for those that end it, and the leaves: from a type of the code what its
-    model names, if it is given by the type's crate and name."""
-    reached, left = {}, list(found)
+    """All definitions that these reach, but for those that end it: from a type of the code what its model names, if it
+    is given by the type's crate and name."""
+    reached, left = {}, [*found]
     while left:
         one = left.pop()
         if one not in reached and not is_end(one):
             reached[one] = None
-            model = () if isinstance(one, Definition) or not one.owner else models.get(one.owner[::2], ())
-            left.extend(used_by(one).values() if isinstance(one, Definition) else model)
-    return [it for it in reached if isinstance(it, Definition)], [it for it in reached if isinstance(it, Leaf)]
+            left += models.get(one.owner, ()) if isinstance(one, Leaf) else cited(one.file, one.text).values()
+    return [it for it in reached if isinstance(it, Definition)]
 
 
 def main(crate):
