@@ -39,74 +39,72 @@ import script
 import private
 import sources
 from sources import (
-    CRATES, USE, USED, Definition, Leaf, cited, definitions, first_sentence, functions, names_in, place, reached_from,
+    CRATES, USE, USED, Clause, Definition, Leaf, definitions, first_sentence, functions, items_of, names_in, place,
+    reached_from, scope_of,
 )
 
 FOLDER = pathlib.Path("docs/proof")
 GRAPH = ("gm_graph_cache", "gm_graph_select", "gm_graph", "gomod_run")  # the crates that know module graphs
 RUNNING = CRATES / "gomod_run/src/running.rt"
-LIST = [("Rattle.gomod_run.specs.ListQuery", "ListEnds"), ("Rattle.gomod_run.specs.Written", "EndsAsStated")]
+LIST = ["gomod_run.specs.ListQuery.ListEnds", "gomod_run.specs.Written.EndsAsStated"]
 # the crates of copies, with the definitions that reach theirs
-COPIES = {"page": LIST[:1], "page_commands": [(f"Rattle.{path}", name) for path, name in (
-    ("gomod_run.specs.Versions", "VersionsEnds"), ("gomod_run.specs.ChainQuery", "PrintsChain"),
-    ("gomod_run.specs.GraphQuery", "PrintsGraph"), ("gomod_run.specs.Fmt", "FmtEnds"),
-    ("gomod_run.specs.Edit", "EditEnds"), ("gm_store_sums.specs.Hash", "file_hash"),
-    ("gm_store_sums.specs.Sums", "SaysOfHash"), ("gm_store_sums.specs.Sums", "IsFirstInvalid"),
-    ("gm_store_sums.specs.Sums", "HasValidLines"), ("gm_store.specs.Asked", "answer_in"),
-    ("gm_store.specs.Relative", "relative_text"), ("gm_name.specs.Path", "IsPath"),
-    ("gm_syntax.specs.Lines", "lines_of"), ("gm_syntax.specs.Document", "class_of"),
-    ("gm_syntax.specs.Document", "start"), ("gm_syntax.specs.Document", "after"),
-)]}
+COPIES = {"page": LIST[:1], "page_commands": [
+    "gomod_run.specs.Versions.VersionsEnds", "gomod_run.specs.ChainQuery.PrintsChain",
+    "gomod_run.specs.GraphQuery.PrintsGraph", "gomod_run.specs.Fmt.FmtEnds", "gomod_run.specs.Edit.EditEnds",
+    "gm_store_sums.specs.Hash.file_hash", "gm_store_sums.specs.Sums.SaysOfHash",
+    "gm_store_sums.specs.Sums.IsFirstInvalid", "gm_store_sums.specs.Sums.HasValidLines",
+    "gm_store.specs.Asked.answer_in", "gm_store.specs.Relative.relative_text", "gm_name.specs.Path.IsPath",
+    "gm_syntax.specs.Lines.lines_of", "gm_syntax.specs.Document.class_of", "gm_syntax.specs.Document.start",
+    "gm_syntax.specs.Document.after",
+]}
 SHOWN = re.compile(r"(?ms)^<!-- show ([^\n]*?) -->\n(.*?)^<!-- end -->$")
 MOST_DEFINITIONS, MOST_LINES = 45, 170  # from `ListEnds` down, on HEADLINE
+
+
+def reached_from_paths(paths, *is_end):
+    """The definitions that those of these paths reach."""
+    return reached_from((place(*it.rsplit(".", 1)) for it in paths), *is_end)
 
 
 @functools.cache
 def reached_by_run():
     """The definitions that the contract of `run` reaches, and those of them that `list` needs."""
-    every = (it for clause in clauses_of(RUNNING, "run").values() for it in cited(RUNNING, clause).values())
-    return [set(reached_from(it)) for it in (every, [place(*it) for it in LIST])]
-
-
-def used_by(one):
-    return cited(one.file, one.text)
+    return [set(it) for it in (reached_from(clauses_of(RUNNING, "run").values()), reached_from_paths(LIST))]
 
 
 def clauses_of(file, function):
-    """The clauses of the first function of this name in a source: name to its text, with the comments before it; and
+    """The clauses of the first function of this name in a source, by their names, with the comments before each; and
     its signature."""
     found = next(it for it, _ in functions(file.read_text()) if it.name == function)
-    return {"signature": found.signature().rstrip(), **found.clauses()}
+    texts = {"signature": found.signature().rstrip(), **found.clauses()}
+    return {name: Clause(file, text) for name, text in texts.items()}
 
 
 @functools.cache
 def exported(crate):
-    root = CRATES / crate / "src/lib.rt"
-    return {it.name for it in sources.public_items(root)} | sources.exports(root).keys()
+    code = sources.code_of(CRATES / crate / "src/lib.rt")
+    return {it.name for it in items_of(code) if it.visibility == "pub"} | scope_of(code, "pub ").keys()
 
 
 # ---- what stands between marks
 
 
 def shown(order):
-    """What stands below a mark but `names`: its text, the definitions that it has, and what the names in it mean."""
+    """What stands below a mark but `names`: its text, and the definitions or clauses that it has."""
     if order == "worlds":
-        return worlds(), [], set()
+        return worlds(), []
     what, names = order.removeprefix("contract ").split(":") if ":" in order else (order, "")
     name, *words = what.split()
     if name == "files":
-        return rows_of_files(words[0], names.split()), [], set()
-    file, link = CRATES / name, f"[{name}](../../crates/{name})"
+        return rows_of_files(words[0], names.split()), []
+    file, function = CRATES / name, "".join(f", `{it}`" for it in words)
     known = clauses_of(file, *words) if words else definitions(file)
     missing = [it for it in names.split() if it not in known]
     if missing:
         sys.exit(f"headline: {what} has no {' '.join(missing)}")
     found = [known[it] for it in names.split()]
-    if words:
-        code = "\n".join(found)
-        return f"{link}, `{words[0]}`:\n```\n{code}\n```\n", [], {it for clause in found for it in cited(file, clause).items()}
-    code = "\n\n".join(one.whole() for one in found)
-    return f"{link}:\n```\n{code}\n```\n", found, {it for one in found for it in used_by(one).items()}
+    code = ("\n" if words else "\n\n").join(it.whole() for it in found)
+    return f"[{name}](../../crates/{name}){function}:\n```\n{code}\n```\n", found
 
 
 def worlds():
@@ -121,7 +119,7 @@ def worlds():
 def files_of(crate):
     """The files of a crate's specs/, each after those that it uses."""
     left, found = [it for it in sources.files("specs/*.antt", crate) if it.stem not in ("Lib", "Private")], []
-    uses = {file: {it.file for one in definitions(file).values() for it in used_by(one).values()
+    uses = {file: {it.file for one in definitions(file).values() for it in one.cites().values()
                    if isinstance(it, Definition)} - {file} for file in left}
     while left:
         found.append(next(it for it in left if not uses[it].intersection(left)))
@@ -148,12 +146,10 @@ class Page:
         self.path = FOLDER / f"{name}.md"
         self.text = self.path.read_text()
         self.crates = re.findall(r"<!-- show files (\w+)", self.text)
-        self.defined, self.uses = [], set()
-        for order, _ in SHOWN.findall(self.text):
-            if order != "names":
-                _, found, used = shown(order)
-                self.defined += found
-                self.uses |= used
+        orders = (order for order, _ in SHOWN.findall(self.text) if order != "names")
+        found = [it for order in orders for it in shown(order)[1]]
+        self.defined = [it for it in found if isinstance(it, Definition)]
+        self.uses = {it for one in found for it in one.cites().items()}
 
     def quotes(self):
         """What the page quotes, with one blank between words."""
@@ -164,7 +160,7 @@ class Page:
         seen = set()
         for one in self.defined:
             seen.add(one)
-            for it in used_by(one).values():
+            for it in one.cites().values():
                 if it in self.defined and it not in seen:
                     yield f"{one.name} uses {it.name}, which is shown after it"
 
@@ -222,7 +218,7 @@ class Copies:
                   for one in definitions(self.specs / f"{base}.antt").values()]
         self.names = {one.name: base for base, one in stands}
         self.constructors = {name: base for base, one in stands for name in one.constructors}
-        found = reached_from([place(*it) for it in ends], self.stand_in)
+        found = reached_from_paths(ends, self.stand_in)
         self.copied = {file: [it for it in definitions(file).values() if it in found]
                        for file in sorted({it.file for it in found})}
 
@@ -242,7 +238,7 @@ class Copies:
         """The text of the crate's file with these definitions of a source: it imports of what the source does the names
         that they use, and stand-ins for definitions of the source itself."""
         imports, code = defaultdict(list), "\n".join(one.code for one in ones)
-        used = {name: it for one in ones for name, it in used_by(one).items()}
+        used = {name: it for one in ones for name, it in one.cites().items()}
         for _, path, listed, short in USE.findall(file.read_text()):
             for name, it in used.items() if short else ():
                 if name.startswith(f"{short}."):
@@ -290,14 +286,14 @@ def faults_of(page, other, index):
         crate = it.file.parts[1]
         if crate in GRAPH and it in of_list or crate not in index.crates:
             yield f"{page.path}: neither it nor REPORTS.md has {it.name} of {it.file}"
-    for it in {it for one in every for it in used_by(one).values() if it.owner}:
+    for it in {it for one in every for it in one.cites().values() if it.owner}:
         if it.owner[1] not in exported(it.owner[0]):
             yield f"the contract of `run` reaches {it.name} of {it.source}, which isn't exported"
     legend = page.text.partition("\n## 2.")[2].partition("\n## 3.")[0]
     for name in sorted(it.name for _, it in page.uses if isinstance(it, Leaf) and it.source == "the standard library"):
         if not re.search(rf"\b{name}\b", legend):
             yield f"{page.path}: section 2 doesn't say what {name} is"
-    top = reached_from([place(*LIST[0])], lambda one: one not in page.defined)
+    top = reached_from_paths(LIST[:1], lambda one: one not in page.defined)
     size, lines = (sum(it.size() for it in found) for found in (top, of_list))
     if len(top) > MOST_DEFINITIONS or size > MOST_LINES:
         yield f"{page.path}: from `ListEnds` down at most {MOST_DEFINITIONS} definitions and {MOST_LINES} lines"

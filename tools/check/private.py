@@ -19,7 +19,7 @@ import sys
 sys.path.append(f"{sys.path[0]}/..")
 import script
 from sources import (
-    COPYING, CRATES, cited, code_of, definitions, exports, files, first_sentence, members, plain, reached_from,
+    COPYING, CRATES, Clause, code_of, definitions, files, first_sentence, members, plain, reached_from, scope_of,
 )
 
 # forms that nothing uses, and that tools/check/sources.py doesn't follow
@@ -32,13 +32,12 @@ UNREAD = {
 
 
 def contracts(crate):
-    """The contracts of a crate: for each the item that has it, whether it is public, of a model its type, and what the
-    names in it mean."""
+    """The contracts of a crate: for each the item that has it, whether it is public, and of a model its type."""
     items = [(file, *it) for file in files("src/**/*.rt", crate) for it in members(code_of(file))]
     public = [it for _, it, block in items if it.visibility == "pub" and not block]
     modules = {it.name for it in public if it.kind == "mod"} | {"lib"}
     types = {it.name for it in public if it.kind in ("struct", "enum", "type")}
-    exported = {name for file in files("src/**/*.rt", crate) for name in exports(file)}
+    exported = {name for file in files("src/**/*.rt", crate) for name in scope_of(code_of(file), "pub ")}
     for file, one, block in items:
         model, is_public = None, one.visibility == "pub"
         if not block:
@@ -48,19 +47,19 @@ def contracts(crate):
             is_public = model in types
         elif block.trait or block.kind == "trait":
             is_public = True
-        yield f"{file} {one.name}", is_public, (crate, model), cited(file, one.contract).values()
+        yield f"{file} {one.name}", is_public, (crate, model), Clause(file, one.contract)
 
 
 def misplaced(specs, crates):
     """The definitions that stand in the wrong folder."""
     public, models = [], collections.defaultdict(list)
-    for item, is_public, model, found in (it for crate in crates for it in contracts(crate)):
-        public += [(item, found)] if is_public else []
-        models[model] += found
-    every = set(reached_from((it for _, found in public for it in found), models=models))
+    for item, is_public, model, contract in (it for crate in crates for it in contracts(crate)):
+        public += [(item, contract)] if is_public else []
+        models[model].append(contract)
+    every = set(reached_from((it for _, it in public), models=models))
     for it in (one for file in specs for one in definitions(file).values()):
         if (it in every) == ("Private" in it.file.parts):
-            by = next((item for item, found in public if it in reached_from(found, models=models)), None)
+            by = next((item for item, contract in public if it in reached_from([contract], models=models)), None)
             yield f"{it.file}:{it.line}: {it.name}: " + (
                 f"a public contract reaches it, that of {by}" if by else "no public contract reaches it")
 

@@ -15,7 +15,7 @@ import re
 import sys
 
 from script import checksum, git, read, write
-from sources import cited, code_of, definitions_in, files, functions, reached_from
+from sources import Clause, code_of, definitions_in, files, functions, reached_from
 
 README, PROVED = "README.md", "docs/proof/PROVED.md"
 SECTIONS = {README: ["What is verified"], PROVED: ["The main promise", "What you can rely on"]}
@@ -46,21 +46,21 @@ class Sentence:
 
 @functools.cache
 def public_functions():
-    """The functions of the sources by their names: for each its crate, whether it is a law's, its file and contract."""
+    """The functions of the sources by their names: for each its crate, whether it is a law's, and its contract."""
     found = collections.defaultdict(list)
     for path in files("src/**/*.rt"):
         is_law = path.parts[1].endswith("_laws") or "laws" in path.with_suffix("").parts
         for one in (it for it, block in functions(code_of(path)) if not block and it.visibility == "pub"):
-            found[one.name].append((path.parts[1], is_law, path, one.contract))
+            found[one.name].append((path.parts[1], is_law, Clause(path, one.contract)))
     return found
 
 
 def law(name):
-    """The file and the contract of a law or call, by its name or path, or None."""
+    """The contract of a law or call, by its name or path, or None."""
     *path, last = name.split("::")
     known = [it for it in public_functions().get(last, []) if (it[0] in path if path else it[1])]
     best = next(filter(None, ([it for it in known if it[0] == crate] for crate in FIRST)), known)
-    return best[0][2:] if len(best) == 1 else None
+    return best[0][2] if len(best) == 1 else None
 
 
 def stated(text):
@@ -73,7 +73,7 @@ def reached(name):
     """The definitions that the contract of a law reaches."""
     if name == CHECKS:
         return []
-    return sorted(reached_from(cited(*law(name)).values()), key=lambda it: (str(it.file), it.line))
+    return sorted(reached_from([law(name)]), key=lambda it: (str(it.file), it.line))
 
 
 def statement(name):
@@ -81,7 +81,7 @@ def statement(name):
     if name == CHECKS:
         return "checks: each function of each crate is safe, and returns"
     parts = sorted(f"{it.file}: {stated(it.text)}" for it in reached(name))
-    return "\n".join([f"{name}:", law(name)[1].rstrip(), *parts])
+    return "\n".join([f"{name}:", law(name).text, *parts])
 
 
 def changed(one):

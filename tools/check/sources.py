@@ -6,8 +6,7 @@
     files, crates, with_below    which sources and crates there are
     scope_of, paths_of           what the names mean that a text imports, of definitions and of the code
     definitions, plain           what an .antt file declares; its text without comments and strings
-    items_of, functions, code_of    the items of a .rt file and its functions; its text without comments
-    public_items, exports        its public items, and what it exports of other modules
+    items_of, members, functions, code_of  the items of a .rt file, and those of its blocks; its text without comments
     place, cited, reached_from   the graph of definitions: what a name means, what a definition or clause names and
                                  reaches
 
@@ -29,9 +28,8 @@ COPYING = "page", "page_commands"  # the crates whose definitions are copies of 
 # the crates of which neither the program nor a library of users is made
 ASIDE = re.compile("gomod_(tests|case_.*|laws)|gm_file_edit_laws|run_cases|page|page_commands|library_example")
 # a `use` of either language: the words before it, the path, the names in braces, another name of a module
-USE = re.compile(r"(?m)^ *((?:unfoldable |pub |ghost )*)use ([\w.]+?)(?:\.\{([^}]*)\}| as (\w+))?;?$")
-# one of the code: its path, the names in braces, another name
-PATHS = re.compile(r"(?ms)^ *(?:pub(?:\(crate\))? )?use ([^;{]+?)(?:::\{([^;]*)\})?(?: as (\w+))?;")
+USE = re.compile(r"(?m)^ *((?:unfoldable |pub(?:\(crate\))? |ghost )*)use ([\w.:]+?)"
+                 r"(?:(?:\.|::)\{([^}]*)\}| as (\w+))?;?$")
 # the beginning of what a file of definitions declares: the words before its name, its kind, the name
 HEAD = re.compile(r"((?:(?:abbrev|unfoldable|opaque|pub) )*)(?:(record|data) )?([^\s:(){}]+)")
 # an item at a margin: its visibility, its kind, its name; what an `impl` is of: a trait, a type
@@ -84,14 +82,22 @@ def names_in(group):
         yield name, own or name
 
 
+def scope_of(text, words=""):
+    """What each name means that the `use` lines import, or those with these words before `use`: the path of a module
+    and a name of it, or, for a module itself, None."""
+    scope = {}
+    for given, path, group, own in USE.findall(text):
+        if words in given:
+            scope |= {name: (path, it) for it, name in names_in(group)}
+            if not group:
+                scope[own or re.split("[.:]", path)[-1]] = path, None
+    return scope
+
+
 def paths_of(text):
     """The path of each name of the code that the `use` items of a text import, by the name that it has there."""
-    found = {}
-    for path, group, other in PATHS.findall(text):
-        parts = tuple(path.replace(" ", "").split("::"))
-        for name, own in names_in(group) if group else [("", other or parts[-1])]:
-            found[own.rpartition("::")[2]] = (*parts, *filter(None, name.split("::")))
-    return found
+    found = scope_of(re.sub(r"(?m)^ *(?:pub )?ghost use .*", "", text))
+    return {own.rpartition("::")[2]: tuple("::".join(filter(None, it)).split("::")) for own, it in found.items()}
 
 
 # ---- files of definitions
@@ -102,27 +108,27 @@ def plain(text):
     return re.sub(r"(?m)(^|\s)--.*$", r"\1", re.sub(r'"(?:\\.|[^"\\\n])*"', '""', text))
 
 
-def scope_of(text, words=""):
-    """What each name means that the `use` lines import, or those with these words before `use`: the path of a module
-    and a name of it, or, for a module itself, None."""
-    scope = {}
-    for given, path, group, own in USE.findall(text):
-        if words in given:
-            scope |= {name: (path, it) for it, name in names_in(group)}
-            if not group:
-                scope[own or path.rpartition(".")[2]] = path, None
-    return scope
+@dataclasses.dataclass(eq=False)
+class Clause:
+    """A clause of a source, or some: a file, and the text."""
+
+    file: pathlib.Path
+    text: str
+    owner = None
+
+    def cites(self):
+        return cited(self.file, self.text)
+
+    def whole(self):
+        return self.text
 
 
 @dataclasses.dataclass(eq=False)
-class Definition:
-    """A definition or a lemma: its file, its first line with the comments above, and what it is."""
+class Definition(Clause):
+    """A definition or a lemma: its file and text, its first line with the comments above, and these."""
 
-    file: pathlib.Path
     line: int
     comment: str
-    text: str
-    owner = None
 
     def __post_init__(self):
         words, self.kind, self.name = HEAD.match(self.text).groups()
@@ -148,7 +154,7 @@ def definitions_in(path, text):
     """The same of a text of the file."""
     found, begin = [], r"(?!use |pub use |pub mod |mod |--)[^\s}].*(?:\n.+|\n+(?= ).*)*"
     for it in re.finditer(rf"(?m)^((?:--.*\n)*)({begin})", text):
-        found.append(Definition(path, text.count("\n", 0, it.start()) + 1, it[1].rstrip(), it[2]))
+        found.append(Definition(path, it[2], text.count("\n", 0, it.start()) + 1, it[1].rstrip()))
     return {it.name: it for it in found}
 
 
@@ -212,15 +218,6 @@ def items_of(text, indent="", line=1):
         yield one
 
 
-def public_items(path):
-    return [it for it in items_of(code_of(path)) if it.visibility == "pub"]
-
-
-def exports(path):
-    """The path of each name that a module exports by `pub use`."""
-    return paths_of("\n".join(it.text for it in public_items(path) if it.kind == "use"))
-
-
 def members(text):
     """All items but blocks, each with the block that it is in, or None."""
     for one in items_of(text):
@@ -251,6 +248,9 @@ class Leaf:
     source: str
     owner: tuple | None = None
 
+    def cites(self):
+        return {}
+
 
 def placed(scope):
     """What these names mean: a definition or a leaf, or the path of a module."""
@@ -267,8 +267,8 @@ def own_names(file):
 @functools.cache
 def known_in(file):
     """What each name means that a file of specs/ or a source imports or defines."""
-    own = own_names(file) if file.suffix == ".antt" else {}
-    return placed(scope_of(file.read_text(encoding="utf-8"))) | own
+    text = file.read_text(encoding="utf-8")
+    return placed(scope_of(text, "ghost ")) if file.suffix == ".rt" else placed(scope_of(text)) | own_names(file)
 
 
 @functools.cache
@@ -311,14 +311,14 @@ def cited(file, text):
 
 
 def reached_from(found, is_end=lambda one: False, models={}):
-    """All definitions that these reach, but for those that end it: from a type of the code what its model names, if it
-    is given by the type's crate and name."""
+    """All definitions that these reach, but for those that end it: from a type of the code what the clauses of its
+    model do, if they are given by the type's crate and name."""
     reached, left = {}, [*found]
     while left:
         one = left.pop()
         if one not in reached and not is_end(one):
             reached[one] = None
-            left += models.get(one.owner, ()) if isinstance(one, Leaf) else cited(one.file, one.text).values()
+            left += [*one.cites().values(), *models.get(one.owner, ())]
     return [it for it in reached if isinstance(it, Definition)]
 
 
