@@ -39,8 +39,7 @@ import script
 import private
 import sources
 from sources import (
-    CRATES, USE, USED, Clause, Definition, Leaf, definitions, first_sentence, functions, items_of, names_in, place,
-    reached_from, scope_of,
+    CRATES, USED, Clause, Definition, definitions, first_sentence, functions, items_of, place, reached_from, scope_of,
 )
 
 FOLDER = pathlib.Path("docs/proof")
@@ -119,8 +118,8 @@ def worlds():
 def files_of(crate):
     """The files of a crate's specs/, each after those that it uses."""
     left, found = [it for it in sources.files("specs/*.antt", crate) if it.stem not in ("Lib", "Private")], []
-    uses = {file: {it.file for one in definitions(file).values() for it in one.cites().values()
-                   if isinstance(it, Definition)} - {file} for file in left}
+    uses = {file: {it.file for one in definitions(file).values() for it in one.cites().values()} - {file}
+            for file in left}
     while left:
         found.append(next(it for it in left if not uses[it].intersection(left)))
         left.remove(found[-1])
@@ -151,25 +150,18 @@ class Page:
         self.defined = [it for it in found if isinstance(it, Definition)]
         self.uses = {it for one in found for it in one.cites().items()}
 
-    def quotes(self):
-        """What the page quotes, with one blank between words."""
-        return [" ".join(re.sub("(?m)^>", "", it).split()) for it in re.findall(r"(?m)(?:^>.*\n)+", self.text)]
-
     def early(self):
         """The names of the page that it uses before it shows them, each with the definition that uses it."""
-        seen = set()
-        for one in self.defined:
-            seen.add(one)
-            for it in one.cites().values():
-                if it in self.defined and it not in seen:
-                    yield f"{one.name} uses {it.name}, which is shown after it"
+        for at, one in enumerate(self.defined, 1):
+            yield from (f"{one.name} uses {it.name}, which is shown after it" for it in one.cites().values()
+                        if it in self.defined[at:])
 
     def names(self, other):
         """The names that the page uses and doesn't define."""
         groups, renamed = defaultdict(set), set()
         for name, one in self.uses:
             short = name.split(".")[-1]
-            if short != one.name and not (isinstance(one, Definition) and short in one.constructors):
+            if short not in (one.name, *one.constructors):
                 renamed.add((name, one))
             if one not in self.defined:
                 where = f"[{other.path.name}]({other.path.name})" if one in other.defined else source_of(one)
@@ -191,8 +183,7 @@ class Page:
 
 
 def source_of(one):
-    source = one.source if isinstance(one, Leaf) else f"`{one.file}`"
-    return re.sub(r"`crates/([^`]+)`", r"[\1](../../crates/\1)", source)
+    return re.sub(r"`crates/([^`]+)`", r"[\1](../../crates/\1)", one.source)
 
 
 # ---- the crates that a reader can change
@@ -239,19 +230,18 @@ class Copies:
         that they use, and stand-ins for definitions of the source itself."""
         imports, code = defaultdict(list), "\n".join(one.code for one in ones)
         used = {name: it for one in ones for name, it in one.cites().items()}
-        for _, path, listed, short in USE.findall(file.read_text()):
-            for name, it in used.items() if short else ():
-                if name.startswith(f"{short}."):
-                    imports[f"{self.path}.{self.stand_in(it)} as {short}"] = []
-            for name, own in names_in(listed):
-                one = used.get(own)
-                base = one and self.stand_in(one) or isinstance(one, Definition) and self.base_of(one.file)
-                if one or not USED.fullmatch(name) and is_in(name, code):
-                    imports[f"{self.path}.{base}" if base else path].append(
-                        name if name == own else f"{name} as {own}")
-        for name, one in sorted(used.items(), key=lambda it: it[0]):
-            if isinstance(one, Definition) and one.file == file and self.stand_in(one):
-                imports[f"{self.path}.{self.stand_in(one)}"].append(name)
+        scope = scope_of(file.read_text())
+        for own, (path, name) in scope.items():
+            one = used.get(own)
+            if not name:
+                stands = {self.stand_in(it) for as_used, it in used.items() if as_used.startswith(f"{own}.")}
+                imports |= {f"{self.path}.{it} as {own}": [] for it in stands}
+            elif one or not USED.fullmatch(name) and is_in(name, code):
+                base = one and (self.stand_in(one) or one.file and self.base_of(one.file))
+                imports[f"{self.path}.{base}" if base else path].append(name if name == own else f"{name} as {own}")
+        for name in sorted(used.keys() - scope.keys()):
+            if base := used[name].file == file and self.stand_in(used[name]):
+                imports[f"{self.path}.{base}"].append(name)
         uses = [f"use {path}" + (f".{{{', '.join(items)}}}" if items else "") for path, items in imports.items()]
         head = f"-- A copy from {file}, which tools/check/headline.py writes."
         return "\n\n".join(["\n".join([head, *uses]), *(one.whole() for one in ones)]) + "\n"
@@ -265,9 +255,8 @@ class Copies:
     def strange(self):
         """Files that are neither by hand nor copies."""
         known = [*BY_HAND, "Lib", *map(self.base_of, self.copied)]
-        for path in (it for it in self.specs.glob("*.antt") if it.stem not in known):
-            yield path
-            print(f"{path}: it is a copy of nothing that the pages reach")
+        return [f"{it}: it is a copy of nothing that the pages reach" for it in self.specs.glob("*.antt")
+                if it.stem not in known]
 
 
 # ---- what is wrong
@@ -278,8 +267,11 @@ def faults_of(page, other, index):
     spec = " ".join((FOLDER / "SPEC.md").read_text().split())
     for it in {*page.defined}.intersection(other.defined):
         yield f"{other.path}: {it.name} of {it.file} stands on {page.path}, too"
-    yield from (f"{it.path}: docs/proof/SPEC.md does not say: {quote}" for it in (page, other) for quote in it.quotes()
-                if quote not in spec)
+    for it in (page, other):
+        for lines in re.findall(r"(?m)(?:^>.*\n)+", it.text):
+            quote = " ".join(re.sub("(?m)^>", "", lines).split())
+            if quote not in spec:
+                yield f"{it.path}: docs/proof/SPEC.md does not say: {quote}"
     yield from (f"{other.path}: {it}" for it in other.early())
     every, of_list = reached_by_run()
     for it in every.difference(page.defined, other.defined):
@@ -290,7 +282,7 @@ def faults_of(page, other, index):
         if it.owner[1] not in exported(it.owner[0]):
             yield f"the contract of `run` reaches {it.name} of {it.source}, which isn't exported"
     legend = page.text.partition("\n## 2.")[2].partition("\n## 3.")[0]
-    for name in sorted(it.name for _, it in page.uses if isinstance(it, Leaf) and it.source == "the standard library"):
+    for name in sorted(it.name for _, it in page.uses if it.source == "the standard library"):
         if not re.search(rf"\b{name}\b", legend):
             yield f"{page.path}: section 2 doesn't say what {name} is"
     top = reached_from_paths(LIST[:1], lambda one: one not in page.defined)
@@ -306,14 +298,12 @@ def faults_of(page, other, index):
 def main(option=""):
     """Renews or compares the pages and the copies, prints what is wrong, and returns the status."""
     page, other, index = pages = [Page(it) for it in ("HEADLINE", "REPORTS", "DEFINITIONS")]
-    wrong = [*faults_of(*pages)]
+    copies = [Copies(*it) for it in COPIES.items()]
+    wrong = [*faults_of(*pages), *(it for one in copies for it in one.strange())]
     print(*wrong, sep="\n", end="\n" if wrong else "")
     texts = {it.path: it.renewed(other if it is page else page) for it in pages}
-    for crate, ends in COPIES.items():
-        copies = Copies(crate, ends)
-        texts |= copies.texts()
-        wrong += copies.strange()
-    kept = [script.keep(path, text, bool(option), "tools/check/headline.py") for path, text in texts.items()]
+    texts |= {path: text for one in copies for path, text in one.texts().items()}
+    kept = [script.keep(*it, bool(option), "tools/check/headline.py") for it in texts.items()]
     return int(bool(option and private.main()) or bool(wrong) or any(kept))
 
 

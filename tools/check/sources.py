@@ -116,6 +116,10 @@ class Clause:
     text: str
     owner = None
 
+    @property
+    def source(self):
+        return f"`{self.file}`"
+
     def cites(self):
         return cited(self.file, self.text)
 
@@ -230,13 +234,12 @@ def functions(text):
 
 # ---- the graph of definitions
 
-# a name, perhaps after that of a module; a variable; what binds variables, and fields
+# a name, perhaps after that of a module; a variable; where variables and fields are named: before a colon, as
+# a field that is given or after `let`, after a `λ`, and on the left of an equation
 USED = re.compile(r"(?<![\w.'])(?:([A-Za-z_]\w*)\.)?([A-Za-z_][\w'-]*)")
 VARIABLE = r"(?<![\w.'])[a-z_]\w*'?"
-BINDERS = [
-    r"[({]((?:[a-z_]\w*'?\s+)*[a-z_]\w*'?) :(?! Type 0 where)", r"λ ([^.:]*)[^.]*\.", r"(?m)^  pub ([a-z_]\w*) :",
-    r"\blet ([a-z_]\w*)", r"[{;]\s*([a-z_]\w*) =(?!=)", r"(?m)^  ([a-z_]\w*) = .*;$",
-]
+BINDERS = (rf"((?:{VARIABLE} )*{VARIABLE}) :", rf"(?m)(?:[{{;]\s*|\blet |^  )({VARIABLE}) =(?!=)", r"λ ([^.:]*)",
+           r"(?m)^\w\S* ([^=\n]*) =(?!=)")
 
 
 @dataclasses.dataclass(frozen=True)
@@ -247,6 +250,7 @@ class Leaf:
     name: str
     source: str
     owner: tuple | None = None
+    file, constructors = None, ()
 
     def cites(self):
         return {}
@@ -289,11 +293,9 @@ def place(path, name):
 
 
 def bound_in(text, known):
-    """The variables and fields of a definition."""
+    """The variables and fields of a definition; a constructor, which may stand where they do, is none."""
     bound = {name for rule in BINDERS for group in re.findall(rule, text) for name in re.findall(VARIABLE, group)}
-    lefts = re.findall(r"(?m)^[a-z_A-Z]\w*'? ([^=\n]*?) =(?!=)", text)
-    found = {name for left in lefts for name in re.findall(VARIABLE, left)}
-    return bound | {it for it in found if it not in getattr(known.get(it), "constructors", ())}
+    return {it for it in bound if it not in getattr(known.get(it), "constructors", ())}
 
 
 @functools.cache
