@@ -13,16 +13,13 @@ import re
 from case_files import DATA, case_of, chosen_cases, moderate_sizes
 from sources import CRATES, product_files
 
-# each kind of names, and its tables: those of a file of src/ and one of specs/, and what a row of each looks like
+# the tables: of what kind the names of one are, its file in src/ or specs/, and what a row looks like
 TABLES = {
-    "option": {
-        "gomod_words/src/table.rt": r' row!\("([\w-]+)", Form::[^,]+, false,',
-        "gomod_words/specs/Table.antt": r'^rule_for a\.\w+ = (?:default_)?(?:option|flag)_rule \(codes "([\w-]+)"',
-    },
-    "operation": {
-        "gm_operation/src/kind.rt": r'^ +"(\w+)" => Some\(OperationKind::',
-        "gm_operation/specs/Operations.antt": r'\(codes "(\w+)", op\.',
-    },
+    ("option", "gomod_words/src/table.rt"): r' row!\("([\w-]+)", Form::[^,]+, false,',
+    ("option", "gomod_words/specs/Table.antt"):
+        r'^rule_for a\.\w+ = (?:default_)?(?:option|flag)_rule \(codes "([\w-]+)"',
+    ("operation", "gm_operation/src/kind.rt"): r'^ +"(\w+)" => Some\(OperationKind::',
+    ("operation", "gm_operation/specs/Operations.antt"): r'\(codes "(\w+)", op\.',
 }
 HELP, HINTS = "gomod_words/src/help.rt", "gomod_hints/src/hints.rt"
 # what stands for a word in the command that a tip shows
@@ -52,10 +49,11 @@ def wrong_names(names):
     for file in (str(it.relative_to(CRATES)) for it in sources):
         found = names.keys() & named_in(file) if file != HINTS else set()
         for pattern in (it for it in OTHERWISE if re.fullmatch(it, file)):
-            unused -= {pattern} if found & set(OTHERWISE[pattern].split()) else set()
-            found -= set(OTHERWISE[pattern].split())
+            allowed = found.intersection(OTHERWISE[pattern].split())
+            unused -= {pattern} if allowed else set()
+            found -= allowed
         yield from (f"{file}: {names[it]} '{it}' is named outside of its tables" for it in sorted(found)
-                    if file not in TABLES[names[it]])
+                    if (names[it], file) not in TABLES)
     yield from (f"tools/check/names.py: {it} has no such word" for it in unused)
 
 
@@ -97,8 +95,7 @@ def wrong_hints():
 
 def keep(tally):
     """Looks at all names."""
-    rows = {(kind, table): collections.Counter(re.findall(f"(?m){row}", read(table)))
-            for kind, tables in TABLES.items() for table, row in tables.items()}
+    rows = {it: collections.Counter(re.findall(f"(?m){row}", read(it[1]))) for it, row in TABLES.items()}
     names = {name: kind for (kind, _), found in rows.items() for name in found}
     for wrong in [*wrong_names(names), *wrong_rows(rows, names), *wrong_hints()]:
         tally.tell("options and operations", False, wrong)

@@ -28,14 +28,14 @@ CHECKS = "checks"  # stands for a law: what the check of a crate says of each of
 
 @dataclasses.dataclass
 class Sentence:
-    """A sentence, where it stands, its laws, and the checksums, or none, with the file and the line that has them."""
+    """A sentence, its place, its laws, its checksums, or none, and the file and the line that have or get them."""
 
-    file: str
-    number: int
     text: str
+    place: str
     laws: list
     sums: tuple
-    at: tuple | None
+    file: str
+    at: int
 
     def now(self):
         return checksum(self.text), checksum("\n".join(map(statement, self.laws)))
@@ -86,7 +86,7 @@ def statement(name):
 
 def changed(one):
     """The definitions that the laws of a sentence reach and that aren't as they were when its comment was written."""
-    commit = git("log", "-1", "--format=%H", f"-S{' '.join(one.sums)}", "--", one.at[0]) or "HEAD"
+    commit = git("log", "-1", "--format=%H", f"-S{' '.join(one.sums)}", "--", one.file) or "HEAD"
     before = functools.cache(lambda file: definitions_in(file, git("show", f"{commit}:{file}") + "\n"))
     for it in dict.fromkeys(it for name in one.laws for it in reached(name)):
         old = before(it.file).get(it.name)
@@ -106,22 +106,21 @@ def lines_of(file):
 
 def sentences():
     """The sentences that are or should be bound."""
-    asides = iter(enumerate(lines_of(ASIDE)))
+    asides = enumerate(lines_of(ASIDE))
     for file, sections in SECTIONS.items():
-        lines, is_inside = lines_of(file), False
+        lines, heading = lines_of(file), ""
         for number, line in enumerate(lines, 1):
-            if line.startswith("## "):
-                is_inside = line[3:] in sections
-            elif is_inside and re.match(r"\s*- ", line):
-                text = line.split("- ", 1)[1]
-                here = file, number, "".join(lines[number:][:1])
-                place = (ASIDE, *next(asides, (0, ""))) if file == README else here
-                bound = BOUND.fullmatch(place[2])
-                named = [] if file == README else re.findall(r"`((?:\w+::)*[a-z]\w+)`", text)
-                laws = [it for it in dict.fromkeys(named) if law(it)] or (re.split(r",? +", bound[1]) if bound else [])
-                if laws or file == README:
-                    yield Sentence(file, number, text, laws, bound.groups()[1:] if bound else ("", ""),
-                                   place[:2] if bound else None)
+            heading = line[3:] if line.startswith("## ") else heading
+            found = re.match(r"\s*- (.*)", line) if heading in sections else None
+            if found:
+                is_aside, named = file == README, re.findall(r"`((?:\w+::)*[a-z]\w+)`", found[1])
+                at, row = next(asides, (0, "")) if is_aside else (number, "".join(lines[number:][:1]))
+                bound = BOUND.fullmatch(row)
+                laws = [it for it in dict.fromkeys(named) if law(it) and not is_aside]
+                laws = laws or (re.split(",? +", bound[1]) if bound else [])
+                if laws or is_aside:
+                    yield Sentence(found[1], f"{file}:{number}", laws, bound.groups()[1:] if bound else (),
+                                   ASIDE if is_aside else file, at)
 
 
 def keep(tally):
@@ -132,16 +131,16 @@ def keep(tally):
 
 def judged(one):
     """Whether the checksums of a sentence are right, and what is wrong."""
-    place = f"{one.file}:{one.number}"
     unknown = [it for it in one.laws if it != CHECKS and law(it) is None]
-    if unknown or not one.laws or one.at is None:
+    if unknown or not one.sums:
         what = f"bound to {unknown[0]}, which is no law" if unknown else "bound to no law"
-        return False, f"{place}: a sentence is {what}; tools/check/documents.py --accept: {one.text[:80]}"
+        return False, f"{one.place}: a sentence is {what}; tools/check/documents.py --accept: {one.text[:80]}"
     now = one.now()
     what = " and ".join(it for it, old, new in zip(("the sentence", "its law"), one.sums, now) if old != new)
     more = changed(one) if now[1] != one.sums[1] else ()
     accept = f"tools/check/documents.py --accept {one.laws[0]}"
-    return now == one.sums, "\n".join([f"{place}: {what} changed; if they say the same, {accept}:", f"  {one.text}", *more])
+    told = f"{one.place}: {what} changed; if they say the same, {accept}:"
+    return now == one.sums, "\n".join([told, f"  {one.text}", *more])
 
 
 def accept(names):
@@ -152,13 +151,12 @@ def accept(names):
         if not one.laws or not (mine or names == {"all"}):
             continue
         used |= mine
-        file, at = one.at or (one.file, one.number)
-        lines, row = lines_of(file), f"{', '.join(one.laws)}: {' '.join(one.now())}"
-        if file == one.file:
-            row = f"{re.match(' *', lines[one.number - 1])[0]}  <!-- bound to {row} -->"
-        lines[at: at + (one.at is not None)] = [row]
-        write(file, "\n".join(lines))
-        print(f"{one.file}:{one.number}: {one.text[:100]}")
+        lines, row = lines_of(one.file), f"{', '.join(one.laws)}: {' '.join(one.now())}"
+        if one.file != ASIDE:
+            row = f"{re.match(' *', lines[one.at - 1])[0]}  <!-- bound to {row} -->"
+        lines[one.at: one.at + bool(one.sums)] = [row]
+        write(one.file, "\n".join(lines))
+        print(f"{one.place}: {one.text[:100]}")
     for name in sorted(names - used):
         print(f"documents: no sentence is bound to {name}", file=sys.stderr)
     return bool(names - used)
