@@ -9,7 +9,6 @@ import os
 import pathlib
 import re
 import resource
-import shutil
 import subprocess
 import sys
 import tempfile
@@ -34,31 +33,16 @@ def program_of(words):
         if not (os.path.isfile(words[1]) and os.access(words[1], os.X_OK)):
             misused("--program takes an executable file")
         return os.path.realpath(words[1]), words[2:]
-    need_gomod()
+    shared("need_gomod")
     return os.path.realpath("bin/gomod"), words
 
 
 def shared(function):
-    """What a function of tools/lib.sh prints."""
-    words = ["bash", "-c", '. tools/lib.sh; "$1"', SCRIPT, function]
-    return subprocess.run(words, stdout=subprocess.PIPE, check=True, text=True).stdout.strip()
-
-
-def need_gomod():
-    """Ends if there is no bin/gomod, and warns if that is older than a source."""
-    try:
-        shared("need_gomod")
-    except subprocess.CalledProcessError:
+    """What a function of lib.sh prints, which says why if it fails."""
+    done = subprocess.run(["bash", "-c", '. tools/lib.sh; "$1"', SCRIPT, function], stdout=subprocess.PIPE, text=True)
+    if done.returncode:
         sys.exit(1)
-
-
-def real_go(command):
-    """The path of a go command, and its version."""
-    found = shutil.which(command)
-    if not found:
-        sys.exit(f"{NAME}: there is no command '{command}': install go, or name one with --go")
-    real = os.path.realpath(found)
-    return real, subprocess.run([real, "version"], capture_output=True, text=True, check=True).stdout.strip()
+    return done.stdout.strip()
 
 
 def git(*words, top="."):
@@ -157,30 +141,6 @@ class Tally(collections.Counter):
         for kind in dict.fromkeys(kind for kind, _ in self):
             print(f"{kind}: {self[kind, True]} right, {self[kind, False]} wrong")
         return int(any(self[kind, is_right] for kind, is_right in self if not is_right))
-
-
-class Trial:
-    """A program whose runs are judged."""
-
-    def __init__(self, program):
-        self.program, self.runs, self.wrong = program, 0, 0
-
-    def start(self, line, **given):
-        """Starts a command line, whose report is read here."""
-        return subprocess.Popen([self.program, *line.split()], stderr=subprocess.PIPE, **given)
-
-    def judge(self, what, got, is_right):
-        """Counts a run, and prints it if it is wrong, each part of what came cut to 300 characters."""
-        self.runs += 1
-        if not is_right:
-            self.wrong += 1
-            parts = got if isinstance(got, (list, tuple)) else [got]
-            print(what, *(f"  {str(it)[:300]}" for it in parts), sep="\n", flush=True)
-
-    def status(self, what):
-        """Prints the counts of these runs, and returns the status."""
-        print(f"{self.runs} {what}, {self.wrong} wrong")
-        return int(self.wrong > 0)
 
 
 def checksum(text):

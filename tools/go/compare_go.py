@@ -587,10 +587,19 @@ def check(real, version, is_checked=True):
     return tally.status()
 
 
+def real_go(command):
+    """The path of a go command, and its version."""
+    found = shutil.which(command)
+    if not found:
+        sys.exit(f"{script.NAME}: there is no command '{command}': install go, or name one with --go")
+    real = os.path.realpath(found)
+    return real, subprocess.run([real, "version"], capture_output=True, text=True, check=True).stdout.strip()
+
+
 def go_of(version):
     """The go command of this version, if there is one."""
     found = [it for it in (shutil.which("go"), "/usr/lib/go-1.19/bin/go") if it and os.path.exists(it)]
-    return next((it for it in found if script.real_go(it)[1] == version), "")
+    return next((it for it in found if real_go(it)[1] == version), "")
 
 
 def main(*words):
@@ -605,11 +614,11 @@ def main(*words):
                 print(f"skipped, for want of {version}: comparisons beside go")
             return check(real, version)
         case ["--record", command]:
-            return check(*script.real_go(command), False)
+            return check(*real_go(command), False)
         case ["--check" | "--record", *_]:
             script.misused("--check takes nothing, --record the name of a go command")
     asked = parsed(words)
-    go, version = script.real_go(asked.go)
+    go, version = real_go(asked.go)
     print(version)
     return compare(Programs(go), asked)
 

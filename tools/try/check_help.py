@@ -235,7 +235,7 @@ def run_examples():
 
 def main():
     """Compares each file, prints what was compared, and returns the status."""
-    script.need_gomod()
+    script.shared("need_gomod")
     commands, wanted = from_help()
     in_synopsis, listed_commands, listed_options = from_man()
     wrong = compare(MAN, "SYNOPSIS and OPERATIONS", wanted, in_synopsis)

@@ -263,7 +263,7 @@ def main(*names):
     if is_archive:
         os.chdir(f"{names[1]}/share/doc/gomod")
     else:
-        script.need_gomod()
+        script.shared("need_gomod")
     names, has_sources = () if is_archive else names[is_quick:], os.path.isdir("crates")
     for name in names or ["README.md", "CHANGELOG.md", *sorted(glob.glob("docs/**/*.md", recursive=True))]:
         text = read(name)
