@@ -4,12 +4,8 @@
 #   . tools/lib.sh
 
 # The script itself: its path from here. Its own name may be one from another folder.
-case $0 in
-  *build) self=./build ;;
-  *run) self=.ci/run ;;
-  *) for self in {tools/*,bench}/"${0##*/}"; do [ ! -e "$self" ] || break; done ;;
-esac
-own_name=${self##*/} own_name=${own_name%.*}
+for self in ./build .ci/run {tools/*,bench}/*; do [ "${self##*/}" != "${0##*/}" ] || break; done
+own_name=${0##*/} own_name=${own_name%.*}
 
 # Prints the head comment of the script, and ends, if one of its arguments is -h or --help.
 begin_script() {
@@ -33,20 +29,17 @@ misused() {
   exit 2
 }
 
-# Prints a file that is newer than bin/gomod and that the program may be made of, if there is one.
-newer_source() {
-  find crates crates.txt \( -name out -o -name must-fail -o -name '*.md' \) -prune -o \
-    -type f -newer bin/gomod -print -quit
-}
+# Finds those of the files that the program may be made of for which these words of `find` hold.
+find_sources() { find crates crates.txt \( -name out -o -name must-fail -o -name '*.md' \) -prune -o -type f "$@"; }
+
+# Prints one that is newer than bin/gomod, if there is one.
+newer_source() { find_sources -newer bin/gomod -print -quit; }
 
 # Whether bin/gomod is newer than every file that it is made of.
 is_built() { [ -x bin/gomod ] && [ -z "$(newer_source)" ]; }
 
 # Prints the names of the files that unproved programs are made of, with a NUL after each. Proofs aren't read.
-program_sources() {
-  find crates crates.txt \( -name out -o -name must-fail -o -name data -o -name proofs -o -name '*.md' \) -prune -o \
-    -type f -print0
-}
+program_sources() { find_sources ! -path '*/data/*' ! -path '*/proofs/*' -print0; }
 
 # Prints the checksum of all that an unproved program is made of, but for the toolchain.
 checksum_of_program() {
@@ -119,19 +112,16 @@ processors() {
   ' "${quota:-/dev/null}"
 }
 
-# Says what something that needs the toolchain, so many MB of memory and so many of disk lacks here, or nothing.
-lacking() {
+# Refuses what the first argument says if it lacks here the toolchain, so many MB of memory or so many of disk.
+need_room() {
   local memory disk
   memory=$(free_memory_mb) disk=$(free_disk_mb)
-  if [ "$(uname -sm)" != "Linux x86_64" ]; then
-    echo "x86-64 Linux, where the toolchain of Rattle runs, and this is $(uname -sm)"
-  elif ! command -v rt > /dev/null; then
-    echo "the command rt: install the toolchain of Rattle and put its bin/ on the PATH"
-  elif [ "$memory" -lt "$1" ]; then
-    echo "$1 MB of memory, and $memory MB are free here"
-  elif [ "$disk" -lt "$2" ]; then
-    echo "$2 MB of disk, and $disk MB are free"
-  fi
+  [ "$(uname -sm)" = "Linux x86_64" ] ||
+    refuse "$1 needs x86-64 Linux, where the toolchain of Rattle runs, and this is $(uname -sm)"
+  command -v rt > /dev/null ||
+    refuse "$1 needs the command rt: install the toolchain of Rattle and put its bin/ on the PATH"
+  [ "$memory" -ge "$2" ] || refuse "$1 needs $2 MB of memory, and $memory MB are free here"
+  [ "$disk" -ge "$3" ] || refuse "$1 needs $3 MB of disk, and $disk MB are free"
 }
 
 # Whether a command of rt was killed, or what it said, in the file of the second argument, has that of what it started.
@@ -164,11 +154,11 @@ install_files() {
 644 share/completions/gomod.bash share/bash-completion/completions/gomod
 644 share/completions/_gomod share/zsh/site-functions/_gomod
 644 share/completions/gomod.fish share/fish/vendor_completions.d/gomod.fish
-644 README.md share/doc/gomod/README.md
-644 CHANGELOG.md share/doc/gomod/CHANGELOG.md
 FILES
-  rm -rf "$documents/docs" "$documents/example"
-  cp -r docs example "$documents"
-  echo "$documents/docs"
-  echo "$documents/example"
+  mkdir -p "$documents"
+  for from in README.md CHANGELOG.md docs example; do
+    rm -rf "${documents:?}/$from"
+    cp -r "$from" "$documents"
+    echo "$documents/$from"
+  done
 }

@@ -17,7 +17,7 @@ begin_script "$@"
 
 work=$(mktemp -d)
 trap 'rm -rf "$work"' EXIT
-readonly TOP=$work/top MACHINE=$work/machine DATA=crates/run_cases/data
+readonly FROM=$PWD TOP=$work/top MACHINE=$work/machine DATA=crates/run_cases/data
 readonly PROVED='echo "gomod 1.0 (Rattle, logic 0123456789abcdef)" # GLIBC_2.34'
 export PATH=$work/path:$PATH GOMOD_MACHINE=$MACHINE
 wrong=0 compared=0
@@ -32,55 +32,54 @@ same() {
   wrong=$((wrong + 1))
 }
 
-# Runs a command in the scratch repository, and compares its status, a colon, its output and its errors with a pattern.
-# It may take 300 seconds of CPU time.
+# Runs a command, and compares its status, a colon, its output and its errors with a pattern. It may take 300 seconds of
+# CPU time.
 ends() {
   local status=0
-  (cd "$TOP" && ulimit -t 300 && exec "${@:2}") > "$work/output" 2> "$work/errors" || status=$?
+  (ulimit -t 300 && exec "${@:2}") > "$work/output" 2> "$work/errors" || status=$?
   same "${*:2}" "$1" "$status:$(cat "$work/output" "$work/errors")"
 }
 
-# Lays a program of these lines below the scratch folder.
+# Lays a program of these lines.
 lay() {
-  mkdir -p "$(dirname "$work/$1")"
-  printf '#!/usr/bin/env bash\n%s\n' "$2" > "$work/$1"
-  chmod +x "$work/$1"
+  mkdir -p "$(dirname "$1")"
+  printf '#!/usr/bin/env bash\n%s\n' "$2" > "$1"
+  chmod +x "$1"
 }
 
 # Makes a command rt, which leaves a file, and then does what is said.
 make_rt() {
   rm -f "$work/called"
-  lay path/rt "touch '$work/called'"$'\n'"$1"
+  lay "$work/path/rt" "touch '$work/called'"$'\n'"$1"
 }
 
 calls_no_rt() { same "$1 calls no rt" "" "$(find "$work" -name called)"; }
 
 # Whether a record is as wanted: a pattern, or nothing if there must be none.
-leaves() { same "bin/$1" "$2" "$(cat "$TOP/bin/$1" 2> /dev/null || true)"; }
-
-there() { (cd "$TOP" && "$@"); }
-sum_of_gomod() { there sha256sum bin/gomod; }
+leaves() { same "bin/$1" "$2" "$(cat "bin/$1" 2> /dev/null || true)"; }
 
 commit() {
-  there git add .
-  there git -c user.name=x -c user.email=x@example.com commit -qm x
+  git add .
+  git -c user.name=x -c user.email=x@example.com commit -qm x
 }
 
-# Makes the scratch repository anew, whose only crate is gomod, with a program that says it is proved, and all scripts.
-# Those of tools/ that are run only say what .ci/run calls them, but for these.
+# Makes the scratch repository anew, in which all else is done, whose only crate is gomod, with a program that says it is
+# proved, and all scripts. Those of tools/ that are run only say what .ci/run calls them, but for these.
 scratch() {
   local name
+  cd "$FROM"
   rm -rf "$TOP"
   mkdir -p "$TOP/crates/gomod/src" "$TOP/$DATA"
   cp --parents -t "$TOP" "${files[@]}"
+  cd "$TOP"
   for name in tools/*/*; do
-    [ ! -x "$name" ] || [[ " $* " == *" $name "* ]] || lay "top/$name" 'echo "$GATE_CHECK"'
+    [ ! -x "$name" ] || [[ " $* " == *" $name "* ]] || lay "$name" 'echo "$GATE_CHECK"'
   done
-  echo "gomod: std" > "$TOP/crates.txt"
-  touch "$TOP/crates/gomod/src/main.rt"
-  lay top/bin/gomod "$PROVED"
-  lay top/crates/gomod/out/gomod "$PROVED"
-  there git init -q
+  echo "gomod: std" > crates.txt
+  touch crates/gomod/src/main.rt
+  lay bin/gomod "$PROVED"
+  lay crates/gomod/out/gomod "$PROVED"
+  git init -q
   commit
 }
 
@@ -115,7 +114,7 @@ check_words() {
     ends "0:$(sed -n '/^#!/d;s/^"""//;s/"""$//;s/^# //;p;q' "$script")*" "./$script" --help
     [[ $script == example/* ]] || ends "2:*" "./$script" --nosuch
   done
-  same "what --help writes" "" "$(there git status --porcelain)"
+  same "what --help writes" "" "$(git status --porcelain)"
   calls_no_rt "--help"
   ends "1:sources: ?Errno 28? No space left*" bash -c "tools/check/sources.py gomod > /dev/full"
 }
@@ -130,7 +129,7 @@ check_limits() {
   ends "0:5000"$'\n'"$(nproc)" "${limits[@]}"
   rm "$MACHINE/proc/self/cgroup"
   ends "0:5000"$'\n'"$(nproc)" "${limits[@]}"
-  ends "0:9001 MB of disk, and 9000 MB are free" bash -c '. tools/lib.sh; lacking 5000 9001'
+  ends "1:bash: x needs 9001 MB of disk, and 9000 MB are free" bash -c '. tools/lib.sh; need_room x 5000 9001'
 }
 
 # Compares why the scripts that need the toolchain don't start with this PATH.
@@ -143,8 +142,8 @@ refuse_to_start() {
 check_refusals() {
   local without=$work/without folder
   scratch tools/release/unproved.sh
-  rm "$TOP/bin/gomod"
-  echo before > "$TOP/bin/gate.txt"
+  rm bin/gomod
+  echo before > bin/gate.txt
   machine 9000
   # all commands but rt
   mkdir "$without"
@@ -177,7 +176,7 @@ tools/try/faults.py
 tools/try/doubling.py
 tools/release/release.sh
 1 passed, 0 failed" .ci/run
-  leaves gate.txt $'1 passed, 0 failed\n'"$(sum_of_gomod)"
+  leaves gate.txt $'1 passed, 0 failed\n'"$(sha256sum bin/gomod)"
   machine 5900
   make_rt 'echo "rt: gomod: the program was stopped by signal 9"; echo "0 passed, 1 failed"; exit 1'
   ends "1:*0 passed, 1 failed
@@ -191,11 +190,11 @@ tools/release/release.sh
 # names.
 quick() {
   local before
-  lay top/tools/release/unproved.sh "$2"
-  lay top/tools/try/readme.py "$3"
-  before=$(find "$TOP/bin" -type f -printf '%p %T@\n')
+  lay tools/release/unproved.sh "$2"
+  lay tools/try/readme.py "$3"
+  before=$(find bin -type f -printf '%p %T@\n')
   ends "$1; nothing was proved" .ci/run --quick "${@:4}"
-  same ".ci/run --quick leaves bin/ as it was" "$before" "$(find "$TOP/bin" -type f -printf '%p %T@\n')"
+  same ".ci/run --quick leaves bin/ as it was" "$before" "$(find bin -type f -printf '%p %T@\n')"
 }
 
 check_quick() {
@@ -213,13 +212,13 @@ run: tools/release/unproved.sh --both run_cases failed, *5 checks passed, 1 fail
   ends "2:run: --quick has no check 'x'*" .ci/run --quick x
   make_rt 'echo x >> src/main.rt'
   quick "1:*run: layout failed*" "$can" "" layout
-  lay top/tools/release/unproved.sh "echo \$\$ > '$work/begun'; sleep 60; touch '$work/finished'"
-  (cd "$TOP" && exec .ci/run --quick > /dev/null) &
+  lay tools/release/unproved.sh "echo \$\$ > '$work/begun'; sleep 60"
+  .ci/run --quick > /dev/null &
   until [ -s "$work/begun" ] || ! kill -0 $! 2> /dev/null; do sleep 0.1; done
   kill $! || true
   wait $! || true
   same "a signal ends what .ci/run --quick has begun" "" \
-    "$(find "$work" -name finished && ps -o stat= -p "$(cat "$work/begun")" | grep -v ^Z)"
+    "$(ps -o stat= -p "$(cat "$work/begun")" | grep -v ^Z)"
   machine 2400
   ends "1:run: --quick needs 2500 MB of memory, and 2400 MB are free here" .ci/run --quick
 }
@@ -227,20 +226,20 @@ run: tools/release/unproved.sh --both run_cases failed, *5 checks passed, 1 fail
 check_unproved() {
   scratch tools/release/unproved.sh tools/release/release.sh
   ends "1:unproved: $TOP/program is in the repository*" tools/release/unproved.sh "$TOP/program"
-  lay top/bin/gomod "$PROVED of other sources"
+  lay bin/gomod "$PROVED of other sources"
   ends "1:build: bin/gomod isn't the program that the last proof left*" ./build --install "$work/installed"
-  lay top/bin/gomod 'echo "gomod 1 (Rattle, nothing is proved)"'
-  cp "$TOP/bin/gomod" "$TOP/crates/gomod/out"
+  lay bin/gomod 'echo "gomod 1 (Rattle, nothing is proved)"'
+  cp bin/gomod crates/gomod/out
   ends "1:build: bin/gomod isn't the program that the last proof left*" ./build --install "$work/installed"
   ends "1:release: bin/gomod isn't the program that the last proof left*" tools/release/release.sh "$work/released"
   ends "1:release: bin/gomod isn't proved: its version is 'gomod 1 (Rattle, nothing is proved)'" \
     tools/release/release.sh --check
   same "what was refused was not installed" "" "$(find "$work" -name installed -o -name released)"
-  lay top/bin/gomod "$PROVED"
-  cp "$TOP/bin/gomod" "$TOP/crates/gomod/out"
-  touch -d "1 hour" "$TOP/crates/gomod/PROOFS.md"
+  lay bin/gomod "$PROVED"
+  cp bin/gomod crates/gomod/out
+  touch -d "1 hour" crates/gomod/PROOFS.md
   ends "0:$work/installed/bin/gomod*/example" ./build --install "$work/installed"
-  touch -d "1 hour" "$TOP/crates/gomod/src/main.rt"
+  touch -d "1 hour" crates/gomod/src/main.rt
   ends "0:*build: bin/gomod is older than*" ./build --install "$work/installed"
   same "what is installed" "$PROVED CHANGELOG.md README.md docs example" \
     "$(tail -n 1 "$work/installed/bin/gomod") $(cd "$work/installed/share/doc/gomod" && echo *)"
@@ -248,7 +247,7 @@ check_unproved() {
 
 # Compares how tools/try/refuse-memory.sh ends where each call of tools/try/program.sh does this, and its record.
 refuse_memory() {
-  lay top/tools/try/program.sh "echo \"\$REFUSE_LATER:\$#:\$*\"; $1"
+  lay tools/try/program.sh "echo \"\$REFUSE_LATER:\$#:\$*\"; $1"
   ends "$2" tools/try/refuse-memory.sh "${@:4}"
   leaves refused.txt "$3"
 }
@@ -257,15 +256,15 @@ check_refused_memory() {
   local passes='echo "2 passed, 0 failed, 30 runs with an allocation refused"' head
   scratch tools/try/refuse-memory.sh
   refuse_memory "" "1:refuse-memory: there is no case 'selection.txt: The*" "" --check
-  cp "$DATA"/*.txt "$TOP/$DATA"
-  mkdir -p "$TOP/crates/run_cases/out" "$TOP/docs/proof"
-  "${CC:-cc}" -x c -o "$TOP/crates/run_cases/out/run_cases" - <<< 'int main(void) { return 0; }'
-  echo "at 01234567 none of 1,234 runs was wrong" > "$TOP/docs/proof/PROVED.md"
+  cp "$FROM/$DATA"/*.txt $DATA
+  mkdir -p crates/run_cases/out docs/proof
+  "${CC:-cc}" -x c -o crates/run_cases/out/run_cases - <<< 'int main(void) { return 0; }'
+  echo "at 01234567 none of 1,234 runs was wrong" > docs/proof/PROVED.md
   refuse_memory "$passes" "0:yes:*:$DATA/chains.txt *calls of libraries, 1 runs" "" --check
   commit
-  head=$(there git rev-parse HEAD)
-  refuse_memory "$passes" "0:*" "61 runs, none wrong, on $(date -u +%F) at commit $head"$'\n'"$(sum_of_gomod)"
-  same "PROVED.md" "at ${head:0:8} none of 61 runs was wrong" "$(cat "$TOP/docs/proof/PROVED.md")"
+  head=$(git rev-parse HEAD)
+  refuse_memory "$passes" "0:*" "61 runs, none wrong, on $(date -u +%F) at commit $head"$'\n'"$(sha256sum bin/gomod)"
+  same "PROVED.md" "at ${head:0:8} none of 61 runs was wrong" "$(cat docs/proof/PROVED.md)"
   refuse_memory 'exit 1' "1:*2 failures*" ""
   refuse_memory 'echo "# x" >> bin/gomod' "1:*refuse-memory: bin/gomod isn't the program that it was at the start" ""
   CC=no-cc refuse_memory "" "1:refuse-memory: there is no command no-cc*" ""
@@ -274,7 +273,7 @@ check_refused_memory() {
 # Compares how tools/try/program.sh ends where tools/try/program.py prints this line and ends with this status, and its
 # record.
 program() {
-  printf 'import sys\nprint("%s")\nsys.exit(%d)\n' "$1" "$2" > "$TOP/tools/try/program.py"
+  printf 'import sys\nprint("%s")\nsys.exit(%d)\n' "$1" "$2" > tools/try/program.py
   ends "$2:$1" tools/try/program.sh "${@:4}"
   leaves opened.txt "$3"
 }
@@ -282,12 +281,12 @@ program() {
 check_opened() {
   local passes="2 passed, 0 failed, 5 commands open nothing else" head
   scratch tools/try/program.sh
-  head=$(there git rev-parse HEAD)
+  head=$(git rev-parse HEAD)
   program "$passes" 0 "" a.txt
   program "$passes" 0 "5 commands, none opens more than it names, on $(date -u +%F) at commit $head with changes
-$(sum_of_gomod)"
+$(sha256sum bin/gomod)"
   program "2 passed, 0 failed; what they open was not looked at" 0 ""
-  echo before > "$TOP/bin/opened.txt"
+  echo before > bin/opened.txt
   program "$passes" 1 ""
 }
 
@@ -297,31 +296,31 @@ refuses() { ends "1:release: $1" tools/release/release.sh "$work/released" --gat
 check_release() {
   local records='' name right
   scratch tools/release/release.sh
-  lay top/tools/try/readme.py ""
-  printf '%s\n' "glibc 2.34" "## Try it" "## When to use it" > "$TOP/README.md"
-  echo "## 1.0 (unreleased)" > "$TOP/CHANGELOG.md"
-  touch "$TOP/x"
+  lay tools/try/readme.py ""
+  printf '%s\n' "glibc 2.34" "## Try it" "## When to use it" > README.md
+  echo "## 1.0 (unreleased)" > CHANGELOG.md
+  touch x
   ends "1:release: there is no bin/gate.txt: run .ci/run*" tools/release/release.sh "$work/released"
-  printf '5 passed, 0 failed\n%s\n' "$(sum_of_gomod | tr 0-9 1-90)" > "$TOP/bin/gate.txt"
+  printf '5 passed, 0 failed\n%s\n' "$(sha256sum bin/gomod | tr 0-9 1-90)" > bin/gate.txt
   ends "1:release: bin/gate.txt is of another program*" tools/release/release.sh "$work/released"
   refuses "this is no gate that passed: '5 passed, 1 failed'" "5 passed, 1 failed"
   refuses "there are changes that aren't committed"
   commit
   for name in refused opened checked mistakes texts; do
     refuses "there is no bin/$name.txt: run tools/*"
-    right=$(sum_of_gomod)
-    case $name in checked | mistakes) right=$(there bash -c '. tools/lib.sh; checksum_of_program') ;; esac
-    printf '%s\n' "of $name" "$(tr 0-9 1-90 <<< "$right")" > "$TOP/bin/$name.txt"
+    right=$(sha256sum bin/gomod)
+    case $name in checked | mistakes) right=$(checksum_of_program) ;; esac
+    printf '%s\n' "of $name" "$(tr 0-9 1-90 <<< "$right")" > "bin/$name.txt"
     refuses "bin/$name.txt is of another program or sources (of $name): run tools/*"
-    printf '%s\n' "of $name" "$right" > "$TOP/bin/$name.txt"
+    printf '%s\n' "of $name" "$right" > "bin/$name.txt"
     records+="*: of $name"
   done
   refuses "CHANGELOG.md begins with '1.0 (unreleased)', and not with '1.0' and its day in brackets"
-  there git tag v1.0
-  echo "## 1.0 (2026-01-02)" > "$TOP/CHANGELOG.md"
+  git tag v1.0
+  echo "## 1.0 (2026-01-02)" > CHANGELOG.md
   commit
-  refuses "the tag v1.0 is at another commit, $(there git rev-parse v1.0)"
-  there git tag -d v1.0 > /dev/null
+  refuses "the tag v1.0 is at another commit, $(git rev-parse v1.0)"
+  git tag -d v1.0 > /dev/null
   ends "0:*gate: 5 passed, 0 failed$records*" tools/release/release.sh "$work/released" --gate "5 passed, 0 failed"
   same "RELEASE.txt" "*$records*" "$(tar -xzOf "$work"/released/*.tar.gz --wildcards '*/RELEASE.txt')"
 }
@@ -329,7 +328,7 @@ check_release() {
 check_build() {
   local how
   scratch
-  rm "$TOP/bin/gomod"
+  rm bin/gomod
   machine 9000
   for how in 'kill -9 $$' 'exit 247' 'echo "clang failed with signal: 9 (SIGKILL)"; exit 1' \
     'echo "rt: the check was killed, most likely for memory: once more"; exit 1'; do
@@ -352,25 +351,25 @@ check_try() {
   scratch
   make_rt "exit 9"
   mkdir "$work/a b"
-  lay tried 'IFS="|"; echo "$PWD|$*"; cat; echo a.mod:2: OpenBlock >&2; exit 3'
-  lay top/tools/release/unproved.sh "echo \"\$1\" >> '$work/compiled'; cp '$work/tried' \"\$2\""
+  lay "$work/tried" 'IFS="|"; echo "$PWD|$*"; cat; echo a.mod:2: OpenBlock >&2; exit 3'
+  lay tools/release/unproved.sh "echo \"\$1\" >> '$work/compiled'; cp '$work/tried' \"\$2\""
   try "3:$work/a b|fmt|go.mod||a  b
 given
 build: *nothing is proved*a.mod:2: OpenBlock" 1 fmt go.mod "" "a  b" < <(echo given)
   same "build --try: what is compiled" --checked "$(cat "$work/compiled")"
-  touch "$TOP/crates/gomod/PROOFS.md"
+  touch crates/gomod/PROOFS.md
   try "3:$TOP|list|--mod|example/go.mod|--proxy|example/cache/download*" 1 < /dev/null
-  echo >> "$TOP/crates/gomod/src/main.rt"
+  echo >> crates/gomod/src/main.rt
   try "3:$work/a b|list*" 2 list < /dev/null
-  same "build --try keeps one program" 1 "$(find "$TOP/build.try" -type f | wc -l)"
-  echo >> "$TOP/crates/gomod/src/main.rt"
-  lay top/tools/release/unproved.sh 'echo wrong >&2; exit 1'
+  same "build --try keeps one program" 1 "$(find build.try -type f | wc -l)"
+  echo >> crates/gomod/src/main.rt
+  lay tools/release/unproved.sh 'echo wrong >&2; exit 1'
   try "125:*wrong" 2 list
   calls_no_rt "build --try"
 }
 
 # the disk, of which there are 9 GB
-lay path/df 'printf "Filesystem 1024-blocks Used Available Capacity Mounted\n/dev/x 1 1 9216000 1%% /\n"'
+lay "$work/path/df" 'printf "Filesystem 1024-blocks Used Available Capacity Mounted\n/dev/x 1 1 9216000 1%% /\n"'
 check_code shellcheck "shellcheck -x -S warning" '*.sh' build .ci/run
 check_code pyflakes3 pyflakes3 '*.py'
 check_words
