@@ -2,9 +2,8 @@
 # Refuses each allocation of each command of the cases and of each test in turn, and lists what goes wrong then.
 #
 #   tools/try/refuse-memory.sh                     all below: before a release
-#   tools/try/refuse-memory.sh --check             the cases that are listed below, the calls of
-#                                                  tools/try/refused_calls.txt and the tests but those of reports: what
-#                                                  .ci/run runs
+#   tools/try/refuse-memory.sh --check             the cases and calls that are listed below, and the
+#                                                  tests but those of reports: what .ci/run runs
 #   tools/try/refuse-memory.sh --cases             all cases but the large ones
 #   tools/try/refuse-memory.sh --cases FILE.txt..  the cases of these files, but the large ones
 #   tools/try/refuse-memory.sh --cases TITLE..     the cases whose titles have one of these texts
@@ -31,7 +30,7 @@ cd "$(dirname "$0")/../.."
 begin_script "$@"
 
 readonly DATA=crates/run_cases/data RECORD=bin/refused.txt
-readonly CALLS=tools/try/refused_calls.txt RUN_CASES=crates/run_cases/out/run_cases PROVED=docs/proof/PROVED.md
+readonly RUN_CASES=crates/run_cases/out/run_cases PROVED=docs/proof/PROVED.md
 readonly MOST=200000 # more allocations than any test makes: a guard against a count that doesn't end
 
 command -v "${CC:-cc}" > /dev/null || refuse "there is no command ${CC:-cc}: install a C compiler, or name one by CC"
@@ -134,12 +133,107 @@ crates_with_tests() {
   done
 }
 
-# The calls of libraries, which run_cases makes, and all tests but those whose names have the argument.
-refuse_in_libraries() {
-  local crate before=$runs
+# Each call of the libraries that asks for memory (docs/dev/CASES.md, "Calls"), which run_cases makes.
+refuse_in_calls() {
+  local before=$runs
   [ -x "$RUN_CASES" ] || refuse "there is no $RUN_CASES: rt ci leaves it"
-  refuse_each run_cases "$PWD/$RUN_CASES" "$PWD/$CALLS"
+  cat > "$work/calls.txt" << 'CASE'
+=== Calls that ask for memory
+$ path example.com/a/v2
+> Slash(2) fetchable
+$ version v1.0.0-rc.1
+> prerelease
+$ fits example.com/a/v2 v2.0.0
+> yes
+$ pseudo v1.2.4-0.20191109021931-daa7c04131f5
+> 3 20191109021931 daa7c04131f5
+$ base v1.2.4-0.20191109021931-daa7c04131f5
+> v1.2.3
+$ escape github.com/Azure
+> github.com/!azure
+$ unescape github.com/!azure
+> github.com/Azure
+$ order example.com/a v1.2.0 example.com/a v1.10.0
+> less
+$ document go.mod
+> Entry module example.com/m
+> Blank
+> Entry require example.com/a v1.0.0 // c
+> Blank
+> Entry replace example.com/b => ./b
+> Blank
+> Entry exclude example.com/c v1.1.0
+> Blank
+> Entry retract [ v1.0.0 , v1.1.0 ]
+$ spell "a b"
+> "a b"
+$ strict go.mod
+> module example.com/m
+> go 1.16
+> require example.com/a v1.0.0
+> exclude example.com/c v1.1.0
+> replace example.com/b => ./b
+> retract [v1.0.0, v1.1.0]
+$ lax go.mod
+> module example.com/m
+> go 1.16
+> require example.com/a v1.0.0
+> retract [v1.0.0, v1.1.0]
+$ select go.mod
+> example.com/a@v1.0.0
+$ apply go.mod droprequire=example.com/a
+> module example.com/m
+>
+> replace example.com/b => ./b
+>
+> exclude example.com/c v1.1.0
+>
+> retract [v1.0.0, v1.1.0]
+$ replacement go.mod example.com/b v1.0.0
+> ./b
+$ excluded go.mod example.com/c v1.1.0
+> yes
+$ hash go.mod
+> h1:SGE2XGzrRz21dlLqJxHGk/CgCLXiYzcmuvbXDidKHnI=
+$ check go.sum example.com/a v1.0.0 h1:SGE2XGzrRz21dlLqJxHGk/CgCLXiYzcmuvbXDidKHnI=
+> Good
+$ listed example.com/a list
+> v1.9.0
+> v1.10.0
+$ latest example.com/a list
+> v1.10.0
+$ relative_name mod example.com/A v1.0.0
+> example.com/!a/@v/v1.0.0.mod
+$ relative_name list example.com/A
+> example.com/!a/@v/list
+$ relative_name folder ../a
+> ../a/go.mod
+$ folder_of ../m/go.mod
+> ../m
+-- go.mod --
+module example.com/m
+
+require example.com/a v1.0.0 // c
+
+replace example.com/b => ./b
+
+exclude example.com/c v1.1.0
+
+retract [v1.0.0, v1.1.0]
+-- go.sum --
+example.com/a v1.0.0/go.mod h1:SGE2XGzrRz21dlLqJxHGk/CgCLXiYzcmuvbXDidKHnI=
+-- list --
+v1.10.0
+v1.9.0
+CASE
+  refuse_each run_cases "$PWD/$RUN_CASES" "$work/calls.txt"
   echo "run_cases: calls of libraries, $((runs - before)) runs"
+}
+
+# Those calls, and all tests but those whose names have the argument.
+refuse_in_libraries() {
+  local crate
+  refuse_in_calls
   for crate in $(crates_with_tests); do refuse_in_tests "$crate" "$@"; done
 }
 
