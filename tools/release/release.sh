@@ -8,9 +8,9 @@
 #   tools/release/release.sh --check --unproved  the same with a program that tools/release/unproved.sh made
 #
 # Into FOLDER it writes gomod-VERSION-x86_64-linux.tar.gz and beside it a file with its sha256. The archive has one
-# folder with bin/ and share/; share/doc/gomod/ has the documents and examples, as tools/release/release.py adapts them,
-# and RELEASE.txt: version, commit, the gate's last line, the records below, what the program needs and its sha256. The
-# same files give the same archive.
+# folder with bin/ and share/; share/doc/gomod/ has the documents and examples, adapted, and RELEASE.txt: version,
+# commit, the gate's last line, the records below, what the program needs and its sha256. The same files give the same
+# archive.
 #
 # It unpacks what it made, and refuses an archive with a dangling link, an example that prints something else
 # (tools/try/readme.py) or another glibc in its documents than the program needs; without --unproved, also a program
@@ -54,13 +54,52 @@ refuse_version() {
   [ "$tagged" = "$(git rev-parse HEAD)" ] || refuse "the tag v$1 is at another commit, $tagged"
 }
 
+# Makes the documents of a folder those of a release. A link to a file that the release lacks becomes its text alone,
+# and examples call `gomod`. In README.md the second argument takes the place of the sections on making a program.
+adapt_documents() {
+  python3 -B - "$@" << 'PYTHON'
+import pathlib
+import re
+import sys
+
+top, note = pathlib.Path(sys.argv[1]), sys.argv[2]
+
+
+def linked(found):
+    target = file.parent / found[2].partition("#")[0]
+    return found[0] if re.match("#|[a-z]+:", found[2]) or target.exists() else found[1]
+
+
+for file in top.rglob("*.md"):
+    text = file.read_text()
+    if file == top / "README.md":
+        text, count = re.subn(r"(?ms)^## Try it\n.*?(?=^## When to use it\n)", lambda _: note, text)
+        if count != 1:
+            sys.exit("release: README.md has no section 'Try it' before 'When to use it'")
+    text = re.sub(r"\[([^\]]+)\]\(([^)\s]+)\)", linked, text)
+    file.write_text(re.sub(r"(?m)^    \$ .*", lambda it: it[0].replace("bin/gomod", "gomod"), text))
+PYTHON
+}
+
 # Lays the files of a release below a folder: its version, and the records of what it rests on.
 lay_release() {
   local to=$1 documents=$1/share/doc/gomod glibc
   install_files "$to" > /dev/null
   glibc=$(least_glibc bin/gomod) || refuse "bin/gomod names no version of glibc"
-  python3 -B tools/release/release.py "$documents" \
-    "Release ${2%% *}, for x86-64 Linux with glibc $glibc or later." "$name"
+  adapt_documents "$documents" "Release ${2%% *}, for x86-64 Linux with glibc $glibc or later. Files that are named \
+without a link are in the repository, at the commit of \`RELEASE.txt\`.
+
+## Try it
+
+Unpack the archive where its \`bin\` is on the \`PATH\`, and print the build list of your own module from go's cache:
+
+    mkdir -p ~/.local && tar -xzf $name.tar.gz -C ~/.local --strip-components=1
+    gomod list --proxy ~/go/pkg/mod/cache/download
+
+If go never filled that folder, [fill one without Go](docs/use/RECIPES.md#a-folder-filled-without-go). The examples \
+run in this folder, \`share/doc/gomod\`.
+
+"
   {
     echo "gomod $2"
     echo "commit $(git rev-parse HEAD)"
