@@ -92,8 +92,9 @@ def keep(tally):
             tell(is_right, f"{path}:{number}: {PAGE} has no '{text}' with status {status}")
             is_there = is_usage or command not in helps or helps[command].of(text, status)
             tell(is_there, f"{path}:{number}: the help of {command} has no '{text}' with status {status}")
-    for it in [form for form, _, _ in table.forms] + [kind for kind, _ in kinds]:
-        tell(it in printed, f"{PAGE}: no case prints '{it}'")
+    named = [form for form, _, _ in table.forms] + [kind for kind, _ in kinds]
+    for it in named:
+        tell(it in printed and named.count(it) == 1, f"{PAGE}: no case prints '{it}', or it stands there twice")
     ruled_out = set(re.findall(r"`(\w+)`", page.partition(", but never ")[2].partition(".")[0]))
     tell(ruled_out == {*dict(kinds)} - malformed, f"{PAGE}: `Malformed` rules out other KINDs than no case prints so")
     order = re.findall(r"(?m)^- `(\w+)`:", page.partition("\n### The directives\n")[2].partition("\n### ")[0])
