@@ -6,7 +6,8 @@
     files, crates, with_below    which sources and crates there are
     scope_of, paths_of           what the names mean that a text imports, of definitions and of the code
     definitions, plain           what an .antt file declares; its text without comments and strings
-    items_of, members, functions, code_of  the items of a .rt file, and those of its blocks; its text without comments
+    items_of, members, functions the items of a .rt file, those of its blocks, and its functions
+    code_of                      its text without comments
     place, cited, reached_from   the graph of definitions: what a name means, what a definition or clause names and
                                  reaches
 
