@@ -115,14 +115,10 @@ def finish(command, text=None, seconds=100):
             before = used
 
 
-def run_within(words, seconds=100, **given):
-    """Runs a command like subprocess.run, within such a time; `input` and `capture_output` are as there."""
-    text = given.pop("input", None)
-    if text is not None:
-        given["stdin"] = subprocess.PIPE
-    if given.pop("capture_output", False):
-        given |= {"stdout": subprocess.PIPE, "stderr": subprocess.PIPE}
-    with subprocess.Popen(words, **given) as command:
+def run_within(words, seconds=100, text=None, **given):
+    """Runs a command that reads a text, within such a time. Streams are pipes, but for those that are given."""
+    streams = dict.fromkeys(("stdin", "stdout", "stderr"), subprocess.PIPE)
+    with subprocess.Popen(words, **streams | given) as command:
         out, report = finish(command, text, seconds)
     return subprocess.CompletedProcess(words, command.returncode, out, report)
 

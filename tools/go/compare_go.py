@@ -86,7 +86,7 @@ class Result(typing.NamedTuple):
 
 
 def run(words, folder, environment=None):
-    ran = script.run_within(words, cwd=folder, capture_output=True, stdin=subprocess.DEVNULL, env=environment)
+    ran = script.run_within(words, cwd=folder, env=environment)
     return Result(ran.returncode, ran.stdout.decode("utf-8", "surrogateescape"), ran.stderr.decode("utf-8", "replace"))
 
 

@@ -262,7 +262,7 @@ class Meter:
     @staticmethod
     def run(words, folder, stdin):
         out, report = subprocess.DEVNULL, subprocess.PIPE
-        return script.run_within(words, LIMIT, cwd=folder, input=stdin, stdout=out, stderr=report)
+        return script.run_within(words, LIMIT, stdin, cwd=folder, stdout=out, stderr=report)
 
     def edited(self, kind):
         """A line on operations on many lines with names of a kind, and whether it is as it should be."""

@@ -298,7 +298,6 @@ class Trial(Judged):
                     env={**self.environment, "FAULTS": " ".join(map(str, faults)), "FAULTS_TOLD": str(number)},
                     pass_fds=[number],
                     stdin=stdin,
-                    capture_output=True,
                 )
             except subprocess.TimeoutExpired:
                 return b"", f"only waits, for {LIMIT} seconds".encode(), -1, ["changed 1"]
