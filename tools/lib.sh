@@ -61,17 +61,12 @@ is_last_proved() {
   [ -x bin/gomod ] && cmp -s bin/gomod "$PROVED_PROGRAM" && [[ $(bin/gomod --version) =~ $PROVED_MARK$ ]]
 }
 
-# Warns if bin/gomod is older than a source.
-warn_if_older() {
-  local newer
-  newer=$(newer_source)
-  [ -z "$newer" ] || echo "$own_name: bin/gomod is older than $newer: ./build makes it anew" >&2
-}
-
 # Ends with status 1 if there is no bin/gomod, and warns if that is older than a source.
 need_gomod() {
+  local newer
   [ -x bin/gomod ] || refuse "there is no bin/gomod: ./build makes it, which can take an hour (./build --help)"
-  warn_if_older
+  newer=$(newer_source)
+  [ -z "$newer" ] || echo "$own_name: bin/gomod is older than $newer: ./build makes it anew" >&2
 }
 
 # A folder that stands for / where the next functions read /proc and /sys: a test gives one with its own files.
