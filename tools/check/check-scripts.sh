@@ -28,7 +28,7 @@ mapfile -t files < <(git ls-files ./*.md .ci .gitignore bench build docs/DECISIO
 same() {
   compared=$((compared + 1))
   [[ $3 != $2 ]] || return 0
-  printf '%s\n  wanted: %s\n  got:    %s\n' "$1" "${2//$'\n'/$'\n          '}" "${3//$'\n'/$'\n          '}"
+  printf '%s\nwanted: %s\ngot: %s\n' "$@"
   wrong=$((wrong + 1))
 }
 
@@ -63,8 +63,8 @@ commit() {
   git -c user.name=x -c user.email=x@example.com commit -qm x
 }
 
-# Makes the scratch repository anew, in which all else is done, whose only crate is gomod, with a program that says it is
-# proved, and all scripts. Those of tools/ that are run only say what .ci/run calls them, but for these.
+# Makes the scratch repository anew and goes there. Its only crate is gomod, with a program that says it is proved. It
+# has all scripts: those of tools/ that are run only say what .ci/run calls them, but for these.
 scratch() {
   local name
   cd "$FROM"
@@ -98,10 +98,10 @@ machine() {
 
 # What a command says of the files that git has with these names, if it is there.
 check_code() {
-  if command -v "$1" > /dev/null; then
-    same "$1" "" "$(git ls-files -z "${@:3}" | xargs -0 $2 2>&1)"
+  if command -v "${1%% *}" > /dev/null; then
+    same "$1" "" "$(git ls-files -z "${@:2}" | xargs -0 $1 2>&1)"
   else
-    echo "skipped, for want of $1: the scripts ${*:3}"
+    echo "skipped, for want of ${1%% *}: the scripts ${*:2}"
   fi
 }
 
@@ -112,7 +112,7 @@ check_words() {
   scratch "${scripts[@]}"
   for script in "${scripts[@]}"; do
     ends "0:$(sed -n '/^#!/d;s/^"""//;s/"""$//;s/^# //;p;q' "$script")*" "./$script" --help
-    [[ $script == example/* ]] || ends "2:*" "./$script" --nosuch
+    [[ $script == example/* ]] || ends "2:*@(--nosuch|--help)*" "./$script" --nosuch
   done
   same "what --help writes" "" "$(git status --porcelain)"
   calls_no_rt "--help"
@@ -126,49 +126,36 @@ check_limits() {
   machine 5000 1200 "100000 100000"
   ends $'0:1140\n1' "${limits[@]}"
   machine 5000 9000
-  ends "0:5000"$'\n'"$(nproc)" "${limits[@]}"
+  ends $'0:5000\n4' "${limits[@]}"
   rm "$MACHINE/proc/self/cgroup"
-  ends "0:5000"$'\n'"$(nproc)" "${limits[@]}"
+  ends $'0:5000\n4' "${limits[@]}"
   ends "1:bash: x needs 9001 MB of disk, and 9000 MB are free" bash -c '. tools/lib.sh; need_room x 5000 9001'
-}
-
-# Compares why the scripts that need the toolchain don't start with this PATH.
-refuse_to_start() {
-  PATH=$1 ends "1:*$2" ./build
-  PATH=$1 ends "1:*$2" .ci/run
-  PATH=$1 ends "125:*$2" ./build --try list
+  ends "1:bash: x needs the command rt: *" bash -c 'command() { false; }; . tools/lib.sh; need_room x 5000 9000'
 }
 
 check_refusals() {
-  local without=$work/without folder
   scratch tools/release/unproved.sh
   rm bin/gomod
   echo before > bin/gate.txt
   machine 9000
-  # all commands but rt
-  mkdir "$without"
-  for folder in ${PATH//:/ }; do cp -sn "$folder"/* "$without" 2> /dev/null || true; done
-  rm -f "$without/rt"
-  refuse_to_start "$without" "needs the command rt: install the toolchain of Rattle*"
   make_rt "exit 9"
   CC=no-cc ends "1:run: the gate needs the command no-cc" .ci/run
   RT_JOBS=0 ends "1:run: RT_JOBS is '0', and not a number*" .ci/run
-  ends "2:run: unknown argument 'x'; '.ci/run --help' says what it takes" .ci/run x
   machine 9000 1260
-  refuse_to_start "$PATH" "MB of memory, and 1200 MB are free here"
+  ends "1:build: a build needs 4000 MB of memory*" ./build
+  ends "1:run: the gate needs 4200 MB of memory*" .ci/run
+  ends "125:*unproved: an unproved program needs 2500 MB of memory*" ./build --try list
   calls_no_rt "what was refused"
   leaves gate.txt before
 }
 
 check_gate() {
-  local jobs=1
   scratch
   unset RT_JOBS
-  [ "$(nproc)" -eq 1 ] || jobs=2
   make_rt 'echo "$RT_JOBS jobs"; echo "1 passed, 0 failed"'
   machine 7300
   ends "0:*
-$jobs jobs
+2 jobs
 1 passed, 0 failed
 tools/check/documents.py*
 tools/try/refuse-memory.sh
@@ -186,61 +173,58 @@ tools/release/release.sh
   RT_JOBS=2 ends "1:*1 passed, 0 failed" .ci/run
 }
 
-# Compares how .ci/run --quick ends if tools/release/unproved.sh and tools/try/readme.py have these lines, with these
-# names.
+# Compares how .ci/run --quick ends if tools/release/unproved.sh has this line, with these names.
 quick() {
-  local before
   lay tools/release/unproved.sh "$2"
-  lay tools/try/readme.py "$3"
-  before=$(find bin -type f -printf '%p %T@\n')
-  ends "$1; nothing was proved" .ci/run --quick "${@:4}"
-  same ".ci/run --quick leaves bin/ as it was" "$before" "$(find bin -type f -printf '%p %T@\n')"
+  ends "$1; nothing was proved" .ci/run --quick "${@:3}"
 }
 
 check_quick() {
   local can='install -m 755 /dev/null "$2"'
   scratch
+  cp -r bin "$work/before"
   machine 2500
   make_rt ""
-  quick "0:*14 checks passed, 0 failed, skipped for want of dot: 3 examples" "$can" \
-    "echo 'skipped, for want of dot: 3 examples'"
+  lay tools/try/readme.py "echo 'skipped, for want of dot: 3 examples'"
+  quick "0:*14 checks passed, 0 failed, skipped for want of dot: 3 examples" "$can"
   quick "1:*
 wrong
 run: tools/release/unproved.sh --both run_cases failed, *5 checks passed, 1 failed, 8 did not run" \
-    'echo wrong && exit 1' ""
-  quick "0:*2 checks passed, 0 failed" "$can" "" documents layout
-  ends "2:run: --quick has no check 'x'*" .ci/run --quick x
+    'echo wrong && exit 1'
+  quick "0:*2 checks passed, 0 failed" "$can" documents layout
+  ends "2:run: --quick has no check 'x'; '.ci/run --help' says what it takes" .ci/run --quick x
   make_rt 'echo x >> src/main.rt'
-  quick "1:*run: layout failed*" "$can" "" layout
+  quick "1:*run: layout failed*" "$can" layout
   lay tools/release/unproved.sh "echo \$\$ > '$work/begun'; sleep 60"
   .ci/run --quick > /dev/null &
   until [ -s "$work/begun" ] || ! kill -0 $! 2> /dev/null; do sleep 0.1; done
   kill $! || true
   wait $! || true
-  same "a signal ends what .ci/run --quick has begun" "" \
-    "$(ps -o stat= -p "$(cat "$work/begun")" | grep -v ^Z)"
+  same "a signal ends what .ci/run --quick has begun" "" "$(ps -o stat= -p "$(cat "$work/begun")" | grep -v ^Z)"
+  same ".ci/run --quick leaves bin/ as it was" "" "$(diff -r "$work/before" bin)"
   machine 2400
   ends "1:run: --quick needs 2500 MB of memory, and 2400 MB are free here" .ci/run --quick
 }
 
 check_unproved() {
+  local install=(./build --install "$work/installed")
   scratch tools/release/unproved.sh tools/release/release.sh
   ends "1:unproved: $TOP/program is in the repository*" tools/release/unproved.sh "$TOP/program"
   lay bin/gomod "$PROVED of other sources"
-  ends "1:build: bin/gomod isn't the program that the last proof left*" ./build --install "$work/installed"
+  ends "1:build: bin/gomod isn't the program*" "${install[@]}"
   lay bin/gomod 'echo "gomod 1 (Rattle, nothing is proved)"'
   cp bin/gomod crates/gomod/out
-  ends "1:build: bin/gomod isn't the program that the last proof left*" ./build --install "$work/installed"
-  ends "1:release: bin/gomod isn't the program that the last proof left*" tools/release/release.sh "$work/released"
+  ends "1:build: bin/gomod isn't the program*" "${install[@]}"
+  ends "1:release: bin/gomod isn't the program*" tools/release/release.sh "$work/released"
   ends "1:release: bin/gomod isn't proved: its version is 'gomod 1 (Rattle, nothing is proved)'" \
     tools/release/release.sh --check
   same "what was refused was not installed" "" "$(find "$work" -name installed -o -name released)"
   lay bin/gomod "$PROVED"
   cp bin/gomod crates/gomod/out
   touch -d "1 hour" crates/gomod/PROOFS.md
-  ends "0:$work/installed/bin/gomod*/example" ./build --install "$work/installed"
+  ends "0:$work/installed/bin/gomod*/example" "${install[@]}"
   touch -d "1 hour" crates/gomod/src/main.rt
-  ends "0:*build: bin/gomod is older than*" ./build --install "$work/installed"
+  ends "0:*build: bin/gomod is older than*" "${install[@]}"
   same "what is installed" "$PROVED CHANGELOG.md README.md docs example" \
     "$(tail -n 1 "$work/installed/bin/gomod") $(cd "$work/installed/share/doc/gomod" && echo *)"
 }
@@ -266,7 +250,7 @@ check_refused_memory() {
   refuse_memory "$passes" "0:*" "61 runs, none wrong, on $(date -u +%F) at commit $head"$'\n'"$(sha256sum bin/gomod)"
   same "PROVED.md" "at ${head:0:8} none of 61 runs was wrong" "$(cat docs/proof/PROVED.md)"
   refuse_memory 'exit 1' "1:*2 failures*" ""
-  refuse_memory 'echo "# x" >> bin/gomod' "1:*refuse-memory: bin/gomod isn't the program that it was at the start" ""
+  refuse_memory 'echo "# x" >> bin/gomod' "1:*refuse-memory: bin/gomod isn't the program*" ""
   CC=no-cc refuse_memory "" "1:refuse-memory: there is no command no-cc*" ""
 }
 
@@ -291,37 +275,33 @@ $(sha256sum bin/gomod)"
 }
 
 # Compares why a release is refused.
-refuses() { ends "1:release: $1" tools/release/release.sh "$work/released" --gate "${2-5 passed, 0 failed}"; }
+refuses() { ends "1:release: $1" tools/release/release.sh "$work/released" "${@:2}"; }
 
 check_release() {
-  local records='' name right
+  local records='' name line right number=0
   scratch tools/release/release.sh
   lay tools/try/readme.py ""
   printf '%s\n' "glibc 2.34" "## Try it" "## When to use it" > README.md
   echo "## 1.0 (unreleased)" > CHANGELOG.md
-  touch x
-  ends "1:release: there is no bin/gate.txt: run .ci/run*" tools/release/release.sh "$work/released"
-  printf '5 passed, 0 failed\n%s\n' "$(sha256sum bin/gomod | tr 0-9 1-90)" > bin/gate.txt
-  ends "1:release: bin/gate.txt is of another program*" tools/release/release.sh "$work/released"
-  refuses "this is no gate that passed: '5 passed, 1 failed'" "5 passed, 1 failed"
-  refuses "there are changes that aren't committed"
+  refuses "this is no gate that passed: '5 passed, 1 failed'" --gate "5 passed, 1 failed"
+  refuses "there are changes that aren't committed" --gate "5 passed, 0 failed"
   commit
-  for name in refused opened checked mistakes texts; do
-    refuses "there is no bin/$name.txt: run tools/*"
-    right=$(sha256sum bin/gomod)
+  for name in gate refused opened checked mistakes texts; do
+    refuses "there is no bin/$name.txt: run *"
+    line="$((number += 1)) passed, 0 failed" right=$(sha256sum bin/gomod)
     case $name in checked | mistakes) right=$(checksum_of_program) ;; esac
-    printf '%s\n' "of $name" "$(tr 0-9 1-90 <<< "$right")" > "bin/$name.txt"
-    refuses "bin/$name.txt is of another program or sources (of $name): run tools/*"
-    printf '%s\n' "of $name" "$right" > "bin/$name.txt"
-    records+="*: of $name"
+    printf '%s\n' "$line" "$(tr 0-9 1-90 <<< "$right")" > "bin/$name.txt"
+    refuses "bin/$name.txt is of another program or sources ($line): run *"
+    printf '%s\n' "$line" "$right" > "bin/$name.txt"
+    records+="*: $line"
   done
-  refuses "CHANGELOG.md begins with '1.0 (unreleased)', and not with '1.0' and its day in brackets"
+  refuses "CHANGELOG.md begins with '1.0 (unreleased)', and not with '1.0'*"
   git tag v1.0
   echo "## 1.0 (2026-01-02)" > CHANGELOG.md
   commit
   refuses "the tag v1.0 is at another commit, $(git rev-parse v1.0)"
   git tag -d v1.0 > /dev/null
-  ends "0:*gate: 5 passed, 0 failed$records*" tools/release/release.sh "$work/released" --gate "5 passed, 0 failed"
+  ends "0:*$records*" tools/release/release.sh "$work/released"
   same "RELEASE.txt" "*$records*" "$(tar -xzOf "$work"/released/*.tar.gz --wildcards '*/RELEASE.txt')"
 }
 
@@ -368,10 +348,11 @@ build: *nothing is proved*a.mod:2: OpenBlock" 1 fmt go.mod "" "a  b" < <(echo gi
   calls_no_rt "build --try"
 }
 
-# the disk, of which there are 9 GB
+# 4 processors, and 9 GB of disk
+lay "$work/path/nproc" 'echo 4'
 lay "$work/path/df" 'printf "Filesystem 1024-blocks Used Available Capacity Mounted\n/dev/x 1 1 9216000 1%% /\n"'
-check_code shellcheck "shellcheck -x -S warning" '*.sh' build .ci/run
-check_code pyflakes3 pyflakes3 '*.py'
+check_code "shellcheck -x -S warning" '*.sh' build .ci/run
+check_code pyflakes3 '*.py'
 check_words
 check_limits
 check_refusals
