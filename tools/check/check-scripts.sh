@@ -164,6 +164,9 @@ tools/try/doubling.py
 tools/release/release.sh
 1 passed, 0 failed" .ci/run
   leaves gate.txt $'1 passed, 0 failed\n'"$(sha256sum bin/gomod)"
+  lay tools/try/doubling.py "exit 1"
+  ends "1:*1 passed, 0 failed" .ci/run
+  leaves gate.txt ""
   machine 5900
   make_rt 'echo "rt: gomod: the program was stopped by signal 9"; echo "0 passed, 1 failed"; exit 1'
   ends "1:*0 passed, 1 failed
