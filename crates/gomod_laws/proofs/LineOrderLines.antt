@@ -149,13 +149,13 @@ module _ (ds : List Directive) (are : AreApart ds) where
       → Contains (filter_map as_replacing ds) s → is_same_left left r.0 ≡ true → is_same_left left s.0 ≡ true
       → r.1 ≡ s.1
   one_replaced left r s here there is_r is_s =
-      let lefts : r.0 ≡ s.0 = sym (same-left _ _ is_r) ∙ same-left _ _ is_s in
+      let lefts : r.0 ≡ s.0 = sym (same-left left r.0 is_r) ∙ same-left left s.0 is_s in
       elim (cases_Bool (is_same_right r.1 s.1)) [
         | inl same ↦ same-right _ _ same
         | inr apart ↦
             let same : is_same_left r.0 s.0 ≡ true = subst (λ (x : Left). is_same_left r.0 x ≡ true) lefts (left-self r.0) in
             let clash : do_clash (Replaces r) (Replaces s) ≡ true = rw (same, apart) refl in
-            let one = one_said _ _ replaces_is r s here there clash in
+            let one = one_said as_replacing Replaces replaces_is r s here there clash in
             let both : r ≡ s = cc in
             ap (λ (x : Replacing). x.1) both
       ]
