@@ -1,6 +1,6 @@
 """Reads the cases of crates/run_cases/data, lays their files, and says what a folder has.
 
-docs/dev/CASES.md has the form of a case. tools/try/program.py runs their command lines.
+docs/dev/CASES.md has the form of a case. program.py runs their command lines.
 """
 
 import contextlib

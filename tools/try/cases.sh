@@ -3,12 +3,12 @@
 #
 #   tools/try/cases.sh                    as both compilers built it for the merge gate, in crates/run_cases/out
 #   tools/try/cases.sh PROGRAM..          these executables
-#   tools/try/cases.sh --quick PROGRAM..  these, which tools/release/unproved.sh --both made, on the cases of the gate
+#   tools/try/cases.sh --quick PROGRAM..  these, which unproved.sh --both made, on the cases of the gate
 #                                         and the wrong ones; where a case has the version of a proved program, it wants
 #                                         the marked one, and so many runs fewer as that has bytes fewer: run_cases cuts
 #                                         each output after each byte
 #   tools/try/cases.sh --checked          before a release: all cases, with a program that has Rattle's checks and the
-#                                         address sanitizer, which it compiles (tools/release/unproved.sh --checked)
+#                                         address sanitizer, which it compiles (unproved.sh --checked)
 #
 # In each of the folders sizes and wrong of crates/run_cases/data, and for the cases of the gate in crates/run_cases,
 # `args` has the arguments, `stdout` and `stderr` what the program has to write, and `status` its exit status: nothing
@@ -17,7 +17,7 @@
 #
 # What differs is printed, then how many runs passed and failed. The status is 1 if one failed, or if a folder has a
 # file of cases that its `args` doesn't name. --checked removes bin/checked.txt, and if nothing fails makes it anew for
-# tools/release/release.sh: the day, the commit, and a checksum of the sources.
+# release.sh: the day, the commit, and a checksum of the sources.
 set -euo pipefail
 cd "$(dirname "$0")/../.."
 # shellcheck source=tools/lib.sh

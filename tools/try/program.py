@@ -1,14 +1,14 @@
-"""Runs the cases of command lines, as tools/try/program.sh says, in this world, and then in another one.
+"""Runs the cases of command lines, as program.sh says, in this world, and then in another one.
 
     program.py PROGRAM [--unproved] [--this | --other] [FILE.txt..] [TITLE..]
 
-tools/try/case_files.py reads the cases. The other world's program is nobody's, if root starts it, so that permissions
+case_files.py reads the cases. The other world's program is nobody's, if root starts it, so that permissions
 count. Its environment is full of variables that the go command, a library or a terminal reads, and for every eighth
 command empty. Standard output and standard error are terminals, both for half of the commands, else one of them.
 Standard input is a terminal at which nobody types or, where the words name it, a file, or a terminal at which the text
 was typed. Output, report and status have to be those of the case all the same. A case with a range of sizes runs at
 about 1,000, one with a list at those up to 20,000, or at the least. If strace is there, each command runs under it, and
-tools/try/opened.py says what is wrong with what it saw.
+opened.py says what is wrong with what it saw.
 """
 
 import concurrent.futures
@@ -34,7 +34,7 @@ sys.path.append(f"{sys.path[0]}/..")
 import script
 import opened
 from case_files import PIPES, bytes_below, case_of, chosen_cases, greatest_sizes, laid, moderate_sizes, shown
-from script import AT_ONCE, holding, read, ticks_of, write
+from script import AT_ONCE, holding, ticks_of, write
 
 REFUSE_MEMORY = os.environ.pop("REFUSE_MEMORY", None)
 REFUSE_LATER = os.environ.pop("REFUSE_LATER", None)
@@ -382,13 +382,6 @@ class OtherWorld(World):
         return said
 
 
-def ticks_below(pid):
-    """How much a process and those that it has started have used the processor."""
-    with contextlib.suppress(OSError):
-        return sum(map(ticks_of, [pid, *read(f"/proc/{pid}/task/{pid}/children").split()]))
-    return -1
-
-
 def read_all(ends, command):
     """What comes from each of these ends until nobody writes to them. If the command only waits for too long, None, and
     it is ended."""
@@ -399,7 +392,7 @@ def read_all(ends, command):
         while selector.get_map():
             ready = selector.select(LIMIT / 2)
             if not ready:
-                used = ticks_below(command.pid)
+                used = ticks_of(command.pid)
                 if used == before:
                     # strace, too, ends what it has started
                     command.terminate()

@@ -3,7 +3,7 @@
 #
 #   tools/try/program.sh                     the cases of crates/run_cases/data and its folders sizes and program
 #   tools/try/program.sh FILE.txt.. TITLE..  those of these files, or those whose titles have one of these texts
-#   tools/try/program.sh --unproved ..       the same with a program that tools/release/unproved.sh made: where a case
+#   tools/try/program.sh --unproved ..       the same with a program that unproved.sh made: where a case
 #                                            has the version of a proved one, what it prints has to say that nothing is
 #                                            proved
 #   tools/try/program.sh --this ..           the same in this world alone
@@ -24,11 +24,11 @@
 # that it needs takes no byte, the status must be 3, and the other one empty.
 #
 # Then all cases run once more in the other world, where strace, if it may look at processes, shows what a command opens
-# and calls (tools/try/opened.py). If it doesn't, the last line says so. If tools/try/refuse-memory.sh sets
+# and calls (opened.py). If it doesn't, the last line says so. If refuse-memory.sh sets
 # REFUSE_MEMORY, each command runs again with each of its allocations refused, and there is no other world.
 #
 # Without arguments it removes bin/opened.txt, and if all pass and strace is there makes it anew for
-# tools/release/release.sh: the number of commands, the day and the commit, and the sha256 of bin/gomod. It does neither
+# release.sh: the number of commands, the day and the commit, and the sha256 of bin/gomod. It does neither
 # without git, or in a bin/ that it may not write. It needs bin/gomod (./build makes it) and python3, and prints each
 # difference and how many cases passed and failed. The status is 1 if one failed.
 set -euo pipefail
