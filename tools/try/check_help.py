@@ -33,7 +33,7 @@ from script import checksum, read
 
 MAN, MANUAL = "share/man/gomod.1", "docs/use/COMMANDS.md"
 # what these and all help say, when they were last read beside one another: who changes one reads them again
-READ = "krgoiqhl"
+READ = "tktnhiqq"
 BASH, ZSH, FISH = (f"share/completions/{it}" for it in ("gomod.bash", "_gomod", "gomod.fish"))
 # the documents whose limits are those of help
 DOCUMENTS = ["README.md", *(f"docs/use/{it}.md" for it in ("COMMANDS", "GO", "MESSAGES")), "docs/proof/PROVED.md"]
