@@ -136,20 +136,16 @@ end_below() {
   done
 }
 
-# Copies the program, its man page, its completions, the documents and the examples to their usual places below a
-# folder, and prints each place.
+# Copies the program, the files of share/, the documents and the examples to their usual places below a folder, and
+# prints each place.
 install_files() {
-  local to=$1 documents=$1/share/doc/gomod mode from place
-  while read -r mode from place; do
-    install -D -m "$mode" "$from" "$to/$place"
-    echo "$to/$place"
-  done << 'FILES'
-755 bin/gomod bin/gomod
-644 share/man/gomod.1 share/man/man1/gomod.1
-644 share/completions/gomod.bash share/bash-completion/completions/gomod
-644 share/completions/_gomod share/zsh/site-functions/_gomod
-644 share/completions/gomod.fish share/fish/vendor_completions.d/gomod.fish
-FILES
+  local documents=$1/share/doc/gomod from
+  install -D -t "$1/bin" bin/gomod
+  echo "$1/bin/gomod"
+  for from in share/*/*/*; do
+    install -D -m 644 "$from" "$1/$from"
+    echo "$1/$from"
+  done
   mkdir -p "$documents"
   for from in README.md CHANGELOG.md docs example; do
     rm -rf "${documents:?}/$from"

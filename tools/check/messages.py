@@ -13,7 +13,7 @@ import re
 
 from script import checksum, read
 
-PAGE, MAN = "docs/use/MESSAGES.md", "share/man/gomod.1"
+PAGE, MAN = "docs/use/MESSAGES.md", "share/man/man1/gomod.1"
 HELP = "crates/run_cases/data/words.txt"  # cases that print it
 KINDS = "crates/gm_file/src/fault.rt"  # which fault of a directive is reported first
 # what stands for a part of a line

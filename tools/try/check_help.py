@@ -4,13 +4,13 @@ command, each operation of edit, and nothing else.
 
     tools/try/check_help.py
 
-Of share/man/gomod.1 it reads the forms of SYNOPSIS and the lists of COMMANDS, OPTIONS and OPERATIONS. The limits are
-those of all help, as are those of README.md and other documents, and what help says of a status the man page says of it
-too. Its EXAMPLES run in a scratch folder: they print what README.md shows, and leave an edited go.mod. What else the
-man page, docs/use/COMMANDS.md and all help say was read side by side, and has a checksum here. It calls the completion
-for bash, and reads those for zsh and fish, so neither of them has to be installed. Then it completes lines in bash, and
-in zsh and fish where they are installed (tools/try/completions.py): folders, also after a comma, go's cache, and the
-paths of a go.mod, also after an operation's `=`.
+Of share/man/man1/gomod.1 it reads the forms of SYNOPSIS and the lists of COMMANDS, OPTIONS and OPERATIONS. The limits
+are those of all help, as are those of README.md and other documents, and what help says of a status the man page says
+of it too. Its EXAMPLES run in a scratch folder: they print what README.md shows, and leave an edited go.mod. What else
+the man page, docs/use/COMMANDS.md and all help say was read side by side, and has a checksum here. It calls the
+completion for bash, and reads those for zsh and fish, so neither of them has to be installed. Then it completes lines
+in bash, and in zsh and fish where they are installed (tools/try/completions.py): folders, also after a comma, go's
+cache, and the paths of a go.mod, also after an operation's `=`.
 
 It needs bin/gomod (./build makes it), bash and python3. It prints each difference, what was compared, and what was
 skipped for want of which shell. The status is 1 if there is a difference.
@@ -28,13 +28,13 @@ import textwrap
 sys.path.append(f"{sys.path[0]}/..")
 import script
 import completions
+from completions import BASH, FISH, ZSH
 from names import HINTS, hints
 from script import checksum, read
 
-MAN, MANUAL = "share/man/gomod.1", "docs/use/COMMANDS.md"
+MAN, MANUAL = "share/man/man1/gomod.1", "docs/use/COMMANDS.md"
 # what these and all help say, when they were last read beside one another: who changes one reads them again
 READ = "tktnhiqq"
-BASH, ZSH, FISH = (f"share/completions/{it}" for it in ("gomod.bash", "_gomod", "gomod.fish"))
 # the documents whose limits are those of help
 DOCUMENTS = ["README.md", *(f"docs/use/{it}.md" for it in ("COMMANDS", "GO", "MESSAGES")), "docs/proof/PROVED.md"]
 HELP = {"-h", "--help"}

@@ -1,4 +1,4 @@
-"""What the completions of share/completions do in real shells, for tools/try/check_help.py.
+"""What the completions of share/ do in real shells, for tools/try/check_help.py.
 
 Each runs in a terminal of its own, in a scratch folder with a go.mod, folders and a home with go's cache. A line is
 typed, then TAB, then a key that this binds to write the line to a file. Beside a hostile path and folder Enter follows
@@ -19,6 +19,8 @@ import time
 
 from script import TOP, read, ticks_of, write
 
+BASH, ZSH = "share/bash-completion/completions/gomod", "share/zsh/site-functions/_gomod"
+FISH = "share/fish/vendor_completions.d/gomod.fish"
 # how long a shell may use no CPU
 SECONDS = 100
 GO_MOD = f"""module example.com/hello
@@ -170,14 +172,15 @@ class Terminal:
 
 def in_bash(room):
     """A bash with our completion, whose ^X^S leaves the line."""
-    write(f"{room}/rc", f". {TOP}/share/completions/gomod.bash\nbind 'set bell-style none'\nIFS=,; set -uf\n"
+    write(f"{room}/rc", f". {TOP}/{BASH}\nbind 'set bell-style none'\nIFS=,; set -uf\n"
           "bind -x '\"\\C-x\\C-s\": gomod \"$READLINE_LINE\"'\nstty -ixon; gomod ready\n")
     return Terminal(["bash", "--noprofile", "--rcfile", f"{room}/rc", "-i"], room)
 
 
 def in_zsh(room):
     """A zsh with our completion, whose ^X^S leaves the line."""
-    write(f"{room}/home/.zshrc", f"fpath=({TOP}/share/completions $fpath)\nautoload -Uz compinit && compinit -D -u\n"
+    write(f"{room}/home/.zshrc", f"fpath=({TOP}/{os.path.dirname(ZSH)} $fpath)\n"
+          "autoload -Uz compinit && compinit -D -u\n"
           "leave() { gomod $BUFFER }\nzle -N leave\nbindkey -e\nbindkey '^X^S' leave\nbindkey '^U' kill-whole-line\n"
           "stty -ixon; unsetopt beep; setopt no_always_last_prompt; gomod ready\n")
     return Terminal(["zsh", "-d", "-i"], room)
@@ -185,7 +188,7 @@ def in_zsh(room):
 
 def in_fish(room):
     """A fish with our completion, whose ^X^S leaves the line."""
-    write(f"{room}/rc", f"source {TOP}/share/completions/gomod.fish\nfunction fish_prompt; end\n"
+    write(f"{room}/rc", f"source {TOP}/{FISH}\nfunction fish_prompt; end\n"
           "function fish_title; end\nbind \\cx\\cs 'gomod (commandline)'; bind \\cu kill-whole-line\n"
           "stty -ixon; gomod ready\n")
     return Terminal(["fish", "--no-config", "-i", "-C", f"source {room}/rc"], room)
