@@ -374,7 +374,8 @@ def refuse_to_write(asked):
     lack = [it for it in ("rustc", "valgrind", asked.go) if not shutil.which(it)]
     if lack and not asked.only:
         refuse(f"--write needs {', '.join(lack)}; --go names a go command")
-    if subprocess.run(["bash", "-c", ". tools/lib.sh && is_built"], cwd=TOP, check=False).returncode:
+    newer = subprocess.run(["bash", "-c", ". tools/lib.sh; newer_source"], cwd=TOP, capture_output=True, check=False)
+    if newer.returncode or newer.stdout:
         refuse("bin/gomod isn't there, or older than a source")
     if git("status", "--porcelain", "--", "*.rt"):
         refuse("a .rt file has changes that aren't committed")

@@ -1,10 +1,8 @@
 # shellcheck shell=bash disable=SC2034
-# Functions that the scripts share. It is sourced in the root of the repository, and runs nothing by itself:
+# Functions that the scripts share. A script goes to the root of the repository and sources it, which runs nothing:
 #
 #   . tools/lib.sh
 
-# The script itself: its path from here. Its own name may be one from another folder.
-for self in ./build .ci/run {tools/*,bench}/*; do [ "${self##*/}" != "${0##*/}" ] || break; done
 own_name=${0##*/} own_name=${own_name%.*}
 
 # Prints the head comment of the script, and ends, if one of its arguments is -h or --help.
@@ -12,7 +10,9 @@ begin_script() {
   local argument
   for argument; do
     [[ $argument =~ ^(-h|--help)$ ]] || continue
-    awk 'NR > 1 { if (!/^#/) exit; sub(/^# ?/, ""); print }' "$self"
+    # from where the script was called
+    cd "$OLDPWD" || exit
+    awk 'NR > 1 { if (!/^#/) exit; sub(/^# ?/, ""); print }' "$0"
     exit
   done
 }
@@ -25,7 +25,7 @@ refuse() {
 
 # Refuses the arguments of the script for a reason. The status is 2.
 misused() {
-  echo "$own_name: $1; '$self --help' says what it takes" >&2
+  echo "$own_name: $1; '$0 --help' says what it takes" >&2
   exit 2
 }
 
@@ -34,9 +34,6 @@ find_sources() { find crates crates.txt \( -name out -o -name must-fail -o -name
 
 # Prints one that is newer than bin/gomod, if there is one.
 newer_source() { find_sources -newer bin/gomod -print -quit; }
-
-# Whether bin/gomod is newer than every file that it is made of.
-is_built() { [ -x bin/gomod ] && [ -z "$(newer_source)" ]; }
 
 # Prints the names of the files that unproved programs are made of, with a NUL after each. Proofs aren't read.
 program_sources() { find_sources ! -path '*/data/*' ! -path '*/proofs/*' -print0; }
@@ -48,8 +45,9 @@ checksum_of_program() {
 
 # Prints the commit that is here, and whether there are changes.
 commit_here() {
-  git rev-parse HEAD > /dev/null || return
-  echo "$(git rev-parse HEAD)$([ -z "$(git status --porcelain)" ] || echo " with changes")"
+  local commit changes
+  commit=$(git rev-parse HEAD) && changes=$(git status --porcelain) || return
+  echo "$commit${changes:+ with changes}"
 }
 
 # Where a proof leaves the program, how its version ends, and what tools/release/unproved.sh puts there.

@@ -195,7 +195,7 @@ wrong
 run: tools/release/unproved.sh --both run_cases failed, *5 checks passed, 1 failed, 8 did not run" \
     'echo wrong && exit 1'
   quick "0:*2 checks passed, 0 failed" "$can" documents layout
-  ends "2:run: --quick has no check 'x'; '.ci/run --help' says what it takes" .ci/run --quick x
+  ends "2:run: --quick has no check 'x'; '*.ci/run --help' says what it takes" .ci/run --quick x
   make_rt 'echo x >> src/main.rt'
   quick "1:*run: layout failed*" "$can" layout
   lay tools/release/unproved.sh "echo \$\$ > '$work/begun'; sleep 60"
