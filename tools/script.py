@@ -3,12 +3,13 @@ the modules in all folders of tools/, and begin with `script.run(main)`."""
 
 import collections
 import contextlib
+import difflib
 import hashlib
-import itertools
 import os
 import pathlib
 import re
 import resource
+import shutil
 import subprocess
 import sys
 import tempfile
@@ -16,38 +17,36 @@ import tempfile
 # how much there is side by side: from 24 on, cases that open descriptors 62 and 63 would meet those of a pool
 AT_ONCE = min(len(os.sched_getaffinity(0)), 16)
 TOP = pathlib.Path(__file__).resolve().parent.parent  # the root of the repository
-SCRIPT = pathlib.Path(os.path.relpath(os.path.realpath(sys.argv[0]), TOP))
-NAME = SCRIPT.stem
+NAME = pathlib.Path(sys.argv[0]).stem
 sys.path += map(str, TOP.glob("tools/*/"))
 
 
 def misused(reason):
     """Ends with status 2, since the words of the script aren't right."""
-    print(f"{NAME}: {reason}; '{SCRIPT} --help' says what it takes", file=sys.stderr)
+    print(f"{NAME}: {reason}; '{sys.argv[0]} --help' says what it takes", file=sys.stderr)
     sys.exit(2)
 
 
 def program_of(words):
     """The program that the words name after --program, or bin/gomod, and the other words."""
     if words[:1] == ("--program",):
-        if not (os.path.isfile(words[1]) and os.access(words[1], os.X_OK)):
-            misused("--program takes an executable file")
-        return os.path.realpath(words[1]), words[2:]
+        program = shutil.which(os.path.realpath(words[1]))
+        return program or misused("--program takes an executable file"), words[2:]
     shared("need_gomod")
     return os.path.realpath("bin/gomod"), words
 
 
 def shared(function):
     """What a function of lib.sh prints, which says why if it fails."""
-    done = subprocess.run(["bash", "-c", '. tools/lib.sh; "$1"', SCRIPT, function], stdout=subprocess.PIPE, text=True)
+    done = subprocess.run(["bash", "-c", '. tools/lib.sh; "$1"', NAME, function], stdout=subprocess.PIPE, text=True)
     if done.returncode:
         sys.exit(1)
     return done.stdout.strip()
 
 
-def git(*words, top="."):
-    """What git prints of a repository, or nothing if it fails."""
-    done = subprocess.run(["git", "-C", top, *words], capture_output=True, text=True)
+def git(*words):
+    """What git prints of the repository, or nothing if it fails."""
+    done = subprocess.run(["git", "-C", TOP, *words], capture_output=True, text=True)
     return done.stdout.strip() if done.returncode == 0 else ""
 
 
@@ -57,13 +56,11 @@ def read(name):
         return file.read()
 
 
-def write(name, text, mode=None):
-    """Writes a file, with its folders, and sets its mode if one is given."""
+def write(name, text):
+    """Writes a file, with its folders."""
     os.makedirs(os.path.dirname(name) or ".", exist_ok=True)
     with open(name, "w", encoding="utf-8", errors="surrogateescape", newline="") as file:
         file.write(text)
-    if mode:
-        os.chmod(name, mode)
 
 
 def holding(text, folder=None):
@@ -75,16 +72,14 @@ def holding(text, folder=None):
 
 
 def keep(path, text, is_checked, writer):
-    """Writes a file anew, or compares it: prints the first line that differs. Gives how many files are out of step."""
-    there = path.read_text(encoding="utf-8") if path.exists() else ""
-    if not is_checked and there != text:
-        path.write_text(text, encoding="utf-8")
-    pairs = itertools.zip_longest(there.split("\n"), text.split("\n"), fillvalue="(no line)")
-    for number, (old, new) in enumerate(pairs if is_checked else (), 1):
-        if old != new:
-            print(f"{path}:{number}: it has: {old}\n{path}:{number}: {writer} writes: {new}")
-            return 1
-    return 0
+    """Writes a file anew, or prints where it differs from what that would write. Gives how many are out of step."""
+    there = read(path) if path.exists() else ""
+    if is_checked:
+        lines = [it.splitlines(True) for it in (there, text)]
+        sys.stdout.writelines(difflib.unified_diff(*lines, str(path), writer, n=0))
+    elif there != text:
+        write(path, text)
+    return int(is_checked and there != text)
 
 
 def ticks_of(pid):
@@ -145,19 +140,19 @@ def checksum(text):
     return digits.translate(str.maketrans("0123456789abcdef", "ghijklmnopqrstuv"))
 
 
-def run(main, takes=".*", own=".*", folder=TOP):
-    """Ends with what the main function makes, in a folder, of the words, which have a form, each after a blank; or
-    prints the docstring if one of its own words asks for it: those that this form has, where words of a command follow.
-    If a file can't be read or written, or a command fails, it says so, with status 1."""
+def run(main, takes, folder=TOP):
+    """Ends with what the main function makes, in a folder, of the words, which have a form, each after a blank. If they
+    don't, and one asks for help, it prints the docstring. If a file can't be read or written, or a command fails, it
+    says so, with status 1."""
     words = sys.argv[1:]
     if sys.stdout is None:
         sys.exit(f"{NAME}: the standard output is closed")
     # a blank within a word would make two of it
     text = "".join(" " + re.sub(r"\s", "\0", it) for it in words)
-    if re.search(r" (-h|--help)( |$)", re.match(own, text)[0]):
-        print(sys.modules["__main__"].__doc__.strip())
-        sys.exit()
     if not re.fullmatch(takes, text):
+        if {"-h", "--help"} & {*words}:
+            print(sys.modules["__main__"].__doc__.strip())
+            sys.exit()
         misused(f"it doesn't take '{' '.join(words)}'" if words else "it takes arguments")
     try:
         os.chdir(folder)

@@ -334,4 +334,4 @@ def main(crate):
 
 
 if __name__ == "__main__":
-    script.run(main, r" \S+")
+    script.run(main, r" (?!-)\S+")

@@ -540,7 +540,7 @@ class Check(script.Tally):
     def compare_beside(self, real, version):
         """Compares texts, others for each commit, and random worlds with a real go, and leaves a record for
         tools/release/release.sh."""
-        expect, seed = functools.partial(self.expect, "comparisons beside go"), script.git("rev-parse", "HEAD", top=TOP)
+        expect, seed = functools.partial(self.expect, "comparisons beside go"), script.git("rev-parse", "HEAD")
         seed = TEXTS * int(seed[:6] or "0", 16)
         what = f"{TEXTS} texts from {seed}"
         said = expect(Programs(real), what, ["--texts", TEXTS, seed], 0, NONE)
@@ -624,4 +624,4 @@ def main(*words):
 
 
 if __name__ == "__main__":
-    script.run(main, folder=".")
+    script.run(main, r"( (?!(-h|--help)( |$))\S+)*", ".")

@@ -120,8 +120,8 @@ def lay_room(room):
         write(f"{room}/{number}/go.mod", "require {0} v1.0.0\nrequire (\n{0} v1.0.0\na.b/c v1.0.0\n)\n".format(
             text.replace("\n", "")))
     # what gomod is given, a byte of value 0 after each word
-    write(f"{room}/bin/gomod", f"#!/bin/sh\nprintf '%s\\0' \"$@\" > {room}/left && mv {room}/left {room}/left.whole\n",
-          0o755)
+    write(f"{room}/bin/gomod", f"#!/bin/sh\nprintf '%s\\0' \"$@\" > {room}/left && mv {room}/left {room}/left.whole\n")
+    os.chmod(f"{room}/bin/gomod", 0o755)
 
 
 def environment(room):
