@@ -7,14 +7,11 @@ own_name=${0##*/} own_name=${own_name%.*}
 
 # Prints the head comment of the script, and ends, if one of its arguments is -h or --help.
 begin_script() {
-  local argument
-  for argument; do
-    [[ $argument =~ ^(-h|--help)$ ]] || continue
-    # from where the script was called
-    cd "$OLDPWD" || exit
-    awk 'NR > 1 { if (!/^#/) exit; sub(/^# ?/, ""); print }' "$0"
-    exit
-  done
+  printf '%s\n' "$@" | grep -qxE -- '-h|--help' || return 0
+  # from where the script was called
+  cd "$OLDPWD" || exit
+  awk 'NR > 1 { if (!/^#/) exit; sub(/^# ?/, ""); print }' "$0"
+  exit
 }
 
 # Ends with status 1 for a reason.
@@ -73,10 +70,10 @@ GOMOD_MACHINE=${GOMOD_MACHINE:-}
 # Prints the nearest file of this name in this process's control group or those above it, which have the limits of a
 # container.
 of_control_group() {
-  local groups=$GOMOD_MACHINE/sys/fs/cgroup path
-  path=$(sed -n 's/^0:://p' "$GOMOD_MACHINE/proc/self/cgroup" 2> /dev/null) || return 0
-  while [ -n "$path" ] && [ ! -r "$groups$path/$1" ]; do path=${path%/*}; done
-  [ ! -r "$groups$path/$1" ] || echo "$groups$path/$1"
+  local folder
+  folder=$GOMOD_MACHINE/sys/fs/cgroup$(sed -n 's/^0:://p' "$GOMOD_MACHINE/proc/self/cgroup" 2> /dev/null) || return 0
+  until [ -r "$folder/$1" ] || [ -z "$folder" ]; do folder=${folder%/*}; done
+  echo "${folder:+$folder/$1}"
 }
 
 # How many MB of memory can be had: what the system has available, or less if a control group has a limit: this less
@@ -120,9 +117,8 @@ need_room() {
 # Whether a command of rt was killed, or what it said, in the file of the second argument, has that of what it started.
 # 247 is how rt ends if a check is killed. In both cases memory was most likely short.
 was_killed() {
-  local by_rt='was killed, most likely|\(SIGKILL\)|stopped by signal 9\b'
-  local by_tools='memory allocation of .* failed|out of memory$'
-  [ "$1" -eq 137 ] || [ "$1" -eq 247 ] || grep -qE "$by_rt|$by_tools" "$2"
+  [ "$1" -eq 137 ] || [ "$1" -eq 247 ] || grep -qE \
+    'was killed, most likely|\(SIGKILL\)|stopped by signal 9\b|memory allocation of .* failed|out of memory$' "$2"
 }
 
 # Ends all processes that one has started: a killed shell would leave them running.

@@ -52,15 +52,14 @@ def git(*words):
 
 def read(name):
     """The text of a file; bytes that are not UTF-8 are kept."""
-    with open(name, encoding="utf-8", errors="surrogateescape", newline="") as file:
-        return file.read()
+    return pathlib.Path(name).read_bytes().decode(errors="surrogateescape")
 
 
 def write(name, text):
     """Writes a file, with its folders."""
-    os.makedirs(os.path.dirname(name) or ".", exist_ok=True)
-    with open(name, "w", encoding="utf-8", errors="surrogateescape", newline="") as file:
-        file.write(text)
+    path = pathlib.Path(name)
+    path.parent.mkdir(parents=True, exist_ok=True)
+    path.write_bytes(text.encode(errors="surrogateescape"))
 
 
 def holding(text, folder=None):
@@ -131,7 +130,7 @@ class Tally(collections.Counter):
         """Prints the counts, and returns the status."""
         for kind in dict.fromkeys(kind for kind, _ in self):
             print(f"{kind}: {self[kind, True]} right, {self[kind, False]} wrong")
-        return int(any(self[kind, is_right] for kind, is_right in self if not is_right))
+        return int(any(count for (_, is_right), count in self.items() if not is_right))
 
 
 def checksum(text):
