@@ -53,7 +53,7 @@ readonly UNPROVED_MARK='(Rattle, nothing is proved)'
 
 # Whether bin/gomod is the program that the last proof left.
 is_last_proved() {
-  [ -x bin/gomod ] && cmp -s bin/gomod "$PROVED_PROGRAM" && [[ $(bin/gomod --version) =~ $PROVED_MARK$ ]]
+  cmp -s bin/gomod "$PROVED_PROGRAM" && [[ $(bin/gomod --version) =~ $PROVED_MARK$ ]]
 }
 
 # Ends with status 1 if there is no bin/gomod, and warns if that is older than a source.
