@@ -17,12 +17,12 @@ begin_script "$@"
 
 work=$(mktemp -d)
 trap 'rm -rf "$work"' EXIT
-readonly FROM=$PWD TOP=$work/top MACHINE=$work/machine DATA=crates/run_cases/data
+readonly FROM=$PWD TOP=$work/top RT=$work/path/rt MACHINE=$work/machine DATA=crates/run_cases/data
 readonly PROVED='echo "gomod 1.0 (Rattle, logic 0123456789abcdef)" # GLIBC_2.34'
 export PATH=$work/path:$PATH GOMOD_MACHINE=$MACHINE
 wrong=0 compared=0
 mapfile -t scripts < <(git ls-files -s | awk '$1 == 100755 { print $4 }')
-mapfile -t files < <(git ls-files ./*.md .ci .gitignore bench build docs/DECISIONS.md example share tools)
+mapfile -t files < <(git ls-files . ':!crates')
 
 # Compares what was got, the third argument, with a pattern.
 same() {
@@ -36,7 +36,7 @@ same() {
 # CPU time.
 ends() {
   local status=0
-  (ulimit -t 300 && exec "${@:2}") > "$work/output" 2> "$work/errors" || status=$?
+  (ulimit -t 300 && "${@:2}") > "$work/output" 2> "$work/errors" || status=$?
   same "${*:2}" "$1" "$status:$(cat "$work/output" "$work/errors")"
 }
 
@@ -47,14 +47,6 @@ lay() {
   chmod +x "$1"
 }
 
-# Makes a command rt, which leaves a file, and then does what is said.
-make_rt() {
-  rm -f "$work/called"
-  lay "$work/path/rt" "touch '$work/called'"$'\n'"$1"
-}
-
-calls_no_rt() { same "$1 calls no rt" "" "$(find "$work" -name called)"; }
-
 # Whether a record is as wanted: a pattern, or nothing if there must be none.
 leaves() { same "bin/$1" "$2" "$(cat "bin/$1" 2> /dev/null || true)"; }
 
@@ -63,12 +55,13 @@ commit() {
   git -c user.name=x -c user.email=x@example.com commit -qm x
 }
 
-# Makes the scratch repository anew and goes there. Its only crate is gomod, with a program that says it is proved. It
-# has all scripts: those of tools/ that are run only say what .ci/run calls them, but for these.
+# Makes the scratch folder anew, and goes to the repository there. Its only crate is gomod, with a program that says it
+# is proved. It has all scripts: those of tools/ that are run only say what .ci/run calls them, but for these. A command
+# rt leaves a file and fails. There are 4 processors, and 9 GB of disk.
 scratch() {
   local name
   cd "$FROM"
-  rm -rf "$TOP"
+  rm -rf "${work:?}"/*
   mkdir -p "$TOP/crates/gomod/src" "$TOP/$DATA"
   cp --parents -t "$TOP" "${files[@]}"
   cd "$TOP"
@@ -79,6 +72,9 @@ scratch() {
   touch crates/gomod/src/main.rt
   lay bin/gomod "$PROVED"
   lay crates/gomod/out/gomod "$PROVED"
+  lay "$RT" "touch '$work/called'; exit 9"
+  lay "$work/path/nproc" 'echo 4'
+  lay "$work/path/df" 'printf "\n- - - 9216000\n"'
   git init -q
   commit
 }
@@ -96,8 +92,8 @@ machine() {
   echo "${3:-max 100000}" > "$group/cpu.max"
 }
 
-# What a command says of the files that git has with these names, if it is there.
-check_code() {
+# Whether a command says nothing of the files that git has with these names, if it is there.
+says_nothing() {
   if command -v "${1%% *}" > /dev/null; then
     same "$1" "" "$(git ls-files -z "${@:2}" | xargs -0 $1 2>&1)"
   else
@@ -105,31 +101,29 @@ check_code() {
   fi
 }
 
-# What each script says of --help and an argument that none takes. It calls no rt, and writes nothing.
+# What each script says of --help and an argument that none takes. It writes nothing.
 check_words() {
   local script
-  make_rt "exit 9"
   scratch "${scripts[@]}"
   for script in "${scripts[@]}"; do
     ends "0:$(sed -n '/^#!/d;s/^"""//;s/"""$//;s/^# //;p;q' "$script")*" "./$script" --help
     [[ $script == example/* ]] || ends "2:*@(--nosuch|--help)*" "./$script" --nosuch
   done
   same "what --help writes" "" "$(git status --porcelain)"
-  calls_no_rt "--help"
   ends "1:sources: ?Errno 28? No space left*" bash -c "tools/check/sources.py gomod > /dev/full"
 }
 
+limits() { free_memory_mb && processors; }
+
 check_limits() {
-  # sourced anew, since the folder of the machine is read at that time
-  local limits=(bash -c '. tools/lib.sh; free_memory_mb; processors')
   scratch
   machine 5000 1200 "100000 100000"
-  ends $'0:1140\n1' "${limits[@]}"
+  ends $'0:1140\n1' limits
   machine 5000 9000
-  ends $'0:5000\n4' "${limits[@]}"
+  ends $'0:5000\n4' limits
   rm "$MACHINE/proc/self/cgroup"
-  ends $'0:5000\n4' "${limits[@]}"
-  ends "1:bash: x needs 9001 MB of disk, and 9000 MB are free" bash -c '. tools/lib.sh; need_room x 5000 9001'
+  ends $'0:5000\n4' limits
+  ends "1:check-scripts: x needs 9001 MB of disk, and 9000 MB are free" need_room x 5000 9001
   ends "1:bash: x needs the command rt: *" bash -c 'command() { false; }; . tools/lib.sh; need_room x 5000 9000'
 }
 
@@ -138,21 +132,19 @@ check_refusals() {
   rm bin/gomod
   echo before > bin/gate.txt
   machine 9000
-  make_rt "exit 9"
   CC=no-cc ends "1:run: the gate needs the command no-cc" .ci/run
   RT_JOBS=0 ends "1:run: RT_JOBS is '0', and not a number*" .ci/run
   machine 9000 1260
   ends "1:build: a build needs 4000 MB of memory*" ./build
   ends "1:run: the gate needs 4200 MB of memory*" .ci/run
   ends "125:*unproved: an unproved program needs 2500 MB of memory*" ./build --try list
-  calls_no_rt "what was refused"
   leaves gate.txt before
 }
 
 check_gate() {
   scratch
   unset RT_JOBS
-  make_rt 'echo "$RT_JOBS jobs"; echo "1 passed, 0 failed"'
+  lay "$RT" 'echo "$RT_JOBS jobs"; echo "1 passed, 0 failed"'
   machine 7300
   ends "0:*
 2 jobs
@@ -168,11 +160,11 @@ tools/release/release.sh
   ends "1:*1 passed, 0 failed" .ci/run
   leaves gate.txt ""
   machine 5900
-  make_rt 'echo "rt: gomod: the program was stopped by signal 9"; echo "0 passed, 1 failed"; exit 1'
+  lay "$RT" 'echo "rt: gomod: the program was stopped by signal 9"; echo "0 passed, 1 failed"; exit 1'
   ends "1:*0 passed, 1 failed
 *likely to take more than 150 minutes*killed most likely wanted memory*" .ci/run
   leaves gate.txt ""
-  make_rt 'echo "BAD EDIT x"; echo "1 passed, 0 failed"'
+  lay "$RT" 'echo "BAD EDIT x"; echo "1 passed, 0 failed"'
   RT_JOBS=2 ends "1:*1 passed, 0 failed" .ci/run
 }
 
@@ -187,7 +179,7 @@ check_quick() {
   scratch
   cp -r bin "$work/before"
   machine 2500
-  make_rt ""
+  lay "$RT" ""
   lay tools/try/readme.py "echo 'skipped, for want of dot: 3 examples'"
   quick "0:*14 checks passed, 0 failed, skipped for want of dot: 3 examples" "$can"
   quick "1:*
@@ -196,7 +188,7 @@ run: tools/release/unproved.sh --both run_cases failed, *5 checks passed, 1 fail
     'echo wrong && exit 1'
   quick "0:*2 checks passed, 0 failed" "$can" documents layout
   ends "2:run: --quick has no check 'x'; '*.ci/run --help' says what it takes" .ci/run --quick x
-  make_rt 'echo x >> src/main.rt'
+  lay "$RT" 'echo x >> src/main.rt'
   quick "1:*run: layout failed*" "$can" layout
   lay tools/release/unproved.sh "echo \$\$ > '$work/begun'; sleep 60"
   .ci/run --quick > /dev/null &
@@ -209,25 +201,26 @@ run: tools/release/unproved.sh --both run_cases failed, *5 checks passed, 1 fail
   ends "1:run: --quick needs 2500 MB of memory, and 2400 MB are free here" .ci/run --quick
 }
 
+# Compares why a release is refused.
+refuses() { ends "1:release: $1" tools/release/release.sh "$work/released" "${@:2}"; }
+
 check_unproved() {
   local install=(./build --install "$work/installed")
   scratch tools/release/unproved.sh tools/release/release.sh
   ends "1:unproved: $TOP/program is in the repository*" tools/release/unproved.sh "$TOP/program"
+  touch -d "1 hour" crates/gomod/PROOFS.md
+  ends "0:$work/installed/bin/gomod*/example" "${install[@]}"
+  touch -d "1 hour ago" bin/gomod
+  ends "0:*build: bin/gomod is older than*" "${install[@]}"
   lay bin/gomod "$PROVED of other sources"
   ends "1:build: bin/gomod isn't the program*" "${install[@]}"
   lay bin/gomod 'echo "gomod 1 (Rattle, nothing is proved)"'
   cp bin/gomod crates/gomod/out
   ends "1:build: bin/gomod isn't the program*" "${install[@]}"
-  ends "1:release: bin/gomod isn't the program*" tools/release/release.sh "$work/released"
+  refuses "bin/gomod isn't the program*"
   ends "1:release: bin/gomod isn't proved: its version is 'gomod 1 (Rattle, nothing is proved)'" \
     tools/release/release.sh --check
-  same "what was refused was not installed" "" "$(find "$work" -name installed -o -name released)"
-  lay bin/gomod "$PROVED"
-  cp bin/gomod crates/gomod/out
-  touch -d "1 hour" crates/gomod/PROOFS.md
-  ends "0:$work/installed/bin/gomod*/example" "${install[@]}"
-  touch -d "1 hour" crates/gomod/src/main.rt
-  ends "0:*build: bin/gomod is older than*" "${install[@]}"
+  same "what was refused was not released" "" "$(find "$work" -name released)"
   same "what is installed" "$PROVED CHANGELOG.md README.md docs example" \
     "$(tail -n 1 "$work/installed/bin/gomod") $(cd "$work/installed/share/doc/gomod" && echo *)"
 }
@@ -244,7 +237,7 @@ check_refused_memory() {
   scratch tools/try/refuse-memory.sh
   refuse_memory "" "1:refuse-memory: there is no case 'selection.txt: The*" "" --check
   cp "$FROM/$DATA"/*.txt $DATA
-  mkdir -p crates/run_cases/out docs/proof
+  mkdir -p crates/run_cases/out
   "${CC:-cc}" -x c -o crates/run_cases/out/run_cases - <<< 'int main(void) { return 0; }'
   echo "at 01234567 none of 1,234 runs was wrong" > docs/proof/PROVED.md
   refuse_memory "$passes" "0:yes:*:$DATA/chains.txt *calls of libraries, 1 runs" "" --check
@@ -277,13 +270,9 @@ $(sha256sum bin/gomod)"
   program "$passes" 1 ""
 }
 
-# Compares why a release is refused.
-refuses() { ends "1:release: $1" tools/release/release.sh "$work/released" "${@:2}"; }
-
 check_release() {
   local records='' name line right number=0
   scratch tools/release/release.sh
-  lay tools/try/readme.py ""
   printf '%s\n' "glibc 2.34" "## Try it" "## When to use it" > README.md
   echo "## 1.0 (unreleased)" > CHANGELOG.md
   refuses "this is no gate that passed: '5 passed, 1 failed'" --gate "5 passed, 1 failed"
@@ -293,7 +282,7 @@ check_release() {
     refuses "there is no bin/$name.txt: run *"
     line="$((number += 1)) passed, 0 failed" right=$(sha256sum bin/gomod)
     case $name in checked | mistakes) right=$(checksum_of_program) ;; esac
-    printf '%s\n' "$line" "$(tr 0-9 1-90 <<< "$right")" > "bin/$name.txt"
+    printf '%s\n' "$line" "${right/[0-9]/x}" > "bin/$name.txt"
     refuses "bin/$name.txt is of another program or sources ($line): run *"
     printf '%s\n' "$line" "$right" > "bin/$name.txt"
     records+="*: $line"
@@ -315,12 +304,12 @@ check_build() {
   machine 9000
   for how in 'kill -9 $$' 'exit 247' 'echo "clang failed with signal: 9 (SIGKILL)"; exit 1' \
     'echo "rt: the check was killed, most likely for memory: once more"; exit 1'; do
-    make_rt "$how"
+    lay "$RT" "$how"
     ends "1:*the proof of crates/gomod was killed, most likely for want of memory*" ./build
   done
-  make_rt 'echo "src/main.rt: error"; exit 1'
+  lay "$RT" 'echo "src/main.rt: error"; exit 1'
   ends $'1:*src/main.rt: error\nbuild: failed in crates/gomod' ./build
-  make_rt 'mkdir -p out; install -m 755 /dev/null out/gomod'
+  lay "$RT" 'mkdir -p out; install -m 755 /dev/null out/gomod'
   ends "0:*$TOP/bin/gomod" ./build
 }
 
@@ -332,7 +321,6 @@ try() {
 
 check_try() {
   scratch
-  make_rt "exit 9"
   mkdir "$work/a b"
   lay "$work/tried" 'IFS="|"; echo "$PWD|$*"; cat; echo a.mod:2: OpenBlock >&2; exit 3'
   lay tools/release/unproved.sh "echo \"\$1\" >> '$work/compiled'; cp '$work/tried' \"\$2\""
@@ -348,24 +336,13 @@ build: *nothing is proved*a.mod:2: OpenBlock" 1 fmt go.mod "" "a  b" < <(echo gi
   echo >> crates/gomod/src/main.rt
   lay tools/release/unproved.sh 'echo wrong >&2; exit 1'
   try "125:*wrong" 2 list
-  calls_no_rt "build --try"
 }
 
-# 4 processors, and 9 GB of disk
-lay "$work/path/nproc" 'echo 4'
-lay "$work/path/df" 'printf "Filesystem 1024-blocks Used Available Capacity Mounted\n/dev/x 1 1 9216000 1%% /\n"'
-check_code "shellcheck -x -S warning" '*.sh' build .ci/run
-check_code pyflakes3 '*.py'
-check_words
-check_limits
-check_refusals
-check_gate
-check_quick
-check_unproved
-check_refused_memory
-check_opened
-check_release
-check_build
-check_try
+says_nothing "shellcheck -x -S warning" '*.sh' build .ci/run
+says_nothing pyflakes3 '*.py'
+for check in $(compgen -A function check_); do
+  "$check"
+  same "$check calls no rt but its own" "" "$(find "$work" -name called)"
+done
 echo "scripts: $compared things compared, $wrong wrong"
 [ "$wrong" -eq 0 ]
