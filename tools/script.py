@@ -81,13 +81,26 @@ def keep(path, text, is_checked, writer):
     return int(is_checked and there != text)
 
 
+def numbers_of(pid):
+    """The numbers that the system has of a process, from that of what began it on: the fourth of proc(5) and later."""
+    return [int(it) for it in read(f"/proc/{pid}/stat").rpartition(")")[2].split()[1:]]
+
+
+def begun_by(pid):
+    """The processes that one has begun, each by a thread, and that are there."""
+    begun = []
+    for thread in os.listdir(f"/proc/{pid}/task"):
+        with contextlib.suppress(OSError):
+            begun += read(f"/proc/{pid}/task/{thread}/children").split()
+    return begun
+
+
 def ticks_of(pid):
     """How much a process has used the processor, with all that it began."""
     ticks = 0
     with contextlib.suppress(OSError):
-        ticks = sum(map(int, read(f"/proc/{pid}/stat").rpartition(")")[2].split()[11:15]))
-        for thread in os.listdir(f"/proc/{pid}/task"):
-            ticks += sum(map(ticks_of, read(f"/proc/{pid}/task/{thread}/children").split()))
+        ticks = sum(numbers_of(pid)[10:14])
+        ticks += sum(map(ticks_of, begun_by(pid)))
     return ticks
 
 
