@@ -17,8 +17,7 @@ The commands of COMMANDS.md and RECIPES.md run once more, on a stranger's projec
 outside their scratch folders may change, no text may run, and what is fetched has to have the bytes of the proxy.
 
 The pieces of code of docs/lib/LIBRARY.md, fenced as rust, have to stand in the sources of the crate that is named
-before them (`From CRATE:`); the whole program, that of crates/library_example, is compiled and runs in a fresh folder,
-by the commands beside it. Each link to a file of the repository, or to a heading of one, has to lead there, and in
+before them (`From CRATE:`). The commands of "A whole program" compile it and run it in a fresh folder. Each link to a file of the repository, or to a heading of one, has to lead there, and in
 README.md and docs/use no comment may follow a command, since zsh takes one that is typed for words.
 
 It needs bin/gomod (./build makes it), and unless --quick is given the toolchain of Rattle and 3.4 GB of memory. The
@@ -27,7 +26,6 @@ last lines count what was right and wrong, and the examples that were skipped fo
 """
 
 import collections
-import contextlib
 import functools
 import glob
 import json
@@ -48,12 +46,10 @@ SECONDS = 300
 OPTIONAL = ("bwrap", "curl", "dot", "git", "jq", "vim")
 COPIED = ("README.md", "CHANGELOG.md", "docs", "example", "share")
 BASH, ZSH = ["bash", "-c"], ["zsh", "-f", "-c"]
-# what users paste into a shell that they type in
-PASTED = r"README\.md|docs/use/\w+\.md"
-# the section whose program is compiled: commands that make a crate, the program, and an example that runs it
+# the section whose program is compiled: commands that make its crate, the program, and an example that runs it
 SECTION = r"(?ms)^## A whole program\n.*?(?=^## |\Z)"
-INDENTED = r"((?:^    [^\n]*\n)+)"
-PROGRAM = rf"(?ms){INDENTED}.*?^```rust\n(//!.*?)^```$.*?{INDENTED}"
+FENCED = r"(?ms)^```.*?^```$"
+CODE_LINE = r"(?m)^(?!use |ghost use ) *[^\s/].*"  # one of the program, but for uses, comments and blank lines
 PROGRAM_LINES = 40  # how many it may have
 SANDBOX = ["bwrap", "--unshare-all", "--ro-bind", "/", "/", "true"]
 
@@ -99,18 +95,15 @@ def files_in(room):
     return {os.path.relpath(it, room): content_of(it, os.lstat(it)) for it in paths}
 
 
-@contextlib.contextmanager
-def scratch_room():
-    """A scratch folder with the files of this one in `top`, of which those that examples may read are copied and others
-    are links, and a folder for temporary files beside it."""
-    with tempfile.TemporaryDirectory(prefix="gomod-readme-") as folder:
-        os.makedirs(f"{folder}/top")
-        os.makedirs(f"{folder}/tmp")
-        names = set(os.listdir()) - {".git"}
-        subprocess.run(["cp", "-a", *names.intersection(COPIED), f"{folder}/top"], check=True)
-        for name in names.difference(COPIED):
-            os.symlink(os.path.abspath(name), f"{folder}/top/{name}")
-        yield folder
+def lay_files(room):
+    """Lays the files of this folder in `top`, of which those that examples may read are copied and others are links,
+    and a folder for temporary files beside it."""
+    os.makedirs(f"{room}/top")
+    os.makedirs(f"{room}/tmp")
+    names = set(os.listdir()) - {".git"}
+    subprocess.run(["cp", "-a", *names.intersection(COPIED), f"{room}/top"], check=True)
+    for name in names.difference(COPIED):
+        os.symlink(os.path.abspath(name), f"{room}/top/{name}")
 
 
 def lay_stranger(room):
@@ -146,7 +139,8 @@ class Documents:
     def run(self, commands, shell, lay=lambda room: None):
         """Runs commands in one shell and a fresh room: what each prints, all files then, and what of them changed."""
         text = "".join(f"ended=$?; printf '\\036'; (exit $ended)\n{it}\n" for it in commands)
-        with scratch_room() as room:
+        with tempfile.TemporaryDirectory(prefix="gomod-readme-") as room:
+            lay_files(room)
             lay(room)
             before = files_in(room)
             ran = run_within([*shell, text], SECONDS, cwd=f"{room}/top", stdin=subprocess.DEVNULL,
@@ -157,35 +151,24 @@ class Documents:
         return ran.stdout.decode("utf-8", "replace").split("\036")[1:], after, changed
 
     def run_examples(self, name, text):
-        """Runs the examples of a document, all in one shell, in order and backwards."""
-        found, wrong = [], set()
+        """Runs the examples of a document in order and backwards, each time all in one shell."""
+        found = []
         for block in blocks(text):
             if lacking := absent([command for _, command, _ in block]):
                 self.skipped[", ".join(lacking)] += len(block)
             else:
                 found.append(block)
-        for title, shell, step in (("in order", BASH, 1), ("backwards", ZSH, -1)) if found else ():
+        for order, shell in ((found, BASH), (found[::-1], ZSH)) if found else ():
             if not shutil.which(shell[0]):
                 self.skipped[shell[0]] += sum(map(len, found))
                 shell = BASH
-            order = sorted(found[::step], key=only_makes_a_folder, reverse=True)
-            wrong |= self.run_pass(f"{name} ({title}, in {shell[0]})", [it for block in order for it in block], shell)
-        self.tally["examples", True] += sum(map(len, found)) - len(wrong)
-        self.tally["examples", False] += len(wrong)
-
-    def run_pass(self, name, examples, shell):
-        """Runs examples in a shell. It gives the lines of those that print something else."""
-        wrong = set()
-        got, _, changed = self.run([command for _, command, _ in examples], shell)
-        got += ["(it did not run)\n"] * (len(examples) - len(got))
-        for (number, command, wanted), came in zip(examples, got):
-            if came != wanted:
-                wrong.add(number)
-                print(f"{name}:{number}: $ {command}\n    prints\n{quoted(came)}", end="")
-                print(f"    and should print\n{quoted(wanted)}", end="")
-        message = f"{name}: the examples leave changed: {', '.join(sorted(changed))}"
-        self.tally.tell("folders left as they were", not changed, message)
-        return wrong
+            examples = sum(sorted(order, key=only_makes_a_folder, reverse=True), [])
+            got, _, changed = self.run([command for _, command, _ in examples], shell)
+            for (number, command, wanted), came in zip(examples, got + ["(it did not run)\n"] * len(examples)):
+                message = f"{name}:{number}: $ {command}\n    prints in {shell[0]}\n{quoted(came)}"
+                self.tally.tell("examples", came == wanted, f"{message}    and should print\n{quoted(wanted)}")
+            message = f"{name}: the examples leave changed: {', '.join(sorted(changed))}"
+            self.tally.tell("folders left as they were", not changed, message)
 
     def run_on_stranger(self):
         """Runs the commands of two pages on a stranger's project, which cp copies."""
@@ -208,19 +191,18 @@ class Documents:
 
     def find_comments(self, name, text):
         """Whether no indented line has a comment behind a command: zsh takes one that is typed for words."""
-        for it in re.finditer(r"(?m)^    (?!\$ )(.*)", text):
-            message = f"{name}:{number_at(text, it.start())}: a comment behind a command, which zsh takes for words"
-            self.tally.tell("lines without a prompt", not re.search(r"\S\s+# ", it[1]), message)
+        found = re.findall(r"(?m)^    (?!\$ ).*\S\s+# .*", text)
+        self.tally.tell("pages without comments", not found, "\n".join([f"{name}: comments behind commands:", *found]))
 
     def compare_code(self, name, text):
-        """Whether each piece of code is in a source of the crate that was named last before it, and the whole program
-        in library_example."""
-        for found in re.finditer(r"(?ms)^```rust\n(.*?)^```$", text):
-            crates = re.findall(r"(?m)\bFrom (\w+):$", text[:found.start()]) or [""]
-            crate = "library_example" if found[1].startswith("//!") else crates[-1]
-            is_right = any(found[1] in read(it) for it in glob.glob(f"crates/{crate}/src/**/*.rt", recursive=True))
-            message = f"{name}:{number_at(text, found.start())}: this code is not in crates/{crate}"
-            self.tally.tell("pieces of code", is_right, message)
+        """Whether each piece of code is in a source of the crate that was named last before it."""
+        crate = ""
+        for found in re.finditer(r"(?ms)\bFrom (\w+):$|^```rust\n(.*?)^```$", text):
+            crate = found[1] or crate
+            if found[2]:
+                is_right = any(found[2] in read(it) for it in glob.glob(f"crates/{crate}/src/**/*.rt", recursive=True))
+                message = f"{name}:{number_at(text, found.start())}: this code is not in crates/{crate}"
+                self.tally.tell("pieces of code", is_right, message)
 
     def follow_links(self, name, text):
         """Whether each link to a file, or to a heading of one, leads there."""
@@ -232,28 +214,26 @@ class Documents:
 
 def anchors(path):
     """The headings of a page, as links have them."""
-    headings = re.findall(r"(?m)^#+ (.*)", blanked(r"(?ms)^```.*?^```", read(path))) if path.endswith(".md") else []
+    headings = re.findall(r"(?m)^#+ (.*)", blanked(FENCED, read(path))) if path.endswith(".md") else []
     return {re.sub(r"[^\w\- ]", "", it.lower()).replace(" ", "-") for it in headings}
 
 
-def problem_of(text):
-    """What is wrong with the whole program of a page, or an empty text. Its commands run in a folder outside the
+def problem_of(section):
+    """What is wrong with the section of the whole program, or an empty text. Its commands run in a folder outside the
     repository, in which gomod is a link to it, and the standard output of the last is compared."""
-    section = re.search(SECTION, text)
-    parts = section and re.search(PROGRAM, section[0])
-    if not parts:
-        return "there are no commands, no program or no run"
-    make, run, program = *(re.sub(r"(?m)^    ", "", parts[it]) for it in (1, 3)), parts[2]
-    code = [it for it in program.split("\n") if it.strip() and not re.match(r"\s*//|(?:ghost )?use ", it)]
+    program = "".join(re.findall(r"(?ms)^```rust\n(.*?)^```$", section))
+    code = re.findall(CODE_LINE, program)
     if len(code) > PROGRAM_LINES:
         return f"the program has {len(code)} lines outside use, blank lines and comments; {PROGRAM_LINES} are the most"
-    command, _, wanted = run.removeprefix("$ ").partition("\n")
+    make, _, run = "".join(re.findall(r"(?m)^    (.*\n)", blanked(FENCED, section))).partition("$ ")
+    command, _, wanted = run.partition("\n")
     with tempfile.TemporaryDirectory(prefix="gomod-library-") as folder:
         os.symlink(os.path.abspath("."), f"{folder}/gomod")
-        steps = f"set -eu\nexec 3>&1 > /dev/null\n{make}cat > crates/hello/src/main.rt\nexec >&3\n{command}\n"
+        steps = f"set -eu\n{{ {make}cat > crates/hello/src/main.rt\n}} >&2\n{command}\n"
         ran = subprocess.run([*BASH, steps], cwd=folder, input=program, text=True, capture_output=True,
                              env={**os.environ, "TMPDIR": folder})
-    return "" if (ran.returncode, ran.stdout) == (0, wanted) else f"it prints\n{quoted(ran.stdout + ran.stderr)}"
+    is_right = wanted and (ran.returncode, ran.stdout) == (0, wanted)
+    return "" if is_right else f"it prints\n{quoted(ran.stdout + ran.stderr)}"
 
 
 def main(*names):
@@ -269,12 +249,13 @@ def main(*names):
         text = read(name)
         documents.run_examples(name, blanked(SECTION, text))
         documents.follow_links(name, text)
-        if re.fullmatch(PASTED, name):
+        # what users paste into a shell that they type in
+        if name.startswith(("README.md", "docs/use/")):
             documents.find_comments(name, text)
         if os.path.basename(name) == "LIBRARY.md" and has_sources:
             documents.compare_code(name, text)
             if not is_quick:
-                wrong = problem_of(text)
+                wrong = problem_of("".join(re.findall(SECTION, text)))
                 documents.tally.tell("programs", not wrong, f"{name}: the whole program: {wrong}")
     if not names and has_sources:
         documents.run_on_stranger()
