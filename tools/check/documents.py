@@ -3,12 +3,10 @@
 
     tools/check/documents.py                  README.md, all documents of docs/, PROOFS.md and MISTAKES.md of crates,
                                               and what is told of below
-    tools/check/documents.py FILE..           what these name alone
     tools/check/documents.py --accept NAME..  writes the checksums anew of the sentences bound to these laws, or to
                                               `all`
     tools/check/documents.py --trusted LOG    whether docs/proof/PROVED.md has the `axioms` lines and the verdict of
                                               gomod in a log of `rt ci`, or of `rt check` in crates/gomod
-    tools/check/documents.py --trust LOG      writes them there
 
 What a document names is a table in docs/dev/DEVELOPING.md ("What a document names"). How long one may be is a table
 below, without bars of tables, fenced code, comments, quotes (`>`), and what scripts write between marks (`<!-- show`).
@@ -69,7 +67,7 @@ BUDGETS = """
 """
 HELP, COUNTS = "crates/gomod_words/src/help.rt", "crates/run_cases/stdout"
 MISTAKES, FIGURES = "crates/run_cases/MISTAKES.md", "docs/dev/BENCHMARKS.md"
-LIBRARY, PROVED = "docs/lib/LIBRARY.md", pathlib.Path("docs/proof/PROVED.md")
+LIBRARY, PROVED = "docs/lib/LIBRARY.md", "docs/proof/PROVED.md"
 # what documents have, each time, and the file that has the same
 ALIKE = (
     ("*", r"\bgomod (\d+\.\d+\.\d+ \([^()]*\))", HELP, r'VERSION: &str = "(.*)"'),
@@ -78,7 +76,7 @@ ALIKE = (
     (MISTAKES, r"\b[Aa]ll (\d[\d,]*) cases\b", COUNTS, r"(\d+) passed, 0 failed"),
     (MISTAKES, r"\ball (\d[\d,]*) runs\b", COUNTS, r"failed, (\d+) runs"),
     ("docs/use/RECIPES.md", r"curl (\d+\.\d+) or newer", "example/fetch-missing.sh", r"curl \((\d+\.\d+) or newer"),
-    ("docs/proof/PROVED.md", r"calls of the system alone: ([\w, ]+?) \|",
+    (PROVED, r"calls of the system alone: ([\w, ]+?) \|",
      "tools/try/opened.py", r"OWN = set\(\"([\w ]+)"),
     ("README.md", r"in (\d+ to \d+) minutes on four cores", "build", r"from nothing this takes (\d+ to \d+) minutes"),
     ("README.md", r"(\d+) GB of disk", "build", r"DISK_MB=(\d+)000"),
@@ -175,7 +173,9 @@ class Sources:
         return [f"{it}::{name}" for it in owners]
 
     def has(self, kind, thing):
-        """Whether there is such a thing."""
+        """Whether a thing is of a kind."""
+        if kind == "edits that went":
+            return thing not in self.known["edits"]
         if kind == "commits":
             whole = git("rev-parse", f"{thing}^{{commit}}")
             return is_shallow() or whole and whole == git("merge-base", whole, "HEAD")
@@ -226,13 +226,14 @@ def mentioned(line, page, tops):
     yield from (("commits", it) for it in COMMIT.findall(line))
 
 
-def keep_names(tally, page, sources):
-    """Looks up all that a page names."""
-    text = re.sub(r"(?ms)^```.*?^```$", lambda it: "\n" * it[0].count("\n"), read(page))
-    for number, line in enumerate(text.split("\n"), 1):
-        for kind, thing in mentioned(line, page, sources.tops):
-            is_right = not sources.has("edits", thing) if kind == "edits that went" else sources.has(kind, thing)
-            tally.tell(kind, is_right, f"{page}:{number}: {kind}: there is {'a' if 'went' in kind else 'no'} {thing}")
+def keep_names(tally):
+    """Looks up all that the documents name."""
+    sources = Sources()
+    for page in pages():
+        text = re.sub(r"(?ms)^```.*?^```$", lambda it: "\n" * it[0].count("\n"), read(page))
+        for number, line in enumerate(text.split("\n"), 1):
+            for kind, thing in mentioned(line, page, sources.tops):
+                tally.tell(kind, sources.has(kind, thing), f"{page}:{number}: {thing} isn't one of the {kind}")
 
 
 # ---- lengths
@@ -276,15 +277,13 @@ def keep_alike(tally):
 
 
 def keep_pins(tally):
-    """Whether each block that was read beside others, `<!-- read beside OTHERS: CHECKSUM -->`, is as it was then, and
-    so each page that has a comment `page read beside`."""
+    """Whether each text that was read beside others is as it was then: what precedes the comment, or the whole page."""
+    form = r"(?m)((?:^.+\n)*)^(<!-- (page )?read beside (.+): (\w+) -->)$"
     for page in pages():
-        blocks = re.findall(r"(?m)((?:^.+\n)+)^<!-- read beside (.+): (\w+) -->$", read(page))
-        whole = re.findall(r"(?s)\A(.*)<!-- page read beside ([^\n]+): (\w+) -->\n(.*)\Z", read(page))
-        for text, others, then in [*blocks, *((head + rest, *of) for head, *of, rest in whole)]:
-            now = checksum(text)
-            tally.tell("texts read beside others", now == then, f"{page}: read this beside {others}, and write {now} "
-                       f"below it: {text[:100]}")
+        for block, comment, is_page, others, then in re.findall(form, read(page)):
+            text = read(page).replace(comment, "") if is_page else block
+            tally.tell("texts read beside others", checksum(text) == then, f"{page}: read this beside {others}, and "
+                       f"write {checksum(text)} below it: {text[:100]}")
 
 
 def keep_figures(tally):
@@ -314,39 +313,35 @@ def keep_derives(tally):
     tally.tell("derives", not wrong, f"{LIBRARY}: what it says of Debug and Hash isn't so: {', '.join(sorted(wrong))}")
 
 
-def trusted(log, is_written):
-    """Compares what a log says that the check of gomod trusts with PROVED.md, or writes it there; gives the status."""
-    parts = re.split(r"(?m)^== (\S+).*\n", read(log))
-    said = dict(zip(parts[1::2], parts[2::2])).get("gomod", "") if len(parts) > 1 else parts[0]
-    verdicts = re.findall(r"(?m)^logic=proved.*target=.*", said)
+def keep_trusted(tally, log):
+    """Whether docs/proof/PROVED.md has what a log says that the check of gomod trusts."""
+    said = [it for it in re.split(r"(?m)^== ", f"gomod\n{read(log)}") if re.match(r"gomod\s", it)][-1]
+    verdicts = re.findall(r"(?m)^logic=proved.*target=.*\n", said)
     if not verdicts:
         print("documents: the log has no verdict of gomod, so nothing was compared")
-        return 0
+        return
     # what speeds a check up alone isn't in the gate's verdict
-    lines = [*re.findall(r"(?m)^axioms \w+: .*", said), re.sub(" (incremental|cache)=trusted", "", verdicts[-1])]
-    text, count = re.subn(r"(?ms)^(<!-- show trusted -->\n```\n).*?^(```\n<!-- end -->)$",
-                          lambda it: it[1] + "".join(f"{line}\n" for line in lines) + it[2], PROVED.read_text())
-    if not count:
-        sys.exit(f"documents: {PROVED} has no marks `<!-- show trusted -->`")
-    return script.keep(PROVED, text, not is_written, "tools/check/documents.py --trust LOG")
+    verdict = re.sub(" (incremental|cache)=trusted", "", verdicts[-1])
+    axioms = re.findall(r"(?m)^axioms \w+: .*\n", said)
+    wanted = f"```\n{''.join(axioms)}{verdict}```\n"
+    tally.tell("what gomod rests on", wanted in read(PROVED), f"{PROVED}: it should have these lines:\n{wanted}")
 
 
 def main(*words):
     """Looks up what the documents name, prints what isn't there, and returns the status."""
     if words[:1] == ("--accept",):
         return sentences.accept(words[1:])
-    if words[:1] in (("--trust",), ("--trusted",)):
-        return trusted(words[1], words[0] == "--trust")
     if not git("rev-parse", "HEAD"):
         sys.exit("documents: this is no repository of git, so nothing can be looked up")
-    sources, tally = Sources(), Tally()
-    for page in words or pages():
-        keep_names(tally, page, sources)
-    for keep in () if words else (sentences.keep, keep_budgets, keep_figures, keep_alike, keep_pins, keep_derives,
-                                  messages.keep, names.keep, bodies.keep, refusals.keep):
+    tally = Tally()
+    if words[:1] == ("--trusted",):
+        keep_trusted(tally, words[1])
+        return tally.status()
+    for keep in (keep_names, sentences.keep, keep_budgets, keep_figures, keep_alike, keep_pins, keep_derives,
+                 messages.keep, names.keep, bodies.keep, refusals.keep):
         keep(tally)
     return tally.status()
 
 
 if __name__ == "__main__":
-    script.run(main, r"(( --accept)?( (?!-)\S+)+| --trust(ed)? (?!-)\S+)?")
+    script.run(main, r"( --accept( (?!-)\S+)+| --trusted (?!-)\S+)?")
