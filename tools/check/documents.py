@@ -13,9 +13,9 @@ below, without bars of tables, fenced code, comments, quotes (`>`), and what scr
 README.md has at most 600 words outside examples and tables, and eight sentences of 30 on what is verified; a release
 has 500 in CHANGELOG.md. README.md's figures of speed are those of docs/dev/BENCHMARKS.md, and both name the commit that
 was measured, which changed a source. What another file has too, as versions and counts, is compared (ALIKE). Other
-facts have a comment below them, `<!-- read beside OTHERS: CHECKSUM -->`: if the text changes, read it beside these
-again, and write the checksum that is printed. Types derive no Hash, and Debug if they are errors or docs/lib/LIBRARY.md
-names them.
+facts have a comment below them, `<!-- read beside OTHERS: CHECKSUM -->`, or a page has one, `page read beside`: if the
+text changes, read it beside these again, and write the checksum that is printed. Types derive no Hash, and Debug if
+they are errors or docs/lib/LIBRARY.md names them.
 
 If a sentence on what is proved, or what its law states, isn't the one of its checksum (tools/check/sentences.py), both
 are printed. Who changes one compares them before --accept. Then come the lines that cases print
@@ -51,13 +51,14 @@ ELSEWHERE = set("Dec Lts RT_JOBS axioms com1 com9 cpu drain extern into_iter lpt
                 " timeout tred v2".split())
 OTHER_ROOTS = {"Env", "Rc", "Vec", "anyhow", "env", "std"}  # what a path of such names begins with
 MADE = re.compile("crates/hello(/|$)|.*/out(/|$)")  # what LIBRARY.md, or a build, makes
-# how many words documents may have together: a number, and the documents or patterns of their names
+# how many words documents, or the program of one, may have together: a number, and patterns of names
 BUDGETS = """
  7450 docs/use/*.md
  2000 docs/use/GO.md
 12100 docs/proof/*.md
  5090 docs/proof/SPEC.md
  1500 docs/lib/*.md
+  285 crates/library_example/src/main.rt
  6150 docs/dev/*.md
  1750 docs/dev/CASES.md
  2750 docs/DECISIONS.md
@@ -68,8 +69,11 @@ BUDGETS = """
 HELP, COUNTS = "crates/gomod_words/src/help.rt", "crates/run_cases/stdout"
 MISTAKES, FIGURES = "crates/run_cases/MISTAKES.md", "docs/dev/BENCHMARKS.md"
 LIBRARY, PROVED = "docs/lib/LIBRARY.md", "docs/proof/PROVED.md"
+MEASURED = r"(?m)^Measured at `(\w+)`\.$"
 # what documents have, each time, and the file that has the same
 ALIKE = (
+    ("README.md", MEASURED, FIGURES, MEASURED),
+    ("README.md", r"\| (`gomod list` \| `go list .*?) \|", FIGURES, r"\| (`gomod list` \| `go list .*?) \|"),
     ("*", r"\bgomod (\d+\.\d+\.\d+ \([^()]*\))", HELP, r'VERSION: &str = "(.*)"'),
     ("*", r"\bgomod-(\d[\d.]+\d)-", HELP, r'VERSION: &str = "(\S+)'),
     ("*", r"\blogic (?:is )?`?([0-9a-f]{16})\b", HELP, r'VERSION: &str = ".*logic (\w+)'),
@@ -90,7 +94,8 @@ ALIKE = (
 )
 
 # names in backquotes one after another, each with a remark in brackets or without
-LIST = r"`\w+`(?: \([^()]*\))?(?:(?:, and |, | and )`\w+`(?: \([^()]*\))?)*"
+ONE = r"`\w+`(?: \([^()]*\))?"
+LIST = f"{ONE}(?:(?:,|,? and) {ONE})*"
 CALL = r"`(\w+(?:::\w+)*)`"
 DERIVE = r"#\[derive\((.*)\)\]\n(?:#.*\n)*(?:pub(?:\(crate\))? )?(?:struct|enum) (\w+)"
 SHOWN = r"^<!-- show [^\n]*? -->\n(.*?)^<!-- end -->$"
@@ -137,7 +142,7 @@ class Sources:
         if path.suffix in (".rt", ".antt"):
             text = code_of(path) if path.suffix == ".rt" else plain(path.read_text(encoding="utf-8"))
             kind = "names in proofs" if path.parts[2] == "proofs" else "names"
-            self.known[kind].update(WORD.findall(text), path.with_suffix("").parts)
+            self.known[kind].update(WORD.findall(text))
             if path.suffix == ".rt":
                 self.read_code(path, text)
         elif path.suffix == ".md" or CASES.fullmatch(str(path)):
@@ -240,7 +245,7 @@ def keep_names(tally):
 
 
 def words_of(text):
-    """How many words a text has, without bars of tables, fenced code, comments, and what other files say."""
+    """How many words of a text count."""
     text = re.sub(rf"(?ms)^```.*?^```$|{SHOWN}|<!--.*?-->|^>[^\n]*$|^\|[-:| ]+\|$", "", text)
     return sum(len((re.sub(r"(?<!\\)\|", " ", it) if it.startswith("|") else it).split()) for it in text.split("\n"))
 
@@ -277,7 +282,7 @@ def keep_alike(tally):
 
 
 def keep_pins(tally):
-    """Whether each text that was read beside others is as it was then: what precedes the comment, or the whole page."""
+    """Whether each text that was read beside others is as it was then."""
     form = r"(?m)((?:^.+\n)*)^(<!-- (page )?read beside (.+): (\w+) -->)$"
     for page in pages():
         for block, comment, is_page, others, then in re.findall(form, read(page)):
@@ -287,15 +292,11 @@ def keep_pins(tally):
 
 
 def keep_figures(tally):
-    """Whether each line of README.md's table of speed begins one of docs/dev/BENCHMARKS.md, and both name a commit that
-    was measured."""
+    """Whether README.md's figures of speed are those that were measured, of a commit that changed a source."""
     shown, page = "".join(re.findall(SHOWN, read("README.md"), re.M | re.S)), read(FIGURES)
-    for it in shown.split("\n"):
-        is_there = f"\n{it}" in page
-        tally.tell("figures", is_there, f"README.md: {FIGURES} has no '{it}'; bench/tables.sh --write writes both")
-    for needed in "| `gomod list` |", "Measured at `":
-        tally.tell("figures", needed in shown, f"README.md: between its marks there is no '{needed}'")
-    for commit in re.findall(r"(?m)^Measured at `(\w+)`\.$", page) if not is_shallow() else []:
+    wrong = [it for it in shown.split("\n") if f"\n{it}" not in page]
+    tally.tell("figures", not wrong, f"README.md: {FIGURES} has no {wrong}; bench/tables.sh --write writes both")
+    for commit in re.findall(MEASURED, page) if not is_shallow() else []:
         is_right = git("log", "-1", "--format=%H", commit, "--", "*.rt").startswith(commit)
         tally.tell("figures", is_right, f"{FIGURES}: {commit} is no commit that changed a .rt file")
         later = git("log", "--format=%h", f"{commit}..HEAD", "--", "*.rt").split()
@@ -304,12 +305,11 @@ def keep_figures(tally):
 
 
 def keep_derives(tally):
-    """Whether types derive no Hash, and Debug if they are errors or docs/lib/LIBRARY.md names them: each is proved."""
+    """Whether types derive Debug and Hash as docs/lib/LIBRARY.md says: each is proved."""
     named = set(re.findall(CALL, re.search(r"`Debug` is derived by errors and by (.*), `Hash`", read(LIBRARY))[1]))
-    derives = [(name, words.split(", ")) for path in glob.glob("crates/*/src/**/*.rt", recursive=True)
-               for words, name in re.findall(DERIVE, read(path))]
-    wrong = named ^ {name for name, words in derives if "Debug" in words and "Error" not in words}
-    wrong |= {name for name, words in derives if "Hash" in words}
+    derives = re.findall(DERIVE, "".join(map(read, glob.glob("crates/*/src/**/*.rt", recursive=True))))
+    wrong = named ^ {name for words, name in derives if "Debug" in words and "Error" not in words}
+    wrong |= {name for words, name in derives if "Hash" in words}
     tally.tell("derives", not wrong, f"{LIBRARY}: what it says of Debug and Hash isn't so: {', '.join(sorted(wrong))}")
 
 

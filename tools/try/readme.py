@@ -49,8 +49,6 @@ BASH, ZSH = ["bash", "-c"], ["zsh", "-f", "-c"]
 # the section whose program is compiled: commands that make its crate, the program, and an example that runs it
 SECTION = r"(?ms)^## A whole program\n.*?(?=^## |\Z)"
 FENCED = r"(?ms)^```.*?^```$"
-CODE_LINE = r"(?m)^(?!use |ghost use ) *[^\s/].*"  # one of the program, but for uses, comments and blank lines
-PROGRAM_LINES = 40  # how many it may have
 SANDBOX = ["bwrap", "--unshare-all", "--ro-bind", "/", "/", "true"]
 
 
@@ -222,9 +220,6 @@ def problem_of(section):
     """What is wrong with the section of the whole program, or an empty text. Its commands run in a folder outside the
     repository, in which gomod is a link to it, and the standard output of the last is compared."""
     program = "".join(re.findall(r"(?ms)^```rust\n(.*?)^```$", section))
-    code = re.findall(CODE_LINE, program)
-    if len(code) > PROGRAM_LINES:
-        return f"the program has {len(code)} lines outside use, blank lines and comments; {PROGRAM_LINES} are the most"
     make, _, run = "".join(re.findall(r"(?m)^    (.*\n)", blanked(FENCED, section))).partition("$ ")
     command, _, wanted = run.partition("\n")
     with tempfile.TemporaryDirectory(prefix="gomod-library-") as folder:
