@@ -73,7 +73,7 @@ MEASURED = r"(?m)^Measured at `(\w+)`\.$"
 # what documents have, each time, and the file that has the same
 ALIKE = (
     ("README.md", MEASURED, FIGURES, MEASURED),
-    ("README.md", r"\| (`gomod list` \| `go list .*?) \|", FIGURES, r"\| (`gomod list` \| `go list .*?) \|"),
+    ("README.md", r"\| (`gomod list`) \|", FIGURES, r"\| (`gomod list`) \|"),
     ("*", r"\bgomod (\d+\.\d+\.\d+ \([^()]*\))", HELP, r'VERSION: &str = "(.*)"'),
     ("*", r"\bgomod-(\d[\d.]+\d)-", HELP, r'VERSION: &str = "(\S+)'),
     ("*", r"\blogic (?:is )?`?([0-9a-f]{16})\b", HELP, r'VERSION: &str = ".*logic (\w+)'),
@@ -105,7 +105,6 @@ EDIT = re.compile(r"(?:gm|gomod)_\w+/[a-z]+_\w+")
 CAPITALS = re.compile(r"(?<![^/])[A-Z]+(?=/|$|\.(?!md))")  # a part of a path that stands for any name
 COMMIT = re.compile(r"(?<![\w.=-])(?=\d*[a-f])(?=[a-f]*\d)(?:[0-9a-f]{40}|[0-9a-f]{7,12})(?![\w-])")
 WORD = re.compile(r"[^\s(){}\[\],;.:<>&|\"`]+")
-CASES = re.compile(r"crates/run_cases/data/(sizes/|program/)?\w+\.txt")
 
 
 # ---- names
@@ -145,7 +144,7 @@ class Sources:
             self.known[kind].update(WORD.findall(text))
             if path.suffix == ".rt":
                 self.read_code(path, text)
-        elif path.suffix == ".md" or CASES.fullmatch(str(path)):
+        elif path.suffix == ".md" or path.parts[1:3] == ("run_cases", "data"):
             for title in re.findall(r"(?m)^(?:===|#+) (.*)", read(path)):
                 self.known["titles"] |= {f'{path.name}, "{title}"', f'any file, "{title}"'}
                 self.known["choices"].update(f"{path.name} {it}" for it in re.findall(r"\w+", title))
@@ -182,8 +181,7 @@ class Sources:
         if kind == "edits that went":
             return thing not in self.known["edits"]
         if kind == "commits":
-            whole = git("rev-parse", f"{thing}^{{commit}}")
-            return is_shallow() or whole and whole == git("merge-base", whole, "HEAD")
+            return is_shallow() or f"\n{thing}" in f"\n{git('log', '--format=%H')}"
         if kind.endswith("paths of names"):
             *owners, last = thing.split("::")
             return any(it.issuperset(owners) for it in self.owners[kind, last])
@@ -253,16 +251,16 @@ def words_of(text):
 def keep_budgets(tally):
     """Whether all documents are as short as they should be."""
     readme = re.sub(r"(?m)^(?:    |\|).*", "", read("README.md"))
-    claims = re.findall(r"(?m)^- (.*)", readme.partition("\n## What is verified\n")[2].partition("\n## ")[0])
+    claims = [it.text for it in sentences.sentences() if it.file == sentences.ASIDE]
     budgets = [("README.md", words_of(readme), 600), ("README.md, What is verified", len(claims), 8)]
     budgets += [(f"README.md, '{it}'", len(it.split()), 30) for it in claims]
     budgets += [(f"CHANGELOG.md, {it.partition(chr(10))[0]}", words_of(it), 500)
                 for it in re.split(r"(?m)^(?=## )", read("CHANGELOG.md"))]
     for most, *patterns in (it.split() for it in BUDGETS.strip().split("\n")):
-        pages = {name: words_of(read(name)) for it in patterns for name in glob.glob(it)}
-        budgets.append((" ".join(patterns), sum(pages.values()) if pages else float("inf"), int(most)))
+        number = sum(words_of(read(name)) for it in patterns for name in glob.glob(it))
+        budgets.append((" ".join(patterns), number, int(most)))
     for what, number, most in budgets:
-        tally.tell("budgets", number <= most, f"{what}: {number:,}, and at most {most:,} should be")
+        tally.tell("budgets", 0 < number <= most, f"{what}: {number:,}, and at most {most:,} should be")
 
 
 # ---- what two files say
@@ -275,9 +273,9 @@ def pages():
 def keep_alike(tally):
     """Whether documents have the versions, counts and names that another file has."""
     for page, form, other, its_form in ALIKE:
-        texts = map(read, pages() if page == "*" else [page])
-        here, there = ({it.replace(",", "") for text in those for it in re.findall(form, text)}
-                       for form, those in ((form, texts), (its_form, [read(other)])))
+        text = "\n".join(map(read, pages() if page == "*" else [page]))
+        here, there = ({it.replace(",", "") for it in re.findall(*search)}
+                       for search in ((form, text), (its_form, read(other))))
         tally.tell("figures", here and here == there, f"{page}: '{form}' has {here}, and {other} has {there}")
 
 
@@ -297,11 +295,11 @@ def keep_figures(tally):
     wrong = [it for it in shown.split("\n") if f"\n{it}" not in page]
     tally.tell("figures", not wrong, f"README.md: {FIGURES} has no {wrong}; bench/tables.sh --write writes both")
     for commit in re.findall(MEASURED, page) if not is_shallow() else []:
-        is_right = git("log", "-1", "--format=%H", commit, "--", "*.rt").startswith(commit)
-        tally.tell("figures", is_right, f"{FIGURES}: {commit} is no commit that changed a .rt file")
-        later = git("log", "--format=%h", f"{commit}..HEAD", "--", "*.rt").split()
-        if is_right and later:
-            print(f"{FIGURES}: measured at {commit}, before {len(later)} commits that changed .rt files")
+        later = f"\n{git('log', '--format=%H', '--', '*.rt')}".partition(f"\n{commit}")
+        tally.tell("figures", later[1], f"{FIGURES}: {commit} is no commit that changed a .rt file")
+        if later[0]:
+            number = later[0].count("\n")
+            print(f"{FIGURES}: measured at {commit}, before {number} commits that changed .rt files")
 
 
 def keep_derives(tally):
@@ -315,16 +313,15 @@ def keep_derives(tally):
 
 def keep_trusted(tally, log):
     """Whether docs/proof/PROVED.md has what a log says that the check of gomod trusts."""
-    said = [it for it in re.split(r"(?m)^== ", f"gomod\n{read(log)}") if re.match(r"gomod\s", it)][-1]
-    verdicts = re.findall(r"(?m)^logic=proved.*target=.*\n", said)
-    if not verdicts:
-        print("documents: the log has no verdict of gomod, so nothing was compared")
-        return
+    said = f"\n{read(log)}".rpartition("\n== gomod\n")[2].partition("\n== ")[0]
     # what speeds a check up alone isn't in the gate's verdict
-    verdict = re.sub(" (incremental|cache)=trusted", "", verdicts[-1])
-    axioms = re.findall(r"(?m)^axioms \w+: .*\n", said)
-    wanted = f"```\n{''.join(axioms)}{verdict}```\n"
-    tally.tell("what gomod rests on", wanted in read(PROVED), f"{PROVED}: it should have these lines:\n{wanted}")
+    said = re.sub(" (incremental|cache)=trusted", "", said)
+    lines = "".join(re.findall(r"(?m)^(?:axioms \w+: |logic=proved.*target=).*\n", f"{said}\n"))
+    if lines:
+        is_right = f"```\n{lines}```\n" in read(PROVED)
+        tally.tell("what gomod rests on", is_right, f"{PROVED}: it should have these lines:\n{lines}")
+    else:
+        print("documents: the log has no verdict of gomod, so nothing was compared")
 
 
 def main(*words):

@@ -57,15 +57,11 @@ def blanked(pattern, text):
     return re.sub(pattern, lambda it: "\n" * it[0].count("\n"), text)
 
 
-def number_at(text, place):
-    return text.count("\n", 0, place) + 1
-
-
 def blocks(text):
     """The blocks of examples, each of commands: the number of the line, the command, and what it prints."""
     for block in re.finditer(r"(?m)^    .*\n(?:    .*\n|\n+(?=    ))*", text):
         if block[0].startswith("    $ "):
-            yield [(number_at(text, block.start() + it.start()), it[1], re.sub("(?m)^    ", "", it[2]))
+            yield [(text.count("\n", 0, block.start() + it.start()) + 1, it[1], re.sub("(?m)^    ", "", it[2]))
                    for it in re.finditer(r"(?m)^    \$ (.*)\n((?:(?!    \$ ).*\n)*)", block[0])]
 
 
@@ -187,27 +183,21 @@ class Documents:
             wrong.append("$scratch/mods")
         self.tally.tell("strangers' projects", not wrong, f"a stranger's project: {', '.join(wrong)}")
 
-    def find_comments(self, name, text):
-        """Whether no indented line has a comment behind a command: zsh takes one that is typed for words."""
-        found = re.findall(r"(?m)^    (?!\$ ).*\S\s+# .*", text)
-        self.tally.tell("pages without comments", not found, "\n".join([f"{name}: comments behind commands:", *found]))
-
     def compare_code(self, name, text):
-        """Whether each piece of code is in a source of the crate that was named last before it."""
+        """Looks each piece of code up in the crate that was named last before it."""
         crate = ""
-        for found in re.finditer(r"(?ms)\bFrom (\w+):$|^```rust\n(.*?)^```$", text):
-            crate = found[1] or crate
-            if found[2]:
-                is_right = any(found[2] in read(it) for it in glob.glob(f"crates/{crate}/src/**/*.rt", recursive=True))
-                message = f"{name}:{number_at(text, found.start())}: this code is not in crates/{crate}"
-                self.tally.tell("pieces of code", is_right, message)
+        for named, code in re.findall(r"(?ms)\bFrom (\w+):$|^```rust\n(.*?)^```$", text):
+            crate = named or crate
+            if code:
+                is_right = any(code in read(it) for it in glob.glob(f"crates/{crate}/src/**/*.rt", recursive=True))
+                self.tally.tell("pieces of code", is_right, f"{name}: crates/{crate} has no\n{quoted(code)}")
 
     def follow_links(self, name, text):
-        """Whether each link to a file, or to a heading of one, leads there."""
-        for found in re.finditer(r"\]\(((?![a-z]+:)[^)#\s]*)(?:#([^)\s]*))?\)", text):
-            path = os.path.join(os.path.dirname(name), found[1]) if found[1] else name
-            is_right = os.path.exists(path) and (found[2] is None or found[2] in anchors(path))
-            self.tally.tell("links", is_right, f"{name}:{number_at(text, found.start())}: there is no {found[0][2:-1]}")
+        """Looks each link to a file, or to a heading of one, up."""
+        for link, path, anchor in re.findall(r"\]\((((?![a-z]+:)[^)#\s]*)(?:#([^)\s]*))?)\)", text):
+            path = os.path.join(os.path.dirname(name), path) if path else name
+            is_right = os.path.exists(path) and (not anchor or anchor in anchors(path))
+            self.tally.tell("links", is_right, f"{name}: there is no {link}")
 
 
 def anchors(path):
@@ -239,20 +229,21 @@ def main(*names):
         os.chdir(f"{names[1]}/share/doc/gomod")
     else:
         script.shared("need_gomod")
-    names, has_sources = () if is_archive else names[is_quick:], os.path.isdir("crates")
+    names = () if is_archive else names[is_quick:]
     for name in names or ["README.md", "CHANGELOG.md", *sorted(glob.glob("docs/**/*.md", recursive=True))]:
         text = read(name)
         documents.run_examples(name, blanked(SECTION, text))
         documents.follow_links(name, text)
         # what users paste into a shell that they type in
         if name.startswith(("README.md", "docs/use/")):
-            documents.find_comments(name, text)
-        if os.path.basename(name) == "LIBRARY.md" and has_sources:
+            found = re.findall(r"(?m)^    (?!\$ ).*\S\s+# .*", text)
+            documents.tally.tell("pages without comments", not found, f"{name}: comments behind commands: {found}")
+        if name == "docs/lib/LIBRARY.md" and not is_archive:
             documents.compare_code(name, text)
             if not is_quick:
                 wrong = problem_of("".join(re.findall(SECTION, text)))
                 documents.tally.tell("programs", not wrong, f"{name}: the whole program: {wrong}")
-    if not names and has_sources:
+    if not names and not is_archive:
         documents.run_on_stranger()
     status = documents.tally.status()
     for tools, number in sorted(documents.skipped.items()):
