@@ -295,11 +295,8 @@ def keep_figures(tally):
     wrong = [it for it in shown.split("\n") if f"\n{it}" not in page]
     tally.tell("figures", not wrong, f"README.md: {FIGURES} has no {wrong}; bench/tables.sh --write writes both")
     for commit in re.findall(MEASURED, page) if not is_shallow() else []:
-        later = f"\n{git('log', '--format=%H', '--', '*.rt')}".partition(f"\n{commit}")
-        tally.tell("figures", later[1], f"{FIGURES}: {commit} is no commit that changed a .rt file")
-        if later[0]:
-            number = later[0].count("\n")
-            print(f"{FIGURES}: measured at {commit}, before {number} commits that changed .rt files")
+        is_right = f"\n{commit}" in f"\n{git('log', '--format=%H', '--', '*.rt')}"
+        tally.tell("figures", is_right, f"{FIGURES}: {commit} is no commit that changed a .rt file")
 
 
 def keep_derives(tally):
