@@ -9,6 +9,7 @@ pub mod Fitting
 pub mod NumericIdentifiers
 pub mod NameTests
 pub mod Precedence
+pub mod ListTests
 pub mod Bytes
 pub mod Escapes
 pub mod Refusals

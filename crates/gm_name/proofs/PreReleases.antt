@@ -14,8 +14,8 @@ use Rattle.semver.specs.Grammar.{is_build_identifier, is_identifier_byte, is_pre
 use Rattle.semver.specs.Identifiers.{marked}
 use Rattle.semver.specs.Order.{parts}
 use Rattle.gm_name.specs.Version.{HasPlainBuild, IsVersion, parts_in}
-use Rattle.gm_name.proofs.Bytes.{all-append, all-join, weaker}
-use Rattle.gm_name.proofs.Marks.{decimal-digits}
+use Rattle.gm_name.proofs.ListTests.{all-append, all-join, weaker}
+use Rattle.gm_name.proofs.Numbers.{decimal-digits}
 use Rattle.gm_name.proofs.Versions.{version-parts}
 
 -- no byte of the list is this one

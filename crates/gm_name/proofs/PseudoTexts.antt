@@ -16,7 +16,7 @@ use Rattle.gm_name.specs.Pseudo.{IsBase, IsFront, IsPseudo, IsStamp}
 use Rattle.gm_name.specs.PseudoText.{IsBaseText, IsEnd, IsPseudoText, AreNumbers, IsBefore, first_text, release, second_text, third_text}
 use Rattle.gm_name.specs.Version.{HasPlainBuild, IsVersion, parts_in, version_text}
 use Rattle.gm_name.proofs.BaseVersions.{identifiers-append, parts-spelled, pre-before, pre-from, pre-identifiers}
-use Rattle.gm_name.proofs.Bytes.{weaker}
+use Rattle.gm_name.proofs.ListTests.{weaker}
 use Rattle.gm_name.proofs.Versions.{version-parts}
 
 -- ---- the text of parts

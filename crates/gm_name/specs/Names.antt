@@ -1,7 +1,7 @@
 -- Tests that compute: `is_path`, `is_version` and `does_fit` decide the facts `IsPath`, `IsVersion` and `Fits`.
 -- Definitions that compute, such as those of a file's directives, use these tests; the laws `paths_are_tested`,
 -- `versions_are_tested` and `fits_are_tested` say that tests and facts agree.
-use Rattle.std.specs.Prelude.{ℕ, ◌-◌, ◌^◌, ◌==◌, ◌&&◌, ◌||◌, not, nat_lt, nat_eq, if◌then◌else◌, Bool, false, List, length, take, drop, slice_index, codes, Option, Some, None, Result, Ok, Err, is_some, option_and_then}
+use Rattle.std.specs.Prelude.{ℕ, ◌-◌, ◌^◌, ◌==◌, ◌&&◌, ◌||◌, nat_lt, nat_eq, if◌then◌else◌, Bool, false, List, length, take, drop, slice_index, codes, Option, Some, None, Result, Ok, Err, is_some, option_and_then}
 use Rattle.std.specs.Option.{option_map, option_map_or}
 use Rattle.std.specs.Char.{is_ascii_digit}
 use Rattle.std.specs.List.{ends_with, list_all, starts_with}
@@ -10,16 +10,12 @@ use Rattle.std.specs.Str.Parse.{digits_value}
 use Rattle.semver.specs.Parse.{Parts, version_parts}
 use Rattle.semver.specs.declared.error.Error.{Error}
 use Rattle.gm_name.specs.Element.{elements, is_element}
-use Rattle.gm_name.specs.Fit.{build_of, major_of}
-use Rattle.gm_name.specs.Number.{starts_as_no_number}
+use Rattle.gm_name.specs.Version.{build_of, major_of}
+use Rattle.gm_name.specs.Number.{is_decimal}
 use Rattle.gm_name.specs.Path.{is_digit_or_dot}
 use Rattle.gm_name.specs.Tail.{head, tail}
 use Rattle.gm_name.specs.declared.major.Major.{Major}
 use Rattle.gm_name.specs.declared.major.Major.TheVariants.{NoSuffix, Slash, Dot}
-
--- one or more digits without a leading zero
-abbrev pub is_decimal : List ℕ → Bool
-is_decimal text = not (starts_as_no_number text) && list_all is_ascii_digit text
 
 -- the number below 2 ^ 64 in a text
 abbrev pub number_in : List ℕ → Option ℕ

@@ -1,15 +1,8 @@
 -- A copy from crates/gm_name/specs/Fit.antt, which tools/check/headline.py writes.
 use Rattle.std.specs.Prelude.{◌≡◌, ℕ, ◌<◌, ◌≤◌, ◌⊎◌, List, [], ◌++◌, codes}
 use Rattle.page_commands.specs.Path.{HasMajor}
-use Rattle.page_commands.specs.Version.{parts_in}
+use Rattle.page_commands.specs.Version.{build_of, major_of}
 use Rattle.page_commands.specs.Types.Major.{Major, NoSuffix, Slash, Dot}
-
--- the major number of a version, and its build
-abbrev pub major_of : List ℕ → ℕ
-major_of version = (parts_in version).0
-
-abbrev pub build_of : List ℕ → List ℕ
-build_of version = (parts_in version).4
 
 -- the version fits a path with this major version
 abbrev pub FitsMajor : Major → List ℕ → Type 0

@@ -3,7 +3,7 @@ use Rattle.std.specs.Prelude.{ℕ, ◌==◌, ◌&&◌, ◌||◌, nat_lt, if◌th
 use Rattle.std.specs.Char.{is_ascii_digit, is_ascii_lowercase}
 use Rattle.std.specs.List.{after_first, before_first, list_all, list_any}
 use Rattle.std.specs.Str.Parse.{digits_value}
-use Rattle.page_commands.specs.Names.{is_decimal}
+use Rattle.page_commands.specs.Number.{is_decimal}
 use Rattle.page_commands.specs.GmFileValues.{both}
 
 -- the number that one to nine digits without leading zeros spell

@@ -1,5 +1,5 @@
 -- A copy from crates/gm_name/specs/Names.antt, which tools/check/headline.py writes.
-use Rattle.std.specs.Prelude.{ℕ, ◌-◌, ◌^◌, ◌==◌, ◌&&◌, ◌||◌, not, nat_lt, nat_eq, if◌then◌else◌, Bool, false, List, length, take, drop, slice_index, codes, Option, Some, None, Result, Ok, Err, is_some, option_and_then}
+use Rattle.std.specs.Prelude.{ℕ, ◌-◌, ◌^◌, ◌==◌, ◌&&◌, ◌||◌, nat_lt, nat_eq, if◌then◌else◌, Bool, false, List, length, take, drop, slice_index, codes, Option, Some, None, Result, Ok, Err, is_some, option_and_then}
 use Rattle.std.specs.Option.{option_map, option_map_or}
 use Rattle.std.specs.Char.{is_ascii_digit}
 use Rattle.std.specs.List.{ends_with, list_all, starts_with}
@@ -7,15 +7,11 @@ use Rattle.std.specs.Str.{bytes_eq}
 use Rattle.std.specs.Str.Parse.{digits_value}
 use Rattle.page_commands.specs.Types.{Parts, version_parts, Error}
 use Rattle.page_commands.specs.Element.{elements, is_element}
-use Rattle.page_commands.specs.Fit.{build_of, major_of}
-use Rattle.page_commands.specs.Number.{starts_as_no_number}
+use Rattle.page_commands.specs.Version.{build_of, major_of}
+use Rattle.page_commands.specs.Number.{is_decimal}
 use Rattle.page_commands.specs.Path.{is_digit_or_dot}
 use Rattle.page_commands.specs.Tail.{head, tail}
 use Rattle.page_commands.specs.Types.Major.{Major, NoSuffix, Slash, Dot}
-
--- one or more digits without a leading zero
-abbrev pub is_decimal : List ℕ → Bool
-is_decimal text = not (starts_as_no_number text) && list_all is_ascii_digit text
 
 -- the number below 2 ^ 64 in a text
 abbrev pub number_in : List ℕ → Option ℕ

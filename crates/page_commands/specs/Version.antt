@@ -22,6 +22,13 @@ IsVersion text = (parts : Parts) × IsValid parts × HasPlainBuild parts × (tex
 abbrev pub parts_in : List ℕ → Parts
 parts_in text = result_unwrap_or (version_parts (drop 1 text)) (0, 0, 0, [], [])
 
+-- the major number of a version, and its build
+abbrev pub major_of : List ℕ → ℕ
+major_of version = (parts_in version).0
+
+abbrev pub build_of : List ℕ → List ℕ
+build_of version = (parts_in version).4
+
 -- precedence, as in section 11 of SemVer: by the numbers, then by the pre-release
 abbrev pub precedence : Parts → Parts → Ordering
 precedence = then_cmp (on (λ (p : Parts). p.0) nat_cmp) (then_cmp (on (λ (p : Parts). p.1) nat_cmp)
