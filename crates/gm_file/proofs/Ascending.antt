@@ -9,8 +9,8 @@ use Rattle.std.specs.declared.cmp.Ordering.{Ordering}
 use Rattle.std.specs.declared.cmp.Ordering.TheVariants.{Less, Equal, Greater}
 use Rattle.std.proofs.lemmas.Cmp.{upto}
 use Rattle.std.proofs.lemmas.List.Sorted.{IsPermutation-map, list_any-IsPermutation, ranks_by, sorted_far}
-use Rattle.gm_name.specs.Version.{parts_in, precedence, version_cmp}
-use Rattle.gm_name.specs.VersionOrder.{precedence_total, version_total}
+use Rattle.gm_version.specs.Version.{parts_in, precedence, version_cmp}
+use Rattle.gm_version.specs.VersionOrder.{precedence_total, version_total}
 use Rattle.gm_file.specs.Directives.{VersionInterval}
 use Rattle.gm_file.specs.Shown.{holds_version, is_at_most}
 use Rattle.gm_file.specs.Private.Swept.{AreSorted, Ascend, ends_view}

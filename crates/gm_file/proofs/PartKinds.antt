@@ -10,17 +10,18 @@ use Rattle.gm_name_table.specs.declared.known_names.PairFault.{PairFault}
 use Rattle.gm_name_table.specs.declared.known_names.PairFault.TheVariants as pair
 use Rattle.gm_name.specs.declared.path.PathFault.{PathFault}
 use Rattle.gm_name.specs.declared.path.PathFault.TheVariants as path
-use Rattle.gm_name.specs.declared.version.VersionFault.{VersionFault}
-use Rattle.gm_name.specs.declared.version.VersionFault.TheVariants as version
+use Rattle.gm_version.specs.declared.version.VersionFault.{VersionFault}
+use Rattle.gm_version.specs.declared.version.VersionFault.TheVariants as version
 use Rattle.gm_name.specs.ModuleVersion.{ModuleVersion}
 use Rattle.gm_file.specs.Fields.{first}
 use Rattle.gm_name.proofs.NameTests.{fit-tested, path-tested, version-tested}
 use Rattle.gm_name.specs.Fit.{Fits}
 use Rattle.gm_name.specs.Names.{does_fit, is_path, is_version}
 use Rattle.gm_name.specs.Path.{IsPath}
-use Rattle.gm_name.specs.Readings.{PathReading, VersionReading}
+use Rattle.gm_version.specs.Readings.{VersionReading}
+use Rattle.gm_name.specs.Readings.{PathReading}
 use Rattle.gm_name_table.specs.Pairs.{PairReading}
-use Rattle.gm_name.specs.Version.{IsVersion}
+use Rattle.gm_version.specs.Version.{IsVersion}
 
 pub not-tested : (b : Bool) (P : Type 0) → (b ≡ true ↔ P) → ¬ P → b ≡ false
 not-tested true P is none = absurd (none (is.0 refl))

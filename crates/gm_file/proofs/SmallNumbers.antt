@@ -8,8 +8,8 @@ use Rattle.std.specs.Fmt.{decimal}
 use Rattle.std.specs.List.{list_all}
 use Rattle.std.specs.Str.Parse.{ParsesUnsigned, digits_value}
 use Rattle.gm_file.specs.GoVersions.{small_number}
-use Rattle.gm_name.specs.Number.{is_decimal, starts_as_no_number}
-use Rattle.gm_name.proofs.Numbers.{digits}
+use Rattle.gm_version.specs.Number.{is_decimal, starts_as_no_number}
+use Rattle.gm_version.proofs.Numbers.{digits}
 use Rattle.gm_name.proofs.NameTests.{and_both, not_true}
 
 unread-by : (text : List ℕ) (b : Bool) → b ≡ nat_lt (digits_value 10 text) 1000000000 → is_decimal text ≡ true

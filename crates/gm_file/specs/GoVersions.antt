@@ -4,7 +4,7 @@ use Rattle.std.specs.Prelude.{ℕ, ◌==◌, ◌&&◌, ◌||◌, nat_lt, if◌th
 use Rattle.std.specs.Char.{is_ascii_digit, is_ascii_lowercase}
 use Rattle.std.specs.List.{after_first, before_first, list_all, list_any}
 use Rattle.std.specs.Str.Parse.{digits_value}
-use Rattle.gm_name.specs.Number.{is_decimal}
+use Rattle.gm_version.specs.Number.{is_decimal}
 use Rattle.gm_file.specs.Values.{both}
 
 -- the number that one to nine digits without leading zeros spell

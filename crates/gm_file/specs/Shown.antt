@@ -3,7 +3,7 @@
 use Rattle.std.specs.Prelude.{ℕ, ◌&&◌, not, Bool, List}
 use Rattle.std.specs.List.{filter, list_any}
 use Rattle.std.specs.Ordering.{is_gt}
-use Rattle.gm_name.specs.Version.{parts_in, precedence}
+use Rattle.gm_version.specs.Version.{parts_in, precedence}
 use Rattle.gm_file.specs.Directives.{VersionInterval}
 
 -- the first version has lower precedence than the second, or the same (SemVer 2.0.0, section 11)

@@ -16,8 +16,8 @@ use Rattle.gm_name_table.specs.declared.known_names.PairFault.{PairFault}
 use Rattle.gm_name_table.specs.declared.known_names.PairFault.TheVariants as pair
 use Rattle.gm_name.specs.declared.path.PathFault.{PathFault}
 use Rattle.gm_name.specs.declared.path.PathFault.TheVariants as path
-use Rattle.gm_name.specs.declared.version.VersionFault.{VersionFault}
-use Rattle.gm_name.specs.declared.version.VersionFault.TheVariants as version
+use Rattle.gm_version.specs.declared.version.VersionFault.{VersionFault}
+use Rattle.gm_version.specs.declared.version.VersionFault.TheVariants as version
 use Rattle.gm_file.specs.Directives.{Mode, VersionInterval, Replacing, Right, Folder, Module}
 use Rattle.gm_file.specs.Faults.{fault_of}
 

@@ -12,7 +12,7 @@ use Rattle.std.specs.Str.{IsCharBoundary, IsUtf8}
 use Rattle.gm_file_edit.specs.Edits.{is_bracketed, path_in, version_in}
 use Rattle.gm_operation.specs.Operations.{has_byte, split_at_byte}
 use Rattle.gm_name.specs.Path.{IsPath}
-use Rattle.gm_name.specs.Version.{IsVersion}
+use Rattle.gm_version.specs.Version.{IsVersion}
 use Rattle.gm_name.specs.Names.{is_path, is_version}
 use Rattle.gm_file.proofs.PartKinds.{not-tested}
 

@@ -11,9 +11,9 @@ use Rattle.std.proofs.lemmas.List.Folds.{length-prefix_len}
 use Rattle.gm_syntax.specs.Lines.{HasNoLineFeed}
 use Rattle.gm_syntax.proofs.Stable.{plain_append}
 use Rattle.gm_name.specs.Names.{is_path, is_version}
-use Rattle.gm_name.specs.Number.{is_decimal, starts_as_no_number}
+use Rattle.gm_version.specs.Number.{is_decimal, starts_as_no_number}
 use Rattle.gm_name.specs.Path.{IsPath, is_byte_of_path}
-use Rattle.gm_name.specs.Version.{IsVersion, is_byte_of_version}
+use Rattle.gm_version.specs.Version.{IsVersion, is_byte_of_version}
 use Rattle.gm_name.proofs.Bytes.{path-bytes, version-bytes}
 use Rattle.gm_name.proofs.NameTests.{and_both, path-tested, version-tested}
 use Rattle.gm_operation.specs.Operations.{has_byte}

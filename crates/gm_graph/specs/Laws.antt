@@ -1,7 +1,7 @@
 -- Laws over the definitions alone.
 use Rattle.std.specs.Prelude.{◌≡◌, ◌≢◌, ◌↔◌, ◌++◌, false, List, Option, Result, Contains}
 use Rattle.std.specs.Ordering.{is_gt}
-use Rattle.gm_name.specs.Version.{version_cmp}
+use Rattle.gm_version.specs.Version.{version_cmp}
 use Rattle.gm_name.specs.ModuleVersion.{ModuleVersion}
 use Rattle.gm_file.specs.Directives.{Right}
 use Rattle.gm_file.specs.Fields.{Dependency}

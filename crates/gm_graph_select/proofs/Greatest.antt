@@ -7,8 +7,8 @@ use Rattle.std.specs.Str.{bytes_eq}
 use Rattle.std.proofs.lemmas.Bool.{false≢true}
 use Rattle.std.proofs.lemmas.Slice.Eq.{bytes_eq-Decides}
 use Rattle.std.proofs.lemmas.List.Elements.{Contains-append_left, Contains-push, Contains-push_cases}
-use Rattle.gm_name.specs.Version.{version_cmp}
-use Rattle.gm_name.specs.VersionOrder.{version_total}
+use Rattle.gm_version.specs.Version.{version_cmp}
+use Rattle.gm_version.specs.VersionOrder.{version_total}
 use Rattle.gm_name.specs.ModuleVersion.{ModuleVersion}
 use Rattle.gm_graph_select.specs.declared.step.Step.TheVariants.{Main}
 use Rattle.gm_graph_select.specs.Graph.{Edges, IsEdgeEnd}

@@ -10,8 +10,8 @@ use Rattle.std.proofs.lemmas.Bool.{false≢true}
 use Rattle.std.proofs.lemmas.Cmp.{nat_list_cmp_total}
 use Rattle.std.proofs.lemmas.List.{get_or_default}
 use Rattle.std.proofs.lemmas.Slice.Eq.{bytes_eq-Decides}
-use Rattle.gm_name.specs.Version.{version_cmp}
-use Rattle.gm_name.specs.VersionOrder.{version_total}
+use Rattle.gm_version.specs.Version.{version_cmp}
+use Rattle.gm_version.specs.VersionOrder.{version_total}
 use Rattle.gm_name.specs.ModuleVersion.{ModuleVersion, pair_cmp}
 use Rattle.gm_name.proofs.Texts.{bytes_eq-differ, slice_cmp-same}
 use Rattle.gm_graph_select.specs.BuildList.{AreSelected, IsBuildList, entry_of, main_entry, path_cmp}

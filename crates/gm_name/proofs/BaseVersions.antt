@@ -12,9 +12,9 @@ use Rattle.semver.specs.OrderLaws.{parts-shape}
 use Rattle.semver.specs.Parse.{Parts}
 use Rattle.gm_name.specs.Precedence.{HasLowerPrecedence, IsLowerIdentifier, IsLowerList}
 use Rattle.gm_name.specs.Pseudo.{IsBase, IsFront, IsPseudo, IsStamp}
-use Rattle.gm_name.specs.Version.{IsVersion, parts_in, version_text}
+use Rattle.gm_version.specs.Version.{IsVersion, parts_in, version_text}
 use Rattle.gm_name.proofs.Stamps.{base-pseudo, front-dot, stamp-unique}
-use Rattle.gm_name.proofs.Versions.{parts-read, version-parts}
+use Rattle.gm_version.proofs.Versions.{parts-read, version-parts}
 
 -- ---- the identifiers before and after a dot
 

@@ -10,11 +10,11 @@ use Rattle.semver.specs.Grammar.{is_build_identifier, is_identifier_byte, is_pre
 use Rattle.semver.specs.Identifiers.{marked}
 use Rattle.semver.specs.Order.{parts}
 use Rattle.gm_name.specs.Element.{elements, is_element, is_path_byte}
-use Rattle.gm_name.specs.Escape.{has_no_bang}
+use Rattle.gm_version.specs.Escape.{has_no_bang}
 use Rattle.gm_name.specs.Path.{IsPath, is_byte_of_path}
-use Rattle.gm_name.specs.Version.{IsVersion, is_byte_of_version}
-use Rattle.gm_name.proofs.ListTests.{all-append, all-join, weaker}
-use Rattle.gm_name.proofs.Numbers.{decimal-digits}
+use Rattle.gm_version.specs.Version.{IsVersion, is_byte_of_version}
+use Rattle.gm_version.proofs.ListTests.{all-append, all-join, weaker}
+use Rattle.gm_version.proofs.Numbers.{decimal-digits}
 use Rattle.gm_name.proofs.Paths.{element-bytes}
 
 -- ---- paths

@@ -20,16 +20,15 @@ use Rattle.semver.specs.declared.error.Error.{Error}
 use Rattle.gm_name.specs.Element.{elements, is_element}
 use Rattle.gm_name.specs.Fit.{Fits, FitsMajor}
 use Rattle.gm_name.specs.Names.{at_least, dot_number, does_fit, ends_in_slash_version, fits_major, has_no_build, has_plain_build, is_path, is_version, major_in, number_after, number_in}
-use Rattle.gm_name.specs.Number.{is_decimal, starts_as_no_number}
-use Rattle.gm_name.specs.Private.Texts.{IsNumber}
+use Rattle.gm_version.specs.Number.{IsNumber, is_decimal, starts_as_no_number}
 use Rattle.gm_name.specs.Path.{EndsInSlashVersion, EndsInDotNumber, EndsInNumber, HasMajor, IsPath, IsUnderGopkg, is_digit_or_dot}
 use Rattle.gm_name.specs.Tail.{head, tail}
-use Rattle.gm_name.specs.Version.{HasPlainBuild, IsVersion, build_of, major_of}
+use Rattle.gm_version.specs.Version.{HasPlainBuild, IsVersion, build_of, major_of}
 use Rattle.gm_name.specs.declared.major.Major.{Major}
 use Rattle.gm_name.specs.declared.major.Major.TheVariants.{NoSuffix, Slash, Dot}
 use Rattle.gm_name.proofs.Majors.{number-unique, major-unique, dot_stable_none, dot_unstable_none, dot_unstable_zero, major_elsewhere, major_under, slash_empty, slash_version}
 use Rattle.gm_name.proofs.Marks.{number_marked, number_unmarked}
-use Rattle.gm_name.proofs.Numbers.{decimal-digits, digits, starts-decimal}
+use Rattle.gm_version.proofs.Numbers.{decimal-digits, digits, starts-decimal}
 use Rattle.gm_name.proofs.Paths.{path-elements, path-from}
 
 -- the computed value satisfies the property, or no value does

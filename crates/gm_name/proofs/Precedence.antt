@@ -16,8 +16,8 @@ use Rattle.semver.specs.Order.{is_numeric, parts, pre_cmp, pre_part_cmp}
 use Rattle.semver.specs.OrderLaws.{pre-anti, pre_cmp-both, pre_cmp-empty, pre_cmp-left, pre_cmp-right, pre_part-anti, pre_part_total, pre_total}
 use Rattle.semver.specs.Parse.{Parts}
 use Rattle.gm_name.specs.Precedence.{HasLowerPrecedence, HasSamePrecedence, IsLowerIdentifier, IsLowerList, IsLowerPreRelease, number_of}
-use Rattle.gm_name.specs.Version.{precedence}
-use Rattle.gm_name.specs.VersionOrder.{precedence_total}
+use Rattle.gm_version.specs.Version.{precedence}
+use Rattle.gm_version.specs.VersionOrder.{precedence_total}
 use Rattle.gm_name.proofs.NumericIdentifiers.{cmp-lt, numeric-by_number}
 
 -- ---- lists

@@ -14,10 +14,10 @@ use Rattle.semver.specs.Order.{is_numeric, parts}
 use Rattle.semver.specs.Parse.{Parts}
 use Rattle.gm_name.specs.Pseudo.{IsBase, IsFront, IsPseudo, IsStamp}
 use Rattle.gm_name.specs.PseudoText.{IsBaseText, IsEnd, IsPseudoText, AreNumbers, IsBefore, first_text, release, second_text, third_text}
-use Rattle.gm_name.specs.Version.{HasPlainBuild, IsVersion, parts_in, version_text}
+use Rattle.gm_version.specs.Version.{HasPlainBuild, IsVersion, parts_in, version_text}
 use Rattle.gm_name.proofs.BaseVersions.{identifiers-append, parts-spelled, pre-before, pre-from, pre-identifiers}
-use Rattle.gm_name.proofs.ListTests.{weaker}
-use Rattle.gm_name.proofs.Versions.{version-parts}
+use Rattle.gm_version.proofs.ListTests.{weaker}
+use Rattle.gm_version.proofs.Versions.{version-parts}
 
 -- ---- the text of parts
 

@@ -6,11 +6,11 @@ use Rattle.std.specs.Prelude.{◌≡◌, ◌<◌, ◌↔◌, not, true, List, �
 use Rattle.std.specs.Char.{is_ascii_uppercase}
 use Rattle.std.specs.List.{list_all}
 use Rattle.std.specs.declared.cmp.Ordering.TheVariants.{Equal, Greater, Less}
-use Rattle.gm_name.specs.Escape.{IsUnescaped, escaped_text, has_no_bang, is_escaped}
+use Rattle.gm_version.specs.Escape.{IsUnescaped, escaped_text, has_no_bang, is_escaped}
 use Rattle.gm_name.specs.Fit.{Fits}
 use Rattle.gm_name.specs.Names.{does_fit, is_path, is_version}
 use Rattle.gm_name.specs.Path.{HasMajor, IsPath, is_byte_of_path}
-use Rattle.gm_name.specs.Version.{HasPlainBuild, IsVersion, is_byte_of_version, parts_in, precedence, version_text}
+use Rattle.gm_version.specs.Version.{HasPlainBuild, IsVersion, is_byte_of_version, parts_in, precedence, version_text}
 use Rattle.gm_name.specs.Precedence.{HasLowerPrecedence, HasSamePrecedence, number_of}
 use Rattle.gm_name.specs.Pseudo.{IsBase, IsPseudo}
 use Rattle.gm_name.specs.PseudoText.{IsBaseText, IsPseudoText}

@@ -1,13 +1,10 @@
 pub mod Cuts
 pub mod Element
-pub mod Escape
 pub mod Fingerprint
 pub mod Fit
 pub mod Laws
 pub mod Lines
-pub mod NameText
 pub mod Names
-pub mod Number
 pub mod Path
 pub mod Precedence
 pub mod Private
@@ -15,6 +12,4 @@ pub mod Pseudo
 pub mod PseudoText
 pub mod Readings
 pub mod Tail
-pub mod Version
-pub mod VersionOrder
 pub mod ModuleVersion

@@ -6,8 +6,8 @@ use Rattle.std.specs.Cmp.Lexicographic.{nat_list_cmp_total, pointwise, slice_cmp
 use Rattle.std.specs.Ordering.{eq_by_cmp, is_eq, nat_cmp, ordering_then}
 use Rattle.std.specs.declared.cmp.Ordering.{Ordering}
 use Rattle.std.specs.declared.cmp.Ordering.TheVariants.{Less, Equal, Greater}
-use Rattle.gm_name.specs.Version.{version_cmp}
-use Rattle.gm_name.specs.VersionOrder.{version_ties, version_total}
+use Rattle.gm_version.specs.Version.{version_cmp}
+use Rattle.gm_version.specs.VersionOrder.{version_ties, version_total}
 
 -- a module at a version: the texts of its path and its version (Go Modules Reference, "Module paths" and "Versions")
 abbrev pub ModuleVersion : Type 0

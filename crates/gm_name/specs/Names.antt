@@ -10,8 +10,8 @@ use Rattle.std.specs.Str.Parse.{digits_value}
 use Rattle.semver.specs.Parse.{Parts, version_parts}
 use Rattle.semver.specs.declared.error.Error.{Error}
 use Rattle.gm_name.specs.Element.{elements, is_element}
-use Rattle.gm_name.specs.Version.{build_of, major_of}
-use Rattle.gm_name.specs.Number.{is_decimal}
+use Rattle.gm_version.specs.Version.{build_of, major_of}
+use Rattle.gm_version.specs.Number.{is_decimal}
 use Rattle.gm_name.specs.Path.{is_digit_or_dot}
 use Rattle.gm_name.specs.Tail.{head, tail}
 use Rattle.gm_name.specs.declared.major.Major.{Major}

@@ -5,7 +5,7 @@ ghost use Rattle.gm_name.specs.Pseudo.{IsBase};
 
 use crate::pseudo_version::form_of;
 use crate::stamp::read_stamp;
-use crate::version::ModVersion;
+use gm_version::ModVersion;
 use std::alloc::{AllocError, Global};
 
 /// The base version of a pseudo-version (Go Modules Reference, "Pseudo-versions"): `vX.Y.Z-BEFORE` for

@@ -7,11 +7,11 @@ ghost use Rattle.std.specs.Prelude.{◌≡◌, ◌↔◌, ℕ, List, true};
 ghost use Rattle.std.specs.Cmp.Lexicographic.{slice_cmp};
 ghost use Rattle.std.specs.Ordering.{nat_cmp, ordering_then};
 ghost use Rattle.gm_name.specs.Laws.{BaseForms, BaseIsLower, BaseIsSpelled, BaseIsVersion, BytesOfPath, BytesOfVersion, EscapedIsLowerCase, EscapedTextsAreTested, FitsAreTested, HigherPrecedence, LowerPrecedence, NumericIdentifiersByNumber, OneBase, OneMajor, OnePseudo, OneVersionForPrecedence, PathHasNoBang, PathsAreTested, PathEscapingIsInjective, PseudoIsSpelled, SamePrecedence, UnescapeInvertsEscape, VersionHasNoBang, VersionIsSpelled, VersionsAreTested, VersionEscapingIsInjective};
-ghost use Rattle.gm_name.specs.Version.{parts_in, precedence, version_cmp};
+ghost use Rattle.gm_version.specs.Version.{parts_in, precedence, version_cmp};
 
 use crate::fit::ModVer;
 use crate::path::ModPath;
-use crate::version::ModVersion;
+use gm_version::ModVersion;
 
 // ---- what a name means
 

@@ -7,7 +7,7 @@ ghost use Rattle.std.specs.Prelude.{◌<◌, ℕ, List, IfNone, IfSome};
 ghost use Rattle.gm_name.specs.Pseudo.{IsFront, IsPseudo};
 
 use crate::stamp::{Pseudo, read_stamp};
-use crate::version::ModVersion;
+use gm_version::ModVersion;
 
 /// The form of a pseudo-version with these numbers and this text before its time, or `None` if no form has them.
 pub fn form_of(minor: u64, patch: u64, front: &[u8]) -> Option<u8>

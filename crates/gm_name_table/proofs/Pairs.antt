@@ -2,11 +2,12 @@
 use Rattle.std.proofs.Common.{ℕ, List, Err}
 use Rattle.gm_name.specs.Path.{IsPath}
 use Rattle.gm_name_table.specs.Pairs.{pair_fault_of_path, pair_fault_of_version, PairReading}
-use Rattle.gm_name.specs.Readings.{PathReading, VersionReading}
+use Rattle.gm_version.specs.Readings.{VersionReading}
+use Rattle.gm_name.specs.Readings.{PathReading}
 use Rattle.gm_name.specs.declared.path.PathFault.{PathFault}
 use Rattle.gm_name.specs.declared.path.PathFault.TheVariants as path
-use Rattle.gm_name.specs.declared.version.VersionFault.{VersionFault}
-use Rattle.gm_name.specs.declared.version.VersionFault.TheVariants as version
+use Rattle.gm_version.specs.declared.version.VersionFault.{VersionFault}
+use Rattle.gm_version.specs.declared.version.VersionFault.TheVariants as version
 
 -- a path that is not read
 pub of-path : (p v : List ℕ) (fault : PathFault) → PathReading p (Err fault) → PairReading p v (Err (pair_fault_of_path fault))

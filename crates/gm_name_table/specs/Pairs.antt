@@ -2,13 +2,13 @@
 use Rattle.std.specs.Prelude.{◌≡◌, ℕ, List, Result, Ok, Err}
 use Rattle.gm_name.specs.Fit.{Fits}
 use Rattle.gm_name.specs.Path.{IsPath}
-use Rattle.gm_name.specs.Version.{IsVersion}
+use Rattle.gm_version.specs.Version.{IsVersion}
 use Rattle.gm_name_table.specs.declared.known_names.PairFault.{PairFault}
 use Rattle.gm_name_table.specs.declared.known_names.PairFault.TheVariants as pair
 use Rattle.gm_name.specs.declared.path.PathFault.{PathFault}
 use Rattle.gm_name.specs.declared.path.PathFault.TheVariants as path
-use Rattle.gm_name.specs.declared.version.VersionFault.{VersionFault}
-use Rattle.gm_name.specs.declared.version.VersionFault.TheVariants as version
+use Rattle.gm_version.specs.declared.version.VersionFault.{VersionFault}
+use Rattle.gm_version.specs.declared.version.VersionFault.TheVariants as version
 
 abbrev pub pair_fault_of_path : PathFault → PairFault
 pair_fault_of_path path.NoMemory = pair.NoMemory

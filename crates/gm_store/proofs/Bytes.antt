@@ -4,7 +4,7 @@ use Rattle.std.proofs.lemmas.Bool.Decides.{nat_tests}
 use Rattle.std.specs.Cmp.{first_so, second_so}
 use Rattle.std.specs.List.{list_all, slice_index}
 use Rattle.std.specs.Str.{IsAscii}
-use Rattle.gm_name.specs.Version.{IsVersion, is_byte_of_version}
+use Rattle.gm_version.specs.Version.{IsVersion, is_byte_of_version}
 use Rattle.gm_name.proofs.Bytes.{version-bytes}
 
 small_byte : (b : ℕ) → is_byte_of_version b ≡ true → b < 128

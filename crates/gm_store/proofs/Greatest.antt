@@ -7,8 +7,8 @@ use Rattle.std.specs.declared.cmp.Ordering.{Ordering}
 use Rattle.std.specs.declared.cmp.Ordering.TheVariants.{Less, Equal, Greater}
 use Rattle.std.proofs.lemmas.Cmp.{upto, tied_itself}
 use Rattle.std.proofs.lemmas.List.Elements.{Contains-append_left, Contains-push, Contains-push_cases}
-use Rattle.gm_name.specs.Version.{version_cmp}
-use Rattle.gm_name.specs.VersionOrder.{version_total}
+use Rattle.gm_version.specs.Version.{version_cmp}
+use Rattle.gm_version.specs.VersionOrder.{version_total}
 use Rattle.gm_store.specs.Latest.{IsLatest, NoneConsidered, counts}
 use Rattle.gm_store.specs.Private.Versions.{IsGreatestOrNone, is_greater}
 

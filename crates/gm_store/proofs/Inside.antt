@@ -11,11 +11,11 @@ use Rattle.std.specs.Char.{is_ascii_uppercase}
 use Rattle.std.specs.Cmp.{first_so, second_so}
 use Rattle.std.specs.List.{join_with_byte, list_all, slice_index, slice_split}
 use Rattle.gm_name.specs.Element.{has_outer_dot, is_dotted_name, is_element, is_path_byte}
-use Rattle.gm_name.specs.Escape.{escaped_text, escaped_byte}
+use Rattle.gm_version.specs.Escape.{escaped_text, escaped_byte}
 use Rattle.gm_name.specs.Path.{IsPath, is_byte_of_path}
-use Rattle.gm_name.specs.Version.{IsVersion, is_byte_of_version}
+use Rattle.gm_version.specs.Version.{IsVersion, is_byte_of_version}
 use Rattle.gm_name.proofs.Bytes.{path-bytes, path_has_no_bang, version-bytes, version_has_no_bang}
-use Rattle.gm_name.proofs.Escapes.{escaped-injective, escaped-small}
+use Rattle.gm_version.proofs.Escapes.{escaped-injective, escaped-small}
 use Rattle.gm_name.proofs.Paths.{element-bytes}
 use Rattle.gm_store.specs.Asked.{Name, mod_file, folder_file, list_file}
 use Rattle.gm_store.specs.Relative.{IsModuleFile, LeadsBelow, is_plain_element, is_slash, relative_text}

@@ -6,8 +6,8 @@ use Rattle.std.specs.declared.cmp.Ordering.{Ordering}
 use Rattle.std.specs.declared.cmp.Ordering.TheVariants.{Less, Equal, Greater}
 use Rattle.std.specs.Cmp.Lexicographic.{slice_cmp}
 use Rattle.std.specs.Str.{bytes_eq}
-use Rattle.gm_name.specs.Version.{version_cmp}
-use Rattle.gm_name.specs.VersionOrder.{version_ties}
+use Rattle.gm_version.specs.Version.{version_cmp}
+use Rattle.gm_version.specs.VersionOrder.{version_ties}
 use Rattle.gm_name.proofs.Texts.{bytes_eq-same, bytes_eq-self}
 use Rattle.std.specs.String.{string_bytes}
 use Rattle.std.specs.Map.{lookup}

@@ -2,7 +2,7 @@
 -- unstable", so it is the greatest release, and the greatest of all versions only if each is a pre-release.
 use Rattle.std.specs.Prelude.{◌≡◌, ◌⊎◌, ℕ, ◌==◌, ◌||◌, not, Bool, true, false, List, length, Contains}
 use Rattle.std.specs.Ordering.{is_gt}
-use Rattle.gm_name.specs.Version.{parts_in, version_cmp}
+use Rattle.gm_version.specs.Version.{parts_in, version_cmp}
 
 -- a version without a pre-release
 abbrev pub is_release : List ℕ → Bool

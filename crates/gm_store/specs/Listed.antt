@@ -4,7 +4,7 @@ use Rattle.std.specs.Prelude.{◌↔◌, ℕ, List, map, Contains}
 use Rattle.std.specs.List.Sorted.{IsStrictlySortedBy}
 use Rattle.gm_name.specs.Fit.{Fits}
 use Rattle.gm_name.specs.Pseudo.{IsPseudo}
-use Rattle.gm_name.specs.Version.{IsVersion, version_cmp}
+use Rattle.gm_version.specs.Version.{IsVersion, version_cmp}
 use Rattle.gm_name.specs.Lines.{first_word, lines}
 
 -- a pseudo-version, of any of the three forms

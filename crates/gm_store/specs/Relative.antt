@@ -4,9 +4,9 @@ use Rattle.std.specs.Prelude.{◌≡◌, ℕ, ◌==◌, ◌&&◌, not, nat_lt, B
 use Rattle.std.specs.List.{list_all, slice_split}
 use Rattle.std.specs.Str.{bytes_eq}
 use Rattle.std.specs.Char.{is_ascii_uppercase}
-use Rattle.gm_name.specs.Escape.{escaped_text}
+use Rattle.gm_version.specs.Escape.{escaped_text}
 use Rattle.gm_name.specs.Path.{IsPath}
-use Rattle.gm_name.specs.Version.{IsVersion}
+use Rattle.gm_version.specs.Version.{IsVersion}
 use Rattle.gm_store.specs.Asked.{Name, mod_file, folder_file, list_file}
 
 -- the separator of path elements

@@ -4,7 +4,7 @@ use Rattle.std.specs.Ordering.{is_gt}
 use Rattle.std.specs.declared.cmp.Ordering.{Ordering}
 use Rattle.std.proofs.lemmas.Bool.{false≢true}
 use Rattle.std.proofs.lemmas.Option.{same_Some}
-use Rattle.gm_name.specs.Version.{IsVersion}
+use Rattle.gm_version.specs.Version.{IsVersion}
 use Rattle.gm_file.specs.Directives.{VersionInterval, pair}
 use Rattle.gm_file.specs.Shown.{is_at_most, is_retracted, shown_of}
 use Rattle.gm_store.specs.Asked.{Name, Reply, bytes}

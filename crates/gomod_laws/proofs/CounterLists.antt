@@ -7,7 +7,7 @@ use Rattle.std.proofs.lemmas.Bool.{false≢true}
 use Rattle.std.proofs.lemmas.List.{same_from_push}
 use Rattle.std.proofs.lemmas.List.Elements.{Contains-append_left, Contains-append_right}
 use Rattle.gm_name.specs.Path.{IsPath}
-use Rattle.gm_name.specs.Version.{IsVersion, version_cmp}
+use Rattle.gm_version.specs.Version.{IsVersion, version_cmp}
 use Rattle.gm_name.specs.ModuleVersion.{ModuleVersion}
 use Rattle.gm_file.specs.Main.{Main, IsMainFile, replacement_in}
 use Rattle.gm_store_sums.specs.Sums.{Sums}

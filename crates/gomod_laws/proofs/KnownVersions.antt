@@ -8,10 +8,10 @@ use Rattle.std.specs.declared.cmp.Ordering.TheVariants.{Less, Equal, Greater}
 use Rattle.std.proofs.lemmas.Fmt.{decimal_digit, decimal_step}
 use Rattle.gm_name.specs.Fit.{Fits}
 use Rattle.gm_name.specs.Path.{HasMajor, IsUnderGopkg}
-use Rattle.gm_name.specs.Version.{IsVersion, parts_in, precedence, version_cmp, version_text}
+use Rattle.gm_version.specs.Version.{IsVersion, parts_in, precedence, version_cmp, version_text}
 use Rattle.gm_name.specs.declared.major.Major.TheVariants.{NoSuffix}
 use Rattle.gm_name.proofs.BaseVersions.{parts-spelled}
-use Rattle.gm_name.specs.VersionOrder.{version_total}
+use Rattle.gm_version.specs.VersionOrder.{version_total}
 use Rattle.gm_store.specs.Latest.{IsLatest, counts}
 use Rattle.gm_store.specs.Listed.{IsListable, IsListed, IsPseudoVersion}
 use Rattle.gm_graph_select.proofs.Ascending.{member_head, member_tail}

@@ -2,7 +2,7 @@
 use Rattle.std.proofs.Common.{◌≡◌, ◌∙◌, ◌∷◌, ◌++◌, ℕ, List, [], Contains, ap, ap₂, append_assoc, append-nil, arith, codes, inl, inr, refl, sym}
 use Rattle.std.specs.List.{join_with_byte}
 use Rattle.std.proofs.lemmas.List.{append_cancel_left}
-use Rattle.gm_name.specs.Version.{IsVersion}
+use Rattle.gm_version.specs.Version.{IsVersion}
 use Rattle.gm_graph_select.proofs.Ascending.{member_head, member_tail}
 use Rattle.gomod_run.proofs.ListLines.{version_has_no_blank, heads, tails}
 use Rattle.gomod_run.specs.Versions.{versions_line}

@@ -1,7 +1,7 @@
 -- A requirement added lowers nothing: Go Modules Reference, "Minimal version selection" and "Module graph pruning".
 use Rattle.std.specs.Prelude.{◌≡◌, ℕ, false, List, Option, None, Contains}
 use Rattle.std.specs.Ordering.{is_gt}
-use Rattle.gm_name.specs.Version.{version_cmp}
+use Rattle.gm_version.specs.Version.{version_cmp}
 use Rattle.gm_name.specs.ModuleVersion.{ModuleVersion}
 use Rattle.gm_file.specs.Directives.{Right}
 use Rattle.gm_store.specs.Asked.{Name, Reply}

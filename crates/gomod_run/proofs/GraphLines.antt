@@ -1,7 +1,7 @@
 -- The text of a graph determines its edges, and that of a chain its steps.
 use Rattle.std.proofs.Common.{◌≡◌, ◌≢◌, ℕ, false, List, codes, ap, ap₂, append_assoc, arith, refl, sym, subst}
 use Rattle.gm_name.specs.Path.{IsPath, is_byte_of_path}
-use Rattle.gm_name.specs.Version.{is_byte_of_version}
+use Rattle.gm_version.specs.Version.{is_byte_of_version}
 use Rattle.gm_name.specs.ModuleVersion.{ModuleVersion}
 use Rattle.gm_syntax.specs.Lines.{HasNoLineFeed}
 use Rattle.gm_graph_select.specs.declared.step.Edge.{Edge}

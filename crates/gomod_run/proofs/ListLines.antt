@@ -4,7 +4,7 @@ use Rattle.std.specs.List.{AllByRecursion, flat_map, list_all}
 use Rattle.std.specs.Prelude.{nat_lt}
 use Rattle.std.proofs.lemmas.Bool.{true≢false}
 use Rattle.gm_name.specs.Path.{IsPath, is_byte_of_path}
-use Rattle.gm_name.specs.Version.{IsVersion, is_byte_of_version}
+use Rattle.gm_version.specs.Version.{IsVersion, is_byte_of_version}
 use Rattle.gm_name.proofs.Bytes.{path-bytes, version-bytes}
 use Rattle.gm_syntax.specs.Lines.{HasNoLineFeed, lines_of}
 use Rattle.gm_syntax.proofs.Lines.{lines_nil}

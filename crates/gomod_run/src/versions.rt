@@ -4,7 +4,7 @@
 ghost use Rattle.std.specs.Prelude.{◌≡◌, ◌⊎◌, ◌++◌, ℕ, [], Bool, IfOk, List, MatchOption, MatchResult, None, OnOk, Option, Some, codes, false, map, true};
 ghost use Rattle.std.specs.String.{string_bytes};
 ghost use Rattle.std.specs.List.Sorted.{IsStrictlySortedBy};
-ghost use Rattle.gm_name.specs.Version.{version_cmp};
+ghost use Rattle.gm_version.specs.Version.{version_cmp};
 ghost use Rattle.gm_file.specs.Views.{interval_views};
 ghost use Rattle.gm_file.specs.Shown.{shown_of};
 ghost use Rattle.gm_store.specs.Asked.{IsWithinLimit, Name, answer_in, bytes, mod_file, name_of, reply_of};

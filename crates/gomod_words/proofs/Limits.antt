@@ -6,7 +6,7 @@ use Rattle.std.proofs.lemmas.Str.Parse.{parse_plain}
 use Rattle.std.specs.Char.{is_ascii_digit}
 use Rattle.std.specs.List.{list_all}
 use Rattle.std.specs.Str.Parse.{ParsesUnsigned, digits_value}
-use Rattle.gm_name.proofs.Numbers.{digits}
+use Rattle.gm_version.proofs.Numbers.{digits}
 use Rattle.gm_name.proofs.NameTests.{and_both}
 use Rattle.gomod_words.specs.Limits.{limit_of}
 

@@ -1,4 +1,4 @@
--- A copy from crates/gm_name/specs/Version.antt, which tools/check/headline.py writes.
+-- A copy from crates/gm_version/specs/Version.antt, which tools/check/headline.py writes.
 use Rattle.std.specs.Prelude.{ℕ, List}
 use Rattle.std.specs.Cmp.Lexicographic.{slice_cmp}
 use Rattle.std.specs.Ordering.{nat_cmp, on, then_cmp}

@@ -1,4 +1,4 @@
--- A copy from crates/gm_name/specs/Escape.antt, which tools/check/headline.py writes.
+-- A copy from crates/gm_version/specs/Escape.antt, which tools/check/headline.py writes.
 use Rattle.std.specs.Prelude.{ℕ, ◌+◌, if◌then◌else◌, List, [], ◌∷◌}
 use Rattle.std.specs.Char.{is_ascii_uppercase}
 use Rattle.std.specs.List.{flat_map}

@@ -1,4 +1,4 @@
--- A copy from crates/gm_name/specs/Number.antt, which tools/check/headline.py writes.
+-- A copy from crates/gm_version/specs/Number.antt, which tools/check/headline.py writes.
 use Rattle.std.specs.Prelude.{ℕ, Bool, List, length, slice_index, nat_lt, ◌==◌, ◌&&◌, ◌||◌, not}
 use Rattle.std.specs.Char.{is_ascii_digit}
 use Rattle.std.specs.List.{list_all}

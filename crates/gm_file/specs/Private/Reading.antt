@@ -12,7 +12,7 @@ use Rattle.gm_file.specs.declared.sides.RightText.TheVariants as text
 use Rattle.gm_file.specs.declared.fault.FileFault.{FileFault}
 use Rattle.gm_file.specs.declared.fault.FileFault.TheVariants as fault
 use Rattle.gm_name.specs.declared.path.PathFault.TheVariants as path
-use Rattle.gm_name.specs.declared.version.VersionFault.TheVariants as version
+use Rattle.gm_version.specs.declared.version.VersionFault.TheVariants as version
 use Rattle.gm_file.specs.Directives.{Left, Right, Folder, Module}
 
 -- none is forgotten, and no more are kept than there is room for

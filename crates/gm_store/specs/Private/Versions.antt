@@ -1,7 +1,7 @@
 -- Words of a `list` file while the listed versions and the greatest are found.
 use Rattle.std.specs.Prelude.{ℕ, Bool, true, List, Option, Some, None, ◌↔◌, Contains}
 use Rattle.std.specs.Ordering.{is_gt}
-use Rattle.gm_name.specs.Version.{version_cmp}
+use Rattle.gm_version.specs.Version.{version_cmp}
 use Rattle.gm_store.specs.Latest.{IsGreatest, NoneConsidered}
 use Rattle.gm_store.specs.Listed.{IsListable}
 

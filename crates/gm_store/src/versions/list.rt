@@ -6,7 +6,7 @@
 ghost use Rattle.std.specs.Prelude.{◌≡◌, ◌↔◌, ◌++◌, ◌∷◌, [], ℕ, List, IfOk, IfNone, IfSome, IsTrue, OnOk};
 ghost use Rattle.std.specs.List.Sorted.{IsPermutation, IsSorted};
 ghost use Rattle.gm_name.specs.Lines.{first_word};
-ghost use Rattle.gm_name.specs.Version.{version_cmp};
+ghost use Rattle.gm_version.specs.Version.{version_cmp};
 ghost use Rattle.gm_store.specs.Listed.{AreListed, IsListable};
 ghost use Rattle.gm_store.specs.Private.Versions.{HoldsListable};
 

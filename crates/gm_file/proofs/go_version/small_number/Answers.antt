@@ -1,5 +1,5 @@
 use Rattle.std.proofs.Common.{sym, ap, ◌∙◌}
-use Rattle.gm_name.specs.Number.{is_decimal}
+use Rattle.gm_version.specs.Number.{is_decimal}
 use Rattle.gm_file.proofs.SmallNumbers.{unread-small}
 use Rattle.gm_file.proofs.go_version.small_number.Goals as goal
 

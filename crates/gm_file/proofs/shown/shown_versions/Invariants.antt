@@ -1,6 +1,6 @@
 use Rattle.std.proofs.Common.{◌≡◌, map, take, drop, option_map}
 use Rattle.std.specs.List.Sorted.{IsStrictlySortedBy}
-use Rattle.gm_name.specs.Version.{version_cmp}
+use Rattle.gm_version.specs.Version.{version_cmp}
 use Rattle.gm_file.specs.Views.{interval_views}
 use Rattle.gm_file.specs.Shown.{shown_of}
 use Rattle.gm_file.specs.Private.Swept.{ends_view}

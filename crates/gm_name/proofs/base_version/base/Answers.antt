@@ -1,6 +1,6 @@
 use Rattle.std.proofs.Common.{ℕ, List, codes, inl, sym, subst, arith}
 use Rattle.gm_name.specs.Pseudo.{IsFront, IsStamp}
-use Rattle.gm_name.specs.Version.{parts_in}
+use Rattle.gm_version.specs.Version.{parts_in}
 use Rattle.gm_name.proofs.BaseVersions.{pre-before}
 use Rattle.gm_name.proofs.Majors.{strip-joined}
 use Rattle.gm_name.proofs.Stamps.{base-pseudo, front-dot, front-second_some, front-unique}

@@ -1,5 +1,5 @@
 use Rattle.gm_name.proofs.Bytes.{path_has_no_bang, version_has_no_bang}
-use Rattle.gm_name.proofs.Escapes.{escaped-injective}
+use Rattle.gm_version.proofs.Escapes.{escaped-injective}
 use Rattle.gm_name.proofs.laws.escaping_is_injective.Goals as goal
 
 pub returns-clause-path : goal.returns-clause-path

@@ -1,5 +1,5 @@
 use Rattle.std.proofs.Common.{refl, sym}
-use Rattle.gm_name.proofs.Escapes.{escaped-injective}
+use Rattle.gm_version.proofs.Escapes.{escaped-injective}
 use Rattle.gm_name.proofs.laws.unescape_inverts_escape.Goals as goal
 
 pub returns : goal.returns

@@ -1,6 +1,6 @@
 use Rattle.std.proofs.Common.{List, ℕ, sym, subst}
 use Rattle.gm_name.specs.Pseudo.{IsFront, IsStamp}
-use Rattle.gm_name.specs.Version.{parts_in}
+use Rattle.gm_version.specs.Version.{parts_in}
 use Rattle.gm_name.proofs.Stamps.{front-dot}
 use Rattle.gm_name.proofs.pseudo_version.pseudo.Goals as goal
 
