@@ -4,8 +4,8 @@ use Rattle.std.specs.Option.{option_map}
 use Rattle.std.specs.List.{after_first, before_first, filter_map}
 use Rattle.std.specs.Str.{bytes_eq}
 use Rattle.gm_name.specs.ModuleVersion.{ModuleVersion}
-use Rattle.gm_syntax.specs.Words.{Word}
-use Rattle.gm_syntax.specs.Document.{Line, Blank, Comment, Open, Close, Entry, is_mark}
+use Rattle.gm_syntax.specs.Words.{Word, is_mark}
+use Rattle.gm_syntax.specs.Document.{Line, Blank, Comment, Open, Close, Entry}
 use Rattle.gm_syntax.specs.declared.word.Kind.{Kind}
 use Rattle.gm_syntax.specs.declared.word.Kind.TheVariants.{Mark}
 use Rattle.gm_file.specs.declared.verb.Verb.{Verb}

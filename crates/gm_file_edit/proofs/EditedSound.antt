@@ -11,7 +11,8 @@ use Rattle.gm_syntax.specs.Lines.{HasNoLineFeed}
 use Rattle.gm_syntax.specs.Tokens.{Placed, words_of}
 use Rattle.gm_syntax.specs.Document.{Line, Entry, IsValidLine, IsDocument}
 use Rattle.gm_syntax.specs.LineViews.{plain, plain_lines}
-use Rattle.gm_syntax.proofs.NewWords.{mark_stands, no_mark}
+use Rattle.gm_syntax.proofs.Marks.{mark_stands}
+use Rattle.gm_syntax.proofs.NewWords.{no_mark}
 use Rattle.gm_syntax.proofs.Changes.{entry_stands}
 use Rattle.gm_name.specs.ModuleVersion.{ModuleVersion}
 use Rattle.gm_file.specs.declared.verb.Verb.TheVariants.{Module as ForModule, Require as ForRequire, Exclude as ForExclude, Retract as ForRetract}

@@ -14,7 +14,8 @@ use Rattle.gm_syntax.specs.Spelling.{IsWord}
 use Rattle.gm_syntax.specs.Tokens.{Placed, words_of}
 use Rattle.gm_syntax.specs.Document.{Line, Entry, IsValidLine}
 use Rattle.gm_syntax.specs.LineViews.{plain}
-use Rattle.gm_syntax.proofs.NewWords.{mark_stands, no_mark}
+use Rattle.gm_syntax.proofs.Marks.{mark_stands}
+use Rattle.gm_syntax.proofs.NewWords.{no_mark}
 use Rattle.gm_syntax.proofs.Changes.{standing_entry}
 use Rattle.gm_name.specs.Names.{does_fit, is_path}
 use Rattle.gm_name.specs.ModuleVersion.{ModuleVersion}

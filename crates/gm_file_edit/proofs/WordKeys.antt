@@ -5,8 +5,7 @@ use Rattle.std.proofs.lemmas.Bool.{cases_Bool}
 use Rattle.gm_name.specs.ModuleVersion.{ModuleVersion}
 use Rattle.gm_syntax.specs.declared.word.Kind.{Kind}
 use Rattle.gm_syntax.specs.declared.word.Kind.TheVariants as kind
-use Rattle.gm_syntax.specs.Words.{Word, HasValue}
-use Rattle.gm_syntax.specs.Document.{is_mark}
+use Rattle.gm_syntax.specs.Words.{Word, HasValue, is_mark}
 use Rattle.gm_syntax.proofs.NewWords.{value_is}
 use Rattle.gm_file.specs.declared.verb.Verb.{Verb}
 use Rattle.gm_file.specs.declared.verb.Verb.TheVariants as verb

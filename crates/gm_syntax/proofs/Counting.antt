@@ -9,7 +9,8 @@ use Rattle.gm_syntax.specs.Lines.{lines_of, HasNoLineFeed}
 use Rattle.gm_syntax.specs.Tokens.{Placed, AreNumbered}
 use Rattle.gm_syntax.specs.Document.{Line, Blank, Comment, Open, Close, Entry}
 use Rattle.gm_syntax.specs.LineViews.{tokens_of, all_tokens, AreLinesNumbered}
-use Rattle.gm_syntax.specs.Placing.{IsNextWord, FillText, FillsLine, FillLines, line_feeds, IsLineCounted, AreLinesCounted}
+use Rattle.gm_syntax.specs.LineText.{IsNextWord, FillText}
+use Rattle.gm_syntax.specs.Placing.{FillsLine, FillLines, line_feeds, IsLineCounted, AreLinesCounted}
 use Rattle.gm_syntax.proofs.Lines.{IsAfterLine, first_line, lines_nil}
 use Rattle.gm_syntax.proofs.Stable.{plain_append, plain_parts}
 

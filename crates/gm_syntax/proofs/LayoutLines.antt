@@ -2,7 +2,8 @@
 use Rattle.std.specs.Prelude.{true, not, ◌&&◌, List, [], ◌∷◌, ◌++◌, if◌then◌else◌}
 use Rattle.gm_syntax.specs.Words.{Word}
 use Rattle.gm_syntax.specs.Document.{Line, Blank}
-use Rattle.gm_syntax.specs.Layout.{LayoutState, is_blank_line, is_close, state_after}
+use Rattle.gm_syntax.specs.LayoutParts.{LayoutState}
+use Rattle.gm_syntax.specs.Layout.{is_blank_line, is_close, state_after}
 
 -- the blank line before a line in the layout, if there is one
 abbrev pub gap_lines : LayoutState → Line Word → List (Line Word)

@@ -12,9 +12,11 @@ use Rattle.gm_syntax.specs.Document.{Line, after, Place}
 use Rattle.gm_syntax.specs.LineViews.{line_of, plain, plain_lines, tokens_of, all_tokens}
 use Rattle.gm_syntax.specs.Placing.{FillsLine}
 use Rattle.gm_syntax.specs.Parsed.{IsParsedAs, IsFaultOrNoMemory}
-use Rattle.gm_syntax.specs.Private.Reader.{IsOnlyLine, IsLineReadAs, fault_at}
+use Rattle.gm_syntax.specs.Private.Reader.{IsOnlyLine, IsLineReadAs}
+use Rattle.gm_syntax.specs.Private.ReadLine.{fault_at}
 use Rattle.gm_syntax.specs.LineReading.{Unread, HasRead, IsReadDocument, IsNextRead}
-use Rattle.gm_syntax.proofs.Places.{suffix_of_suffix, line_stands, lines_numbered_push, stand_widen}
+use Rattle.gm_syntax.proofs.WordPlaces.{suffix_of_suffix, stand_widen}
+use Rattle.gm_syntax.proofs.Places.{line_stands, lines_numbered_push}
 use Rattle.gm_syntax.proofs.Filling.{lines_fill_more, lines_fill_end}
 use Rattle.gm_syntax.proofs.Counting.{document_counted}
 use Rattle.gm_syntax.proofs.Texts.{text_line, text_fault, text_end, text_open, number_after}

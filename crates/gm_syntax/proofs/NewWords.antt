@@ -5,15 +5,11 @@ use Rattle.std.proofs.lemmas.Bool.{cases_Bool, true≢false}
 use Rattle.std.proofs.lemmas.List.{take_at}
 use Rattle.gm_syntax.specs.declared.word.Kind.{Kind}
 use Rattle.gm_syntax.specs.declared.word.Kind.TheVariants.{Bare, Text, Mark}
-use Rattle.gm_syntax.specs.declared.word.Punct.{Punct}
-use Rattle.gm_syntax.specs.declared.word.Punct.TheVariants.{LeftParen, RightParen, LeftBracket, RightBracket, Comma, Arrow}
-use Rattle.gm_syntax.specs.Bytes.{is_bracket_or_comma}
 use Rattle.gm_syntax.specs.Lines.{HasNoLineFeed}
-use Rattle.gm_syntax.specs.Words.{Word, IsBare, IsString, HasShape, HasValue, escaped_value, mark_text}
+use Rattle.gm_syntax.specs.Words.{Word, IsBare, IsString, HasShape, HasValue, escaped_value, is_mark}
 use Rattle.gm_syntax.specs.Bare.{can_be_bare, in_quotes, new_word}
 use Rattle.gm_syntax.specs.Values.{all_but_last, string_value, unescaped_bytes, value_of, value_of_kind}
 use Rattle.gm_syntax.specs.Spelling.{IsWord}
-use Rattle.gm_syntax.specs.Document.{is_mark}
 use Rattle.gm_syntax.specs.Tokens.{Placed, IsNewWord}
 use Rattle.gm_syntax.proofs.Spelled.{is_bare_word, bare_word_is}
 use Rattle.gm_syntax.proofs.Stable.{plain_append}
@@ -97,12 +93,3 @@ no_mark b value = elim (cases_Bool (can_be_bare value)) [ inl e ↦ rw e refl | 
 -- a new word is not punctuation
 pub new_word_no_mark : (b : ℕ) (value : List ℕ) (t : Placed) → IsNewWord value t → is_mark b t.word ≡ false
 new_word_no_mark b value t h = rw (new_word_is value t h) (no_mark b value)
-
-pub mark_stands : (punct : Punct) → IsWord (record { kind = Mark; spelling = mark_text punct })
-unfolding is_bracket_or_comma
-mark_stands LeftParen = ((40 ∷ [], (inl (40, refl, refl), refl)), (omega arith, tt))
-mark_stands RightParen = ((41 ∷ [], (inl (41, refl, refl), refl)), (omega arith, tt))
-mark_stands LeftBracket = ((91 ∷ [], (inl (91, refl, refl), refl)), (omega arith, tt))
-mark_stands RightBracket = ((93 ∷ [], (inl (93, refl, refl), refl)), (omega arith, tt))
-mark_stands Comma = ((44 ∷ [], (inl (44, refl, refl), refl)), (omega arith, tt))
-mark_stands Arrow = ((61 ∷ 62 ∷ [], (inr refl, refl)), (omega arith, (omega arith, tt)))

@@ -6,7 +6,8 @@ use Rattle.gm_syntax.specs.declared.fault.LineSyntaxFault.TheVariants as faults
 use Rattle.gm_syntax.specs.Words.{Word}
 use Rattle.gm_syntax.specs.Spelling.{Fault, Reads, IsSpelledBy, ending_of}
 use Rattle.gm_syntax.specs.Document.{Line, HasLineFault, class_of}
-use Rattle.gm_syntax.specs.Private.Reader.{IsOnlyReading, IsOnlyLine, IsReadAs, IsLineReadAs}
+use Rattle.gm_syntax.specs.Private.ReadLine.{IsOnlyReading, IsReadAs}
+use Rattle.gm_syntax.specs.Private.Reader.{IsOnlyLine, IsLineReadAs}
 
 -- an ending that is no fault says which comment it has
 pub one_comment : (c d : Option (List ℕ)) → ending_of c ≡ ending_of d → c ≡ d

@@ -14,7 +14,8 @@ use Rattle.gm_syntax.specs.Spelling.{Ending, Reads, ending_of}
 use Rattle.gm_syntax.specs.Document.{Line, Blank, Comment, Open, Close, Entry, Finish, Whole, IsLineAt, ReadsLines, start, after, Place}
 use Rattle.gm_syntax.specs.LineViews.{plain, plain_lines, tokens_of, all_tokens}
 use Rattle.gm_syntax.specs.Parsed.{IsParsedAs}
-use Rattle.gm_syntax.specs.Placing.{IsNextWord, FillText, FillsLine, FillLines, IsLineCounted, IsPlacedIn}
+use Rattle.gm_syntax.specs.LineText.{IsNextWord, FillText}
+use Rattle.gm_syntax.specs.Placing.{FillsLine, FillLines, IsLineCounted, IsPlacedIn}
 use Rattle.gm_syntax.proofs.Classes.{bracket_not_blank, quote_not_others, word_not_others, equals_word, quote_quote, grave_quote}
 use Rattle.gm_syntax.proofs.Stable.{from_words}
 use Rattle.gm_syntax.proofs.Counting.{all_split}

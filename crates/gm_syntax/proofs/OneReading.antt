@@ -4,11 +4,10 @@ use Rattle.std.specs.Prelude.{◌⊎◌}
 use Rattle.gm_syntax.specs.declared.fault.SyntaxKind.{SyntaxKind}
 use Rattle.gm_syntax.specs.declared.scan.Piece.{Piece}
 use Rattle.gm_syntax.specs.declared.scan.Piece.TheVariants as piece
-use Rattle.gm_syntax.specs.Words.{Word}
+use Rattle.gm_syntax.specs.Words.{Word, is_bare}
 use Rattle.gm_syntax.specs.Spelling.{Ending, Nothing, Comment, Fault, IsSpelledBy, HasLexicalFault, IsSpelled, IsFaulty, ending_of}
 use Rattle.gm_syntax.specs.Private.Scan.{piece_of, trim_end}
-use Rattle.gm_syntax.specs.Private.Reader.{IsOnlyReading}
-use Rattle.gm_syntax.specs.Document.{is_bare}
+use Rattle.gm_syntax.specs.Private.ReadLine.{IsOnlyReading}
 use Rattle.gm_syntax.proofs.Progress.{Progress, progress_start, progress_end, progress_comment, progress_fault, progress_blank, progress_word, blank_positive, word_positive, word_in_range}
 use Rattle.gm_syntax.proofs.OneLine.{one_comment}
 

@@ -13,9 +13,10 @@ use Rattle.gm_syntax.specs.Private.Scan.{is_plain, piece_of, trim_end}
 use Rattle.gm_syntax.specs.Words.{Word, AllBlank, IsBare}
 use Rattle.gm_syntax.specs.Lines.{lines_of, HasNoLineFeed}
 use Rattle.gm_syntax.specs.Tokens.{Placed, words_of, AreSlicesBetween, AreNumbered}
-use Rattle.gm_syntax.specs.Placing.{IsTail, FillText}
+use Rattle.gm_syntax.specs.LineText.{IsTail, FillText}
 use Rattle.gm_syntax.specs.Spelling.{EndsLine, Reads, ending_of}
-use Rattle.gm_syntax.specs.Private.Reader.{IsOnlyReading, IsOnlyLine}
+use Rattle.gm_syntax.specs.Private.ReadLine.{IsOnlyReading}
+use Rattle.gm_syntax.specs.Private.Reader.{IsOnlyLine}
 use Rattle.gm_syntax.specs.Document.{Line, Blank, Open, Close, Entry, class_of, Place}
 use Rattle.gm_syntax.specs.LineViews.{plain}
 use Rattle.gm_syntax.specs.LineReading.{Unread, HasRead}
@@ -27,7 +28,7 @@ use Rattle.gm_syntax.proofs.LineReading.{unread, read_more}
 use Rattle.gm_syntax.proofs.OneLine.{one_line}
 use Rattle.gm_syntax.proofs.Classes.{word_not_blank}
 use Rattle.gm_syntax.proofs.Pieces.{piece_end, piece_blank, piece_bracket, piece_comment}
-use Rattle.gm_syntax.proofs.Places.{stand_take}
+use Rattle.gm_syntax.proofs.WordPlaces.{stand_take}
 use Rattle.gm_syntax.proofs.Progress.{Progress, progress_start, progress_blank, progress_word, progress_end, progress_comment, word_boundary, word_shaped, blank_boundary}
 use Rattle.gm_syntax.proofs.Steps.{plain_piece}
 use Rattle.gm_syntax.proofs.Classing.{class_blank}

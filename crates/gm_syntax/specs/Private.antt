@@ -1,4 +1,5 @@
 -- What only the code's own contracts and proofs say: no public contract reaches it.
+pub mod ReadLine
 pub mod Reader
 pub mod Scan
 pub mod SimpleLines

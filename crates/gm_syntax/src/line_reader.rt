@@ -5,11 +5,10 @@ ghost use Rattle.std.specs.Prelude.{◌≡◌, ◌≢◌, ◌+◌, ◌<◌, ◌�
 ghost use Rattle.gm_syntax.specs.Tokens.{Placed, AreSlicesBetween, AreNumbered};
 ghost use Rattle.gm_syntax.specs.LineViews.{line_of, tokens_of};
 ghost use Rattle.gm_syntax.specs.Lines.{lines_of, HasNoLineFeed};
-ghost use Rattle.gm_syntax.specs.Private.Scan.{line_len};
+ghost use Rattle.gm_syntax.specs.Private.Reader.{line_len, IsLineReadAs};
 ghost use Rattle.gm_syntax.specs.Parsed.{IsParsedAs};
 ghost use Rattle.gm_syntax.specs.Placing.{FillsLine};
 ghost use Rattle.gm_syntax.specs.Document.{Line as LineOf};
-ghost use Rattle.gm_syntax.specs.Private.Reader.{IsLineReadAs};
 ghost use Rattle.gm_syntax.specs.LineReading.{HasRead, IsNextRead, IsRestRead};
 ghost use Rattle.gm_syntax.specs.SimpleLines.{IsSimpleRead};
 

@@ -6,7 +6,7 @@ use Rattle.gm_syntax.specs.declared.word.Kind.TheVariants.{Mark}
 use Rattle.gm_syntax.specs.Words.{Word, AllBlank}
 use Rattle.gm_syntax.specs.Tokens.{Placed}
 use Rattle.gm_syntax.specs.Spelling.{ending_of}
-use Rattle.gm_syntax.specs.Private.Reader.{IsOnlyReading}
+use Rattle.gm_syntax.specs.Private.ReadLine.{IsOnlyReading}
 use Rattle.gm_syntax.specs.Document.{Place}
 use Rattle.gm_syntax.specs.SimpleLines.{bare_word}
 

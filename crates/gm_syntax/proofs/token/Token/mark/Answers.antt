@@ -1,7 +1,7 @@
 use Rattle.std.proofs.Common.{sym, subst, ◌∙◌, List, ℕ}
 use Rattle.gm_syntax.specs.declared.word.Kind.TheVariants.{Mark}
 use Rattle.gm_syntax.specs.Words.{IsShaped}
-use Rattle.gm_syntax.proofs.NewWords.{mark_stands}
+use Rattle.gm_syntax.proofs.Marks.{mark_stands}
 use Rattle.gm_syntax.proofs.token.Token.mark.Goals as goal
 
 pub invariant_of-result : goal.invariant_of-result
