@@ -53,7 +53,7 @@ COPIES = {"page": LIST[:1], "page_commands": [
     "gm_store_sums.specs.Hash.file_hash", "gm_store_sums.specs.Sums.SaysOfHash",
     "gm_store_sums.specs.Sums.IsFirstInvalid", "gm_store_sums.specs.Sums.HasValidLines",
     "gm_store.specs.Asked.answer_in", "gm_store.specs.Relative.relative_text", "gm_name.specs.Path.IsPath",
-    "gm_syntax.specs.Lines.lines_of", "gm_syntax.specs.Document.class_of", "gm_syntax.specs.Document.start",
+    "gm_syntax_words.specs.Lines.lines_of", "gm_syntax.specs.Document.class_of", "gm_syntax.specs.Document.start",
     "gm_syntax.specs.Document.after",
 ]}
 SHOWN = re.compile(r"(?ms)^<!-- show ([^\n]*?) -->\n(.*?)^<!-- end -->$")

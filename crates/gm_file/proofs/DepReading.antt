@@ -3,14 +3,14 @@ use Rattle.std.proofs.Common.{◌≡◌, ℕ, ◌+◌, List, [], ◌∷◌, ◌+
 use Rattle.std.proofs.lemmas.List.{length-append, length-map, map-append, map_push}
 use Rattle.std.specs.Prelude.{unwrap_or}
 use Rattle.std.specs.Option.{option_copied, option_map}
-use Rattle.gm_syntax.specs.Words.{Word}
-use Rattle.gm_syntax.specs.Tokens.{Placed}
+use Rattle.gm_syntax_words.specs.Words.{Word}
+use Rattle.gm_syntax_words.specs.Tokens.{Placed}
+use Rattle.gm_syntax_words.specs.declared.fault.SyntaxFault.{SyntaxFault}
+use Rattle.gm_syntax_words.specs.declared.fault.SyntaxFault.TheVariants as syntax
 use Rattle.gm_syntax.specs.Document.{Line}
 use Rattle.gm_syntax.specs.LineViews.{plain, plain_lines}
 use Rattle.gm_syntax.specs.Parsed.{IsFaultOrNoMemory, IsParsedAs}
 use Rattle.gm_syntax.specs.LineReading.{IsRestRead, Unread}
-use Rattle.gm_syntax.specs.declared.fault.SyntaxFault.{SyntaxFault}
-use Rattle.gm_syntax.specs.declared.fault.SyntaxFault.TheVariants as syntax
 use Rattle.gm_file.specs.declared.dep_lines.DepLines.{DepLines}
 use Rattle.gm_file.specs.declared.fault.FileFault.{FileFault}
 use Rattle.gm_file.specs.declared.fault.FileFault.TheVariants as file

@@ -1,7 +1,7 @@
 -- The verb of a directive is that of the entry that says it.
 use Rattle.std.proofs.Common.{◌≡◌, true, List, Option, Some, None, refl, sym, ap, ◌∙◌}
 use Rattle.std.specs.Option.{option_map}
-use Rattle.gm_syntax.specs.Words.{Word}
+use Rattle.gm_syntax_words.specs.Words.{Word}
 use Rattle.gm_file.specs.declared.verb.Verb.{Verb}
 use Rattle.gm_file.specs.declared.verb.Verb.TheVariants.{Module as ForModule, Go as ForGo, Require as ForRequire, Exclude as ForExclude, Replace as ForReplace, Retract as ForRetract, Nothing as ForNothing, Unknown}
 use Rattle.gm_file.specs.Directives.{Directive, DeclaresModule, DeclaresGo, Requires, Excludes, Replaces, Retracts, directive_of, ends_of, one_of, pair_of, replacing_of, verb_eq, verb_of_directive}

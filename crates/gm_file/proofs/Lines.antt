@@ -3,7 +3,7 @@ use Rattle.std.proofs.Common.{◌≡◌, ℕ, ◌+◌, ◌<◌, ◌≤◌, List,
 use Rattle.std.proofs.lemmas.List.{get_or-map, length-map, length-take-le, take-append-drop, take_all, take_more}
 use Rattle.std.specs.Option.{option_to_list}
 use Rattle.std.specs.List.{filter_map}
-use Rattle.gm_syntax.specs.Words.{Word}
+use Rattle.gm_syntax_words.specs.Words.{Word}
 use Rattle.gm_syntax.specs.Document.{Line}
 use Rattle.gm_syntax.specs.LineViews.{line_of, line_views, plain, plain_lines}
 use Rattle.gm_syntax.specs.declared.line.Line as declared

@@ -3,7 +3,7 @@ use Rattle.std.proofs.Common.{◌≡◌, suc, ◌+◌, List, [], ◌∷◌, ◌+
 use Rattle.std.proofs.lemmas.Grind.{flat_map-append}
 use Rattle.std.proofs.lemmas.List.Elements.{filter_map-append}
 use Rattle.std.specs.List.{filter_map, flat_map}
-use Rattle.gm_syntax.specs.Words.{Word}
+use Rattle.gm_syntax_words.specs.Words.{Word}
 use Rattle.gm_syntax.specs.Document.{Line}
 use Rattle.gm_file.specs.Directives.{Mode, LineInBlock, block_after_lines, block_after_line, directives, item_at, directive_said, with_blocks, with_blocks_from}
 use Rattle.gm_file.specs.Faults.{faults, faults_after, item_kinds, with_before, with_before_from}

@@ -1,6 +1,6 @@
 -- The faults of the text and of the directives as faults of the bytes.
-use Rattle.gm_syntax.specs.declared.fault.SyntaxFault.{SyntaxFault}
-use Rattle.gm_syntax.specs.declared.fault.SyntaxFault.TheVariants as syntax
+use Rattle.gm_syntax_words.specs.declared.fault.SyntaxFault.{SyntaxFault}
+use Rattle.gm_syntax_words.specs.declared.fault.SyntaxFault.TheVariants as syntax
 use Rattle.gm_file.specs.declared.fault.FileFault.{FileFault}
 use Rattle.gm_file.specs.declared.fault.FileFault.TheVariants as file
 use Rattle.gm_file.specs.declared.misreading.BytesFault.{BytesFault}

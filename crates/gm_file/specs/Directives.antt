@@ -4,10 +4,10 @@ use Rattle.std.specs.Option.{option_map}
 use Rattle.std.specs.List.{after_first, before_first, filter_map}
 use Rattle.std.specs.Str.{bytes_eq}
 use Rattle.gm_name.specs.ModuleVersion.{ModuleVersion}
-use Rattle.gm_syntax.specs.Words.{Word, is_mark}
+use Rattle.gm_syntax_words.specs.Words.{Word, is_mark}
+use Rattle.gm_syntax_words.specs.declared.word.Kind.{Kind}
+use Rattle.gm_syntax_words.specs.declared.word.Kind.TheVariants.{Mark}
 use Rattle.gm_syntax.specs.Document.{Line, Blank, Comment, Open, Close, Entry}
-use Rattle.gm_syntax.specs.declared.word.Kind.{Kind}
-use Rattle.gm_syntax.specs.declared.word.Kind.TheVariants.{Mark}
 use Rattle.gm_file.specs.declared.verb.Verb.{Verb}
 use Rattle.gm_file.specs.declared.verb.Verb.TheVariants.{Module as ForModule, Go as ForGo, Require as ForRequire, Exclude as ForExclude, Replace as ForReplace, Retract as ForRetract, Nothing as ForNothing, Unknown}
 use Rattle.gm_file.specs.Values.{argument, both, is_folder_path}

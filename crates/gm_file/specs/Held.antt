@@ -1,6 +1,6 @@
 -- The invariant of a main file: how its fields relate to the lines of its document.
 use Rattle.std.specs.Prelude.{◌≡◌, List, Some, None}
-use Rattle.gm_syntax.specs.Tokens.{Placed}
+use Rattle.gm_syntax_words.specs.Tokens.{Placed}
 use Rattle.gm_syntax.specs.Document.{Line}
 use Rattle.gm_syntax.specs.LineViews.{plain_lines}
 use Rattle.gm_file.specs.declared.replace.Interval.{Interval}

@@ -1,12 +1,12 @@
 -- Why bytes can't be read as a go.mod file, and the names of that in reports.
 use Rattle.std.specs.Prelude.{◌≡◌, ℕ, List, codes, Some, Ok, Err, ⊤}
-use Rattle.gm_syntax.specs.Tokens.{Placed}
+use Rattle.gm_syntax_words.specs.Tokens.{Placed}
+use Rattle.gm_syntax_words.specs.declared.fault.SyntaxFault.TheVariants as text
+use Rattle.gm_syntax_words.specs.declared.fault.SyntaxKind.{SyntaxKind}
+use Rattle.gm_syntax_words.specs.declared.fault.SyntaxKind.TheVariants as syntax
 use Rattle.gm_syntax.specs.Document.{Line}
 use Rattle.gm_syntax.specs.LineViews.{plain_lines}
 use Rattle.gm_syntax.specs.Parsed.{IsParsedAs}
-use Rattle.gm_syntax.specs.declared.fault.SyntaxFault.TheVariants as text
-use Rattle.gm_syntax.specs.declared.fault.SyntaxKind.{SyntaxKind}
-use Rattle.gm_syntax.specs.declared.fault.SyntaxKind.TheVariants as syntax
 use Rattle.gm_file.specs.declared.fault.DirectiveKind.{DirectiveKind}
 use Rattle.gm_file.specs.declared.fault.DirectiveKind.TheVariants as directive
 use Rattle.gm_file.specs.declared.misreading.BytesFault.{BytesFault}

@@ -1,7 +1,7 @@
 -- What strict reading accepts, by single lines and pairs of lines, so that their order doesn't matter.
 use Rattle.std.specs.Prelude.{◌≡◌, Bool, true, false, List, [], All, AllPairs, None}
 use Rattle.std.specs.List.{list_any}
-use Rattle.gm_syntax.specs.Words.{Word}
+use Rattle.gm_syntax_words.specs.Words.{Word}
 use Rattle.gm_syntax.specs.Document.{Line}
 use Rattle.gm_file.specs.Directives.{Strict, Directive, DeclaresModule, DeclaresGo, Replaces, LineInBlock, directives, item_at, with_blocks}
 use Rattle.gm_file.specs.Faults.{conflicts, fault_of, is_go, is_module, item_kinds}

@@ -1,6 +1,6 @@
 -- The program's types as contracts see them.
 use Rattle.std.specs.Prelude.{◌≡◌, List, map, Some, string_bytes, ⊤}
-use Rattle.gm_syntax.specs.Words.{Word}
+use Rattle.gm_syntax_words.specs.Words.{Word}
 use Rattle.gm_syntax.specs.Document.{Line}
 use Rattle.gm_file.specs.declared.replace.Right as declared
 use Rattle.gm_file.specs.declared.replace.Right.TheVariants as right

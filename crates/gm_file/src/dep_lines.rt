@@ -2,12 +2,12 @@
 
 ghost use Rattle.std.specs.Prelude.{◌≡◌, ◌≤◌, ◌∷◌, ◌++◌, [], List, None, Option, IfErr, IsTrue, OnOk, codes, length};
 ghost use Rattle.std.specs.Option.{option_map};
+ghost use Rattle.gm_syntax_words.specs.Tokens.{Placed};
+ghost use Rattle.gm_syntax_words.specs.Words.{Word};
 ghost use Rattle.gm_syntax.specs.Document.{Line as LineOf};
 ghost use Rattle.gm_syntax.specs.LineReading.{HasRead, Unread};
 ghost use Rattle.gm_syntax.specs.LineViews.{line_of, line_views, plain, plain_lines};
 ghost use Rattle.gm_syntax.specs.SimpleLines.{IsSimpleRead};
-ghost use Rattle.gm_syntax.specs.Tokens.{Placed};
-ghost use Rattle.gm_syntax.specs.Words.{Word};
 ghost use Rattle.gm_file.specs.Private.DepLines.{AreAllRead, AreDepLines, HasNextFault, IsNextLineOf};
 ghost use Rattle.gm_file.specs.Directives.{Lax, block_after_line};
 ghost use Rattle.gm_file.specs.Private.Holding.{HaveIndexes};

@@ -1,8 +1,8 @@
 //! Reading one line, which both ways of reading files and the edits of files share.
 
 ghost use Rattle.std.specs.Option.{option_map};
+ghost use Rattle.gm_syntax_words.specs.Tokens.{words_of};
 ghost use Rattle.gm_syntax.specs.LineViews.{line_of, plain};
-ghost use Rattle.gm_syntax.specs.Tokens.{words_of};
 ghost use Rattle.gm_file.specs.Directives.{directive_of, item_at, one_of, Opening, Saying};
 ghost use Rattle.gm_file.specs.Faults.{path_kinds, malformed_entry_kind};
 ghost use Rattle.gm_file.specs.Private.Reading.{KeepsNames, IsPartRead};

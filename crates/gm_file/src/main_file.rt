@@ -41,7 +41,7 @@ pub struct MainFile<'a> {
 
 impl<'a> Model for MainFile<'a> {
     ghost use Rattle.std.specs.Prelude.{List};
-    ghost use Rattle.gm_syntax.specs.Tokens.{Placed};
+    ghost use Rattle.gm_syntax_words.specs.Tokens.{Placed};
     ghost use Rattle.gm_syntax.specs.Document.{Line};
     ghost use Rattle.gm_file.specs.Held.{AreMainFields};
 

@@ -3,11 +3,11 @@
 
 ghost use Rattle.std.specs.Prelude.{◌≡◌, ◌∷◌, ◌++◌, [], IfErr, IfOk, List, OnOk};
 ghost use Rattle.std.specs.Option.{option_map, option_to_list};
+ghost use Rattle.gm_syntax_words.specs.Tokens.{words_of};
+ghost use Rattle.gm_syntax_words.specs.Words.{Word};
 ghost use Rattle.gm_syntax.specs.Document.{Line as LineOf};
 ghost use Rattle.gm_syntax.specs.LineReading.{HasRead};
 ghost use Rattle.gm_syntax.specs.LineViews.{line_of, line_views, plain, plain_lines};
-ghost use Rattle.gm_syntax.specs.Tokens.{words_of};
-ghost use Rattle.gm_syntax.specs.Words.{Word};
 ghost use Rattle.gm_file.specs.DepLines.{AreRetractedIn};
 ghost use Rattle.gm_file.specs.Directives.{Lax, item_at};
 ghost use Rattle.gm_file.specs.Fields.{lax_retracts_of};

@@ -5,7 +5,7 @@ ghost use Rattle.std.specs.Prelude.{◌≡◌, [], length, not, take_while, IfNo
 ghost use Rattle.std.specs.Option.{option_and_then, option_map};
 ghost use Rattle.std.specs.List.{after_first, before_first};
 ghost use Rattle.std.specs.String.{string_bytes};
-ghost use Rattle.gm_syntax.specs.Tokens.{words_of};
+ghost use Rattle.gm_syntax_words.specs.Tokens.{words_of};
 ghost use Rattle.gm_file.specs.Directives.{folder_right, is_arrow, left_of, left_with, left_without, module_right, pair, replacing, replacing_of, right_of, Folder, Module};
 ghost use Rattle.gm_file.specs.Private.Reading.{KeepsNames, IsPartRead, left_text_view, right_text_view};
 ghost use Rattle.gm_file.specs.Values.{argument, both};

@@ -3,7 +3,7 @@ use Rattle.std.proofs.Common.{◌≡◌, not, Bool, true, false, List, [], ◌�
 use Rattle.std.specs.Prelude.{filter}
 use Rattle.std.specs.List.{cons_option}
 use Rattle.std.proofs.lemmas.Bool.{cases_Bool}
-use Rattle.gm_syntax.specs.Tokens.{Placed}
+use Rattle.gm_syntax_words.specs.Tokens.{Placed}
 use Rattle.gm_syntax.specs.Document.{Line, IsValidLine}
 use Rattle.gm_syntax.specs.LineViews.{plain}
 use Rattle.gm_file.specs.Directives.{Directive, block_after_line}

@@ -4,14 +4,14 @@ use Rattle.std.specs.Prelude.{IfSome, codes}
 use Rattle.std.specs.Str.{bytes_eq}
 use Rattle.std.proofs.lemmas.Bool.{cases_Bool}
 use Rattle.std.proofs.lemmas.Slice.Eq.{bytes_eq-Decides}
-use Rattle.gm_syntax.specs.declared.word.Punct.TheVariants.{Comma, LeftBracket, RightBracket}
-use Rattle.gm_syntax.specs.Bytes.{is_bad, is_blank, is_bracket_or_comma, is_quote, is_word_byte}
-use Rattle.gm_syntax.specs.Bare.{bare_len, can_be_bare, new_word}
-use Rattle.gm_syntax.specs.Lines.{HasNoLineFeed}
-use Rattle.gm_syntax.specs.Tokens.{Placed, words_of}
+use Rattle.gm_syntax_words.specs.declared.word.Punct.TheVariants.{Comma, LeftBracket, RightBracket}
+use Rattle.gm_syntax_words.specs.Bytes.{is_bad, is_blank, is_bracket_or_comma, is_quote, is_word_byte}
+use Rattle.gm_syntax_words.specs.Bare.{bare_len, can_be_bare, new_word}
+use Rattle.gm_syntax_words.specs.Lines.{HasNoLineFeed}
+use Rattle.gm_syntax_words.specs.Tokens.{Placed, words_of}
+use Rattle.gm_syntax_words.proofs.Marks.{mark_stands}
 use Rattle.gm_syntax.specs.Document.{Line, Entry, IsValidLine, IsDocument}
 use Rattle.gm_syntax.specs.LineViews.{plain, plain_lines}
-use Rattle.gm_syntax.proofs.Marks.{mark_stands}
 use Rattle.gm_syntax.proofs.NewWords.{no_mark}
 use Rattle.gm_syntax.proofs.Changes.{entry_stands}
 use Rattle.gm_name.specs.ModuleVersion.{ModuleVersion}

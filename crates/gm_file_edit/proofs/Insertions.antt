@@ -5,8 +5,8 @@ use mathlib.Core.Bool.{or_assoc}
 use Rattle.std.specs.Prelude.{codes}
 use Rattle.std.specs.List.{cons_option, list_any}
 use Rattle.std.proofs.lemmas.Bool.{and_right, cases_Bool, or_right, true≢false}
-use Rattle.gm_syntax.specs.Tokens.{Placed, words_of}
-use Rattle.gm_syntax.specs.Document.{Line, Blank, Comment, Open, Close, Entry, IsValidLine}
+use Rattle.gm_syntax_words.specs.Tokens.{Placed, words_of}
+use Rattle.gm_syntax_words.specs.Bare.{new_word}
 use Rattle.gm_file.specs.Directives.{Strict, Directive, block_after_line, block_after_lines, item_at, main_verb, verb_in, verb_of_directive, Item, Silent, Opening, Saying, directive_in, directive_of, is_empty_block}
 use Rattle.gm_file.specs.Faults.{is_module, directive_kinds, entry_kinds, item_kinds}
 use Rattle.gm_file.proofs.DirectiveVerbs.{directive-verb, same-verb}
@@ -16,7 +16,7 @@ use Rattle.gm_file_edit.specs.Holding.{directive_at, passes, is_there, item_of}
 use Rattle.gm_file_edit.specs.NewWords.{entry_at, made_word, single}
 use Rattle.gm_file_edit.specs.Private.Marks.{IsOfVerb}
 use Rattle.gm_file_edit.proofs.Pairs.{block-append, held_from, IsSound, put-line}
-use Rattle.gm_syntax.specs.Bare.{new_word}
+use Rattle.gm_syntax.specs.Document.{Line, Blank, Comment, Open, Close, Entry, IsValidLine}
 use Rattle.gm_syntax.specs.LineViews.{plain}
 use Rattle.gm_syntax.proofs.Changes.{blank_stands}
 use Rattle.gm_file.specs.declared.verb.Verb.{Verb}

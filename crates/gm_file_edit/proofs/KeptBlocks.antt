@@ -4,7 +4,7 @@ use Rattle.std.specs.Prelude.{⊤}
 use Rattle.std.specs.List.{AllByRecursion, cons_option}
 use Rattle.std.proofs.lemmas.Bool.{cases_Bool}
 use Rattle.gm_name.proofs.NameTests.{and_both}
-use Rattle.gm_syntax.specs.Tokens.{Placed}
+use Rattle.gm_syntax_words.specs.Tokens.{Placed}
 use Rattle.gm_syntax.specs.Document.{Line, Blank, Comment, Open, Close, Entry}
 use Rattle.gm_file.specs.Directives.{Directive, block_after_line, block_after_lines, item_at, with_blocks_from}
 use Rattle.gm_file_edit.specs.Fates.{Fate, empties, is_emptied, kept_lines, remaining, widened_from}

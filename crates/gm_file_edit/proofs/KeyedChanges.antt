@@ -3,12 +3,12 @@ use Rattle.std.proofs.Common.{◌≡◌, ℕ, zero, suc, ◌+◌, ◌<◌, ◌�
 use Rattle.std.specs.Prelude.{insert}
 use Rattle.std.proofs.lemmas.List.{get_or_default, length-map, map-append, map-set, take_all, take_more}
 use Rattle.std.proofs.Math.ListN.{get_or-map}
+use Rattle.gm_syntax_words.specs.Tokens.{Placed}
 use Rattle.gm_syntax.proofs.Edits.{map-insert}
 use Rattle.gm_syntax.specs.declared.line.Line as declared
 use Rattle.gm_syntax.specs.declared.line.Line.TheVariants as variants
 use Rattle.gm_syntax.specs.Document.{Line, Blank}
 use Rattle.gm_syntax.specs.LineViews.{line_of, line_views}
-use Rattle.gm_syntax.specs.Tokens.{Placed}
 use Rattle.gm_file.specs.Directives.{Strict, block_after_line, block_after_lines, item_at, with_blocks_from}
 use Rattle.gm_file.specs.Faults.{item_kinds}
 use Rattle.gm_file.proofs.Snoc.{with_blocks-snoc}

@@ -4,17 +4,17 @@ use Rattle.std.specs.List.{AllByRecursion}
 use Rattle.std.proofs.lemmas.Bool.{cases_Bool}
 use Rattle.std.proofs.lemmas.List.{take_at}
 use Rattle.gm_name.specs.ModuleVersion.{ModuleVersion}
-use Rattle.gm_syntax.specs.declared.word.Kind.{Kind}
-use Rattle.gm_syntax.specs.declared.word.Kind.TheVariants.{Bare, Text, Mark}
-use Rattle.gm_syntax.specs.Lines.{HasNoLineFeed}
-use Rattle.gm_syntax.specs.Words.{Word, IsBare, is_mark, is_mark_byte}
-use Rattle.gm_syntax.specs.Bare.{can_be_bare, in_quotes, new_word}
-use Rattle.gm_syntax.specs.Values.{string_value, value_of}
-use Rattle.gm_syntax.specs.Spelling.{IsWord}
-use Rattle.gm_syntax.specs.Tokens.{Placed, IsNewWord, words_of}
+use Rattle.gm_syntax_words.specs.declared.word.Kind.{Kind}
+use Rattle.gm_syntax_words.specs.declared.word.Kind.TheVariants.{Bare, Text, Mark}
+use Rattle.gm_syntax_words.specs.Lines.{HasNoLineFeed}
+use Rattle.gm_syntax_words.specs.Words.{Word, IsBare, is_mark, is_mark_byte}
+use Rattle.gm_syntax_words.specs.Bare.{can_be_bare, in_quotes, new_word}
+use Rattle.gm_syntax_words.specs.Values.{string_value, value_of}
+use Rattle.gm_syntax_words.specs.Spelling.{IsWord}
+use Rattle.gm_syntax_words.specs.Tokens.{Placed, IsNewWord, words_of}
+use Rattle.gm_syntax_words.proofs.Spelled.{is_bare_word, bare_word_is}
 use Rattle.gm_syntax.specs.Document.{Line, Blank, Comment, Open, Close, Entry, IsValidLine, IsEntry, begins_close, ends_open}
 use Rattle.gm_syntax.specs.LineViews.{plain}
-use Rattle.gm_syntax.proofs.Spelled.{is_bare_word, bare_word_is}
 use Rattle.gm_syntax.proofs.NewWords.{new_word_stands, value_is, no_mark}
 use Rattle.gm_syntax.proofs.Changes.{entry_stands, standing_entry}
 use Rattle.gm_file.specs.Values.{argument, argument_of_kind}

@@ -4,7 +4,7 @@ use Rattle.std.specs.Prelude.{if◌then◌else◌, take_while}
 use Rattle.std.specs.List.{list_any}
 use Rattle.std.proofs.lemmas.List.{take_all, take_more}
 use Rattle.std.proofs.lemmas.Bool.{cases_Bool}
-use Rattle.gm_syntax.specs.Tokens.{Placed, words_of}
+use Rattle.gm_syntax_words.specs.Tokens.{Placed, words_of}
 use Rattle.gm_syntax.specs.Document.{Line, Blank}
 use Rattle.gm_file.specs.Directives.{Directive, block_after_line, block_after_lines, main_verb, verb_eq}
 use Rattle.gm_file.specs.declared.verb.Verb.{Verb}

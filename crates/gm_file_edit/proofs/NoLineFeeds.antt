@@ -8,7 +8,7 @@ use Rattle.std.proofs.lemmas.Bool.{cases_Bool, or_cases, or_parts, true≢false}
 use Rattle.std.proofs.lemmas.Bool.Decides.{nat_tests}
 use Rattle.std.proofs.lemmas.List.{take-append-drop}
 use Rattle.std.proofs.lemmas.List.Folds.{length-prefix_len}
-use Rattle.gm_syntax.specs.Lines.{HasNoLineFeed}
+use Rattle.gm_syntax_words.specs.Lines.{HasNoLineFeed}
 use Rattle.gm_syntax.proofs.Stable.{plain_append}
 use Rattle.gm_name.specs.Names.{is_path, is_version}
 use Rattle.gm_version.specs.Number.{is_decimal, starts_as_no_number}

@@ -4,9 +4,9 @@ use Rattle.std.specs.Prelude.{not, take_while}
 use Rattle.std.specs.List.{list_any, prefix_len, swap}
 use Rattle.std.proofs.lemmas.List.Edits.{swap_is}
 use Rattle.std.proofs.lemmas.List.{drop-drop, drop-set-lt, get_or_default, length-set, length-take-le, take_more, take_more_set, take-set-le}
+use Rattle.gm_syntax_words.specs.Tokens.{Placed}
 use Rattle.gm_syntax.specs.Layout.{is_blank_line}
 use Rattle.gm_syntax.specs.LineViews.{plain}
-use Rattle.gm_syntax.specs.Tokens.{Placed}
 use Rattle.gm_syntax.specs.Document.{Line, Blank, Comment, Open, Close, Entry}
 use Rattle.gm_file_edit.specs.Fates.{Fate, empties, fate_by, remaining, widened_from}
 use Rattle.gm_file_edit.specs.Private.Marks.{AreAtEntries, fates_of, line_at, unmarked}

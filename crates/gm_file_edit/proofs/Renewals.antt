@@ -6,15 +6,15 @@ use Rattle.std.specs.List.{after_first, before_first}
 use Rattle.std.specs.Str.{bytes_eq}
 use Rattle.std.proofs.lemmas.Bool.{and_from, and_left, cases_Bool}
 use Rattle.std.proofs.lemmas.Slice.Eq.{bytes_eq-Decides}
-use Rattle.gm_syntax.specs.declared.word.Punct.TheVariants.{Arrow}
-use Rattle.gm_syntax.specs.Lines.{HasNoLineFeed}
-use Rattle.gm_syntax.specs.Words.{Word}
-use Rattle.gm_syntax.specs.Bare.{can_be_bare, new_word}
-use Rattle.gm_syntax.specs.Spelling.{IsWord}
-use Rattle.gm_syntax.specs.Tokens.{Placed, words_of}
+use Rattle.gm_syntax_words.specs.declared.word.Punct.TheVariants.{Arrow}
+use Rattle.gm_syntax_words.specs.Lines.{HasNoLineFeed}
+use Rattle.gm_syntax_words.specs.Words.{Word}
+use Rattle.gm_syntax_words.specs.Bare.{can_be_bare, new_word}
+use Rattle.gm_syntax_words.specs.Spelling.{IsWord}
+use Rattle.gm_syntax_words.specs.Tokens.{Placed, words_of}
+use Rattle.gm_syntax_words.proofs.Marks.{mark_stands}
 use Rattle.gm_syntax.specs.Document.{Line, Entry, IsValidLine}
 use Rattle.gm_syntax.specs.LineViews.{plain}
-use Rattle.gm_syntax.proofs.Marks.{mark_stands}
 use Rattle.gm_syntax.proofs.NewWords.{no_mark}
 use Rattle.gm_syntax.proofs.Changes.{standing_entry}
 use Rattle.gm_name.specs.Names.{does_fit, is_path}

@@ -1,7 +1,7 @@
 -- Lists from an index on, and lines walked over by their keys.
 use Rattle.std.proofs.Common.{◌≡◌, ℕ, zero, suc, ◌+◌, ◌<◌, not, false, List, [], ◌∷◌, length, get_or, drop, take, drop-cons, Option, None, refl, arith}
 use Rattle.std.proofs.lemmas.List.{get_or_default, take_more}
-use Rattle.gm_syntax.specs.Tokens.{Placed}
+use Rattle.gm_syntax_words.specs.Tokens.{Placed}
 use Rattle.gm_syntax.specs.Document.{Line, Blank, Comment, Open, Close, Entry}
 use Rattle.gm_file.specs.Directives.{block_after_line, block_after_lines}
 use Rattle.gm_file_edit.specs.Holding.{is_loose}

@@ -3,9 +3,9 @@ use Rattle.std.proofs.Common.{◌≡◌, ℕ, suc, ◌+◌, ◌-◌, ◌&&◌, B
 use Rattle.std.specs.List.{after_first, before_first, position_or_len}
 use Rattle.std.proofs.lemmas.Bool.{cases_Bool}
 use Rattle.gm_name.specs.ModuleVersion.{ModuleVersion}
-use Rattle.gm_syntax.specs.declared.word.Kind.{Kind}
-use Rattle.gm_syntax.specs.declared.word.Kind.TheVariants as kind
-use Rattle.gm_syntax.specs.Words.{Word, HasValue, is_mark}
+use Rattle.gm_syntax_words.specs.declared.word.Kind.{Kind}
+use Rattle.gm_syntax_words.specs.declared.word.Kind.TheVariants as kind
+use Rattle.gm_syntax_words.specs.Words.{Word, HasValue, is_mark}
 use Rattle.gm_syntax.proofs.NewWords.{value_is}
 use Rattle.gm_file.specs.declared.verb.Verb.{Verb}
 use Rattle.gm_file.specs.declared.verb.Verb.TheVariants as verb

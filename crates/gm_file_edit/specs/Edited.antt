@@ -1,6 +1,6 @@
 -- What an operation leaves of the lines of a file (go help mod edit).
 use Rattle.std.specs.Prelude.{ℕ, ◌&&◌, not, if◌then◌else◌, Bool, List, [], ◌∷◌, ◌++◌, codes, Option, Some, None, is_some}
-use Rattle.gm_syntax.specs.Tokens.{Placed}
+use Rattle.gm_syntax_words.specs.Tokens.{Placed}
 use Rattle.gm_syntax.specs.Document.{Line, Blank, Close}
 use Rattle.gm_file.specs.Directives.{Directive, block_after_line, is_of_verb, main_verb}
 use Rattle.gm_file.specs.Faults.{is_module}

@@ -2,7 +2,7 @@
 -- closes a block.
 use Rattle.std.specs.Prelude.{◌||◌, Bool, false, List, [], ◌∷◌, Option, Some, None}
 use Rattle.std.specs.Option.{option_map}
-use Rattle.gm_syntax.specs.Tokens.{Placed}
+use Rattle.gm_syntax_words.specs.Tokens.{Placed}
 use Rattle.gm_syntax.specs.Document.{Line, is_level}
 use Rattle.gm_syntax.specs.LineViews.{plain}
 use Rattle.gm_file.specs.Directives.{Strict, Directive, Item, block_after_line, item_at, directive_in}

@@ -2,12 +2,12 @@
 use Rattle.std.specs.Prelude.{ℕ, if◌then◌else◌, Bool, List, [], ◌∷◌, ◌++◌, Option, Some, None}
 use Rattle.std.specs.Str.{bytes_eq}
 use Rattle.gm_name.specs.ModuleVersion.{ModuleVersion}
-use Rattle.gm_syntax.specs.declared.word.Kind.TheVariants.{Mark}
-use Rattle.gm_syntax.specs.declared.word.Punct.{Punct}
-use Rattle.gm_syntax.specs.declared.word.Punct.TheVariants.{LeftBracket, RightBracket, Comma, Arrow}
-use Rattle.gm_syntax.specs.Words.{Word, mark_text}
-use Rattle.gm_syntax.specs.Bare.{new_word}
-use Rattle.gm_syntax.specs.Tokens.{Placed}
+use Rattle.gm_syntax_words.specs.declared.word.Kind.TheVariants.{Mark}
+use Rattle.gm_syntax_words.specs.declared.word.Punct.{Punct}
+use Rattle.gm_syntax_words.specs.declared.word.Punct.TheVariants.{LeftBracket, RightBracket, Comma, Arrow}
+use Rattle.gm_syntax_words.specs.Words.{Word, mark_text}
+use Rattle.gm_syntax_words.specs.Bare.{new_word}
+use Rattle.gm_syntax_words.specs.Tokens.{Placed}
 use Rattle.gm_syntax.specs.Document.{Line, Entry}
 use Rattle.gm_file.specs.Directives.{VersionInterval, Right, Folder, Module, Replacing}
 

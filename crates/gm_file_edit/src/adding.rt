@@ -3,14 +3,14 @@
 //! A new entry goes next to its own kind, so that the file keeps its grouping.
 
 ghost use Rattle.std.specs.Prelude.{◌≡◌, ◌∷◌, ◌++◌, ◌≤◌, [], false, length, take, drop, List, IfNone, IfOk, IfSome, OnErr, OnOk, None, codes};
+ghost use Rattle.gm_syntax_words.specs.Tokens.{Placed};
+ghost use Rattle.gm_syntax_words.specs.Lines.{HasNoLineFeed};
 ghost use Rattle.gm_syntax.specs.Document.{Blank, Line as LineOf};
-ghost use Rattle.gm_syntax.specs.Tokens.{Placed};
-ghost use Rattle.gm_syntax.specs.LineViews.{line_of};
 ghost use Rattle.gm_file.specs.Directives.{block_after_lines, is_of_verb, main_verb, verb_eq};
 ghost use Rattle.gm_file.specs.declared.verb.Verb.TheVariants.{Unknown};
 ghost use Rattle.gm_file.specs.Faults.{is_module};
 ghost use Rattle.gm_file_edit.specs.Edited.{with_addition, after_closing, after_first_of};
-ghost use Rattle.gm_syntax.specs.Lines.{HasNoLineFeed};
+ghost use Rattle.gm_syntax.specs.LineViews.{line_of};
 ghost use Rattle.gm_file_edit.specs.NewWords.{entry_at, made_word, single};
 ghost use Rattle.gm_file_edit.specs.Private.Keys.{IsKeyedEntry};
 ghost use Rattle.gm_file_edit.specs.Private.Marks.{IsAdditionSpot};

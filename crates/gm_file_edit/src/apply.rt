@@ -10,7 +10,7 @@ use std::mem;
 /// A file that operations are applied to: a `MainFile`, whose crate doesn't know operations.
 pub trait Apply {
     ghost use Rattle.std.specs.Prelude.{◌≡◌, ◌↔◌, List, IsErrOf, OnErr, OnOk, false};
-    ghost use Rattle.gm_syntax.specs.Tokens.{Placed};
+    ghost use Rattle.gm_syntax_words.specs.Tokens.{Placed};
     ghost use Rattle.gm_syntax.specs.Document.{Line};
     ghost use Rattle.gm_file_edit.specs.Edited.{lines_after};
     ghost use Rattle.gm_file_edit.specs.Kinds.{is_fit};

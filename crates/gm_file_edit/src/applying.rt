@@ -3,8 +3,8 @@
 //! Whatever may run out of memory comes before any change of the lines, so that a failed edit leaves them unchanged.
 
 ghost use Rattle.std.specs.Prelude.{◌≡◌, ◌<◌, false, true, not, length, take_while, OnErr, OnOk, None};
+ghost use Rattle.gm_syntax_words.specs.Lines.{HasNoLineFeed};
 ghost use Rattle.gm_syntax.specs.Document.{IsDocument};
-ghost use Rattle.gm_syntax.specs.Lines.{HasNoLineFeed};
 ghost use Rattle.gm_syntax.specs.LineViews.{plain_lines};
 ghost use Rattle.gm_file.specs.Directives.{Strict, block_after_lines, main_verb, verb_eq};
 ghost use Rattle.gm_file.specs.declared.verb.Verb.TheVariants.{Unknown};

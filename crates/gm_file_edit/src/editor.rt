@@ -30,7 +30,7 @@ pub struct Editor<'a> {
 
 impl<'a> Model for Editor<'a> {
     ghost use Rattle.std.specs.Prelude.{List, ◌≡◌, None};
-    ghost use Rattle.gm_syntax.specs.Tokens.{Placed};
+    ghost use Rattle.gm_syntax_words.specs.Tokens.{Placed};
     ghost use Rattle.gm_syntax.specs.Document.{IsDocument, Line as LineOf};
     ghost use Rattle.gm_syntax.specs.LineViews.{plain_lines};
     ghost use Rattle.gm_file.specs.Directives.{Strict};

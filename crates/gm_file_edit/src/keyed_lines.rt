@@ -28,7 +28,7 @@ pub(crate) struct KeyedLines<'a> {
 
 impl<'a> Model for KeyedLines<'a> {
     ghost use Rattle.std.specs.Prelude.{List, ◌≡◌, None, length};
-    ghost use Rattle.gm_syntax.specs.Tokens.{Placed};
+    ghost use Rattle.gm_syntax_words.specs.Tokens.{Placed};
     ghost use Rattle.gm_syntax.specs.Document.{Line as LineOf};
     ghost use Rattle.gm_syntax.specs.LineViews.{line_views};
     ghost use Rattle.gm_file_edit.specs.Private.Keys.{keys_from};

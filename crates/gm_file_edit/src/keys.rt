@@ -6,8 +6,8 @@
 
 ghost use Rattle.std.specs.Prelude.{◌≡◌, [], IfOk, None, option_and_then};
 ghost use Rattle.std.specs.Option.{option_map};
+ghost use Rattle.gm_syntax_words.specs.Tokens.{words_of};
 ghost use Rattle.gm_syntax.specs.LineViews.{line_of};
-ghost use Rattle.gm_syntax.specs.Tokens.{words_of};
 ghost use Rattle.gm_file.specs.Values.{argument};
 ghost use Rattle.gm_file.specs.Directives.{Saying, Strict, verb_eq};
 ghost use Rattle.gm_file.specs.Faults.{item_kinds};

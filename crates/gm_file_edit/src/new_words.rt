@@ -3,7 +3,7 @@
 //! These words come from no source. Each is spelled bare if possible, and quoted otherwise.
 
 ghost use Rattle.std.specs.Prelude.{◌≡◌, ◌∷◌, ◌++◌, [], IfOk, OnOk};
-ghost use Rattle.gm_syntax.specs.Lines.{HasNoLineFeed};
+ghost use Rattle.gm_syntax_words.specs.Lines.{HasNoLineFeed};
 ghost use Rattle.gm_file.specs.Views.{interval_view, replace_view, right_view};
 ghost use Rattle.gm_file_edit.specs.NewWords.{interval_words, left_words, made_mark, made_word, pair_words, replace_words, right_words};
 ghost use Rattle.gm_file_edit.specs.Sound.{IsSoundRight};

@@ -3,9 +3,9 @@
 //! An entry is rewritten in place, so that its comment and its position in a block are kept.
 
 ghost use Rattle.std.specs.Prelude.{◌≡◌, ◌<◌, Option, false, true, is_some, length, take, slice_set, IfOk, OnOk, None};
+ghost use Rattle.gm_syntax_words.specs.Lines.{HasNoLineFeed};
+ghost use Rattle.gm_syntax_words.specs.Tokens.{Placed};
 ghost use Rattle.gm_syntax.specs.LineViews.{line_of};
-ghost use Rattle.gm_syntax.specs.Lines.{HasNoLineFeed};
-ghost use Rattle.gm_syntax.specs.Tokens.{Placed};
 ghost use Rattle.gm_file.specs.Directives.{block_after_lines};
 ghost use Rattle.gm_file.specs.Views.{replace_view};
 ghost use Rattle.gm_file_edit.specs.Edits.{Set};

@@ -3,7 +3,7 @@ use Rattle.std.proofs.Common.{◌≡◌, ℕ, ◌||◌, Bool, true, false, List,
 use Rattle.std.specs.Prelude.{filter}
 use Rattle.std.proofs.lemmas.Bool.{cases_Bool}
 use Rattle.std.proofs.lemmas.List.Elements.{filter-append}
-use Rattle.gm_syntax.specs.Tokens.{Placed}
+use Rattle.gm_syntax_words.specs.Tokens.{Placed}
 use Rattle.gm_syntax.specs.Document.{Line, Blank, Comment, Open, Close, Entry}
 use Rattle.gm_file.specs.Directives.{Directive, block_after_line, item_at}
 use Rattle.gm_file_edit.specs.Edits.{Edit, Set, Setting, ModuleIs, GoIs, RequireAt, ReplaceWith, Add, Drop}

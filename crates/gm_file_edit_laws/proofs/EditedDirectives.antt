@@ -3,7 +3,7 @@ use Rattle.std.proofs.Common.{◌≡◌, if◌then◌else◌, Bool, true, false,
 use Rattle.std.specs.Prelude.{filter}
 use Rattle.std.specs.List.{list_any}
 use Rattle.std.proofs.lemmas.Bool.{true≢false, cases_Bool}
-use Rattle.gm_syntax.specs.Tokens.{Placed}
+use Rattle.gm_syntax_words.specs.Tokens.{Placed}
 use Rattle.gm_syntax.specs.Document.{Line}
 use Rattle.gm_file.specs.Directives.{Directive}
 use Rattle.gm_file.specs.Faults.{is_module}

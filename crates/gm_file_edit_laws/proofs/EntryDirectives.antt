@@ -3,7 +3,7 @@ use Rattle.std.proofs.Common.{◌≡◌, ℕ, not, Bool, true, false, List, [], 
 use Rattle.std.specs.Prelude.{filter}
 use Rattle.std.specs.List.{cons_option, list_any}
 use Rattle.std.proofs.lemmas.List.Elements.{filter-append, filter_map-append}
-use Rattle.gm_syntax.specs.Tokens.{Placed}
+use Rattle.gm_syntax_words.specs.Tokens.{Placed}
 use Rattle.gm_syntax.specs.Document.{Line}
 use Rattle.gm_file.specs.Directives.{Directive, block_after_line, block_after_lines, item_at, with_blocks_from}
 use Rattle.gm_file.proofs.Pairwise.{nil-parts}

@@ -4,10 +4,10 @@ use Rattle.std.specs.Prelude.{IfSome}
 use Rattle.std.specs.List.{list_any}
 use Rattle.std.proofs.lemmas.Bool.{cases_Bool, or_parts}
 use Rattle.std.proofs.lemmas.List.{map-append}
+use Rattle.gm_syntax_words.specs.Tokens.{Placed}
+use Rattle.gm_syntax_words.specs.Words.{Word}
 use Rattle.gm_syntax.specs.Layout.{initial_state, is_blank_line, layout, layout_from, state_after}
 use Rattle.gm_syntax.specs.LineViews.{plain, plain_lines}
-use Rattle.gm_syntax.specs.Tokens.{Placed}
-use Rattle.gm_syntax.specs.Words.{Word}
 use Rattle.gm_syntax.specs.Document.{Line, Blank, Comment, Open, Close, Entry}
 use Rattle.gm_file.specs.Directives.{Left, Directive, Replaces, block_after_line, block_after_lines, item_at}
 use Rattle.gm_file.specs.Faults.{is_same_left}

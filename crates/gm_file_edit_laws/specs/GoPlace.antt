@@ -1,7 +1,7 @@
 -- Where an operation puts a new go directive (go help mod edit).
 use Rattle.std.specs.Prelude.{◌≡◌, ℕ, true, false, List, ◌∷◌, ◌++◌, Option, None, is_some}
 use Rattle.std.specs.List.{list_all, list_any}
-use Rattle.gm_syntax.specs.Tokens.{Placed}
+use Rattle.gm_syntax_words.specs.Tokens.{Placed}
 use Rattle.gm_syntax.specs.Document.{Line, Close}
 use Rattle.gm_file.specs.Directives.{block_after_lines}
 use Rattle.gm_file.specs.Faults.{is_go, is_module}

@@ -9,7 +9,7 @@
 #![tactic(auto)]
 
 ghost use Rattle.std.specs.Prelude.{◌≡◌, ℕ, true, List, Some, None};
-ghost use Rattle.gm_syntax.specs.Tokens.{Placed};
+ghost use Rattle.gm_syntax_words.specs.Tokens.{Placed};
 ghost use Rattle.gm_syntax.specs.Document.{IsDocument, Line};
 ghost use Rattle.gm_syntax.specs.LineViews.{plain_lines};
 ghost use Rattle.gm_file.specs.Directives.{Strict};

@@ -4,8 +4,8 @@ use Rattle.std.specs.Prelude.{◌≢◌, ⊤, insert, slice_range}
 use Rattle.std.specs.List.{list_all}
 use Rattle.std.proofs.lemmas.Bool.{cases_Bool, true≢false}
 use Rattle.std.proofs.lemmas.List.{take-append-drop, drop-drop}
-use Rattle.gm_syntax.specs.Words.{Word, is_bare, is_mark}
-use Rattle.gm_syntax.specs.Spelling.{IsSuffix}
+use Rattle.gm_syntax_words.specs.Words.{Word, is_bare, is_mark}
+use Rattle.gm_syntax_words.specs.Spelling.{IsSuffix}
 use Rattle.gm_syntax.specs.Document.{Line, Blank, Comment, Open, Close, Entry, ends_open, opens_block, begins_close, class_of, inside_after, inside_after_all, is_level, IsValidLine, IsEntry, AreLines, IsDocument, start, after, without, Place}
 use Rattle.gm_syntax.proofs.Classing.{class_blank, class_comment, class_inside_entry, class_entry}
 use Rattle.gm_syntax.proofs.Stable.{and_both, after_inside, words_are_spelled, spelled_are_words, from_words, class_is, line_fits}

@@ -4,12 +4,12 @@ use Rattle.std.specs.List.{AllByRecursion}
 use Rattle.std.proofs.lemmas.Bool.{eq-eqb, ne_eqb}
 use Rattle.std.proofs.lemmas.List.{take_at, length-append}
 use Rattle.std.proofs.lemmas.List.Sums.{sum_by-cons, sum_by-append}
-use Rattle.gm_syntax.specs.declared.word.Span.{Span}
-use Rattle.gm_syntax.specs.Lines.{lines_of, HasNoLineFeed}
-use Rattle.gm_syntax.specs.Tokens.{Placed, AreNumbered}
+use Rattle.gm_syntax_words.specs.declared.word.Span.{Span}
+use Rattle.gm_syntax_words.specs.Lines.{lines_of, HasNoLineFeed}
+use Rattle.gm_syntax_words.specs.Tokens.{Placed, AreNumbered}
+use Rattle.gm_syntax_words.specs.LineText.{IsNextWord, FillText}
 use Rattle.gm_syntax.specs.Document.{Line, Blank, Comment, Open, Close, Entry}
 use Rattle.gm_syntax.specs.LineViews.{tokens_of, all_tokens, AreLinesNumbered}
-use Rattle.gm_syntax.specs.LineText.{IsNextWord, FillText}
 use Rattle.gm_syntax.specs.Placing.{FillsLine, FillLines, line_feeds, IsLineCounted, AreLinesCounted}
 use Rattle.gm_syntax.proofs.Lines.{IsAfterLine, first_line, lines_nil}
 use Rattle.gm_syntax.proofs.Stable.{plain_append, plain_parts}

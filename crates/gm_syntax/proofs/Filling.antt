@@ -1,12 +1,12 @@
 -- The words of a line, the blanks around them and the comment make up its text.
 use Rattle.std.proofs.Common.{◌≡◌, ℕ, ◌+◌, ◌-◌, ◌<◌, ◌≤◌, Bool, List, [], ◌∷◌, ◌++◌, length, take, drop, Option, Some, None, Ok, refl, sym, ap, ◌∙◌, append_assoc, arith}
 use Rattle.std.proofs.lemmas.List.{append-nil, length-map, take_all}
-use Rattle.gm_syntax.specs.Words.{Word}
-use Rattle.gm_syntax.specs.Lines.{lines_of}
-use Rattle.gm_syntax.specs.Tokens.{Placed, words_of}
+use Rattle.gm_syntax_words.specs.Words.{Word}
+use Rattle.gm_syntax_words.specs.Lines.{lines_of}
+use Rattle.gm_syntax_words.specs.Tokens.{Placed, words_of}
+use Rattle.gm_syntax_words.specs.LineText.{FillText}
 use Rattle.gm_syntax.specs.Document.{Line, Blank, Comment, Open, Close, Entry, class_of}
 use Rattle.gm_syntax.specs.LineViews.{tokens_of, plain}
-use Rattle.gm_syntax.specs.LineText.{FillText}
 use Rattle.gm_syntax.specs.Placing.{FillsLine, FillLines}
 use Rattle.gm_syntax.specs.LineReading.{LinesFillUpTo}
 use Rattle.gm_syntax.proofs.Lines.{lines_nil}

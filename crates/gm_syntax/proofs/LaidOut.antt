@@ -5,10 +5,10 @@ use Rattle.std.specs.Prelude.{◌&&◌, ◌||◌, not}
 use Rattle.std.specs.List.{list_all}
 use Rattle.std.proofs.lemmas.Bool.{cases_Bool, true≢false}
 use Rattle.std.proofs.lemmas.List.{append-nil, append_cancel_left}
-use Rattle.gm_syntax.specs.Words.{Word}
+use Rattle.gm_syntax_words.specs.Words.{Word}
+use Rattle.gm_syntax_words.specs.LayoutParts.{LayoutState}
 use Rattle.gm_syntax.specs.Document.{Line, Blank, inside_after}
 use Rattle.gm_syntax.specs.Layout.{line_text, is_open, is_close, is_blank_line, state_after, layout_from, layout, initial_state, filled_lines, lines_text, begins_blank, ends_blank, gap_between, AreLaidOut, IsLayout}
-use Rattle.gm_syntax.specs.LayoutParts.{LayoutState}
 use Rattle.gm_syntax.proofs.LayoutLines.{gap_lines, layout_lines}
 use Rattle.gm_syntax.proofs.Stable.{and_both, filled_blank, filled_other, filled_gap, filled_again}
 

@@ -1,8 +1,8 @@
 -- The layout as a list of lines.
 use Rattle.std.specs.Prelude.{true, not, ◌&&◌, List, [], ◌∷◌, ◌++◌, if◌then◌else◌}
-use Rattle.gm_syntax.specs.Words.{Word}
+use Rattle.gm_syntax_words.specs.Words.{Word}
+use Rattle.gm_syntax_words.specs.LayoutParts.{LayoutState}
 use Rattle.gm_syntax.specs.Document.{Line, Blank}
-use Rattle.gm_syntax.specs.LayoutParts.{LayoutState}
 use Rattle.gm_syntax.specs.Layout.{is_blank_line, is_close, state_after}
 
 -- the blank line before a line in the layout, if there is one

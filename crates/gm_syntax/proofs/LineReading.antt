@@ -1,21 +1,21 @@
 -- The steps of a reader of lines.
 use Rattle.std.proofs.Common.{◌≡◌, ℕ, ◌+◌, ◌-◌, ◌<◌, ◌≤◌, true, false, List, [], ◌∷◌, ◌++◌, length, drop, Option, Some, None, Ok, Err, inl, inr, refl, ap, subst, arith}
 use Rattle.std.proofs.lemmas.List.{map_push, length-append}
-use Rattle.gm_syntax.specs.declared.fault.LineSyntaxFault.{LineSyntaxFault}
-use Rattle.gm_syntax.specs.declared.fault.LineSyntaxFault.TheVariants as faults
-use Rattle.gm_syntax.specs.declared.fault.SyntaxKind.TheVariants.{OpenBlock}
-use Rattle.gm_syntax.specs.declared.fault.SyntaxFault.TheVariants as syntax
+use Rattle.gm_syntax_words.specs.declared.fault.LineSyntaxFault.{LineSyntaxFault}
+use Rattle.gm_syntax_words.specs.declared.fault.LineSyntaxFault.TheVariants as faults
+use Rattle.gm_syntax_words.specs.declared.fault.SyntaxKind.TheVariants.{OpenBlock}
+use Rattle.gm_syntax_words.specs.declared.fault.SyntaxFault.TheVariants as syntax
+use Rattle.gm_syntax_words.specs.Lines.{lines_of, HasNoLineFeed}
+use Rattle.gm_syntax_words.specs.Tokens.{Placed, AreSlicesBetween, AreNumbered}
+use Rattle.gm_syntax_words.specs.ReadLine.{fault_at}
+use Rattle.gm_syntax_words.proofs.WordPlaces.{suffix_of_suffix, stand_widen}
 use Rattle.gm_syntax.specs.declared.line.Line as declared
-use Rattle.gm_syntax.specs.Lines.{lines_of, HasNoLineFeed}
-use Rattle.gm_syntax.specs.Tokens.{Placed, AreSlicesBetween, AreNumbered}
 use Rattle.gm_syntax.specs.Document.{Line, after, Place}
 use Rattle.gm_syntax.specs.LineViews.{line_of, plain, plain_lines, tokens_of, all_tokens}
 use Rattle.gm_syntax.specs.Placing.{FillsLine}
 use Rattle.gm_syntax.specs.Parsed.{IsParsedAs, IsFaultOrNoMemory}
 use Rattle.gm_syntax.specs.Private.Reader.{IsOnlyLine, IsLineReadAs}
-use Rattle.gm_syntax.specs.Private.ReadLine.{fault_at}
 use Rattle.gm_syntax.specs.LineReading.{Unread, HasRead, IsReadDocument, IsNextRead}
-use Rattle.gm_syntax.proofs.WordPlaces.{suffix_of_suffix, stand_widen}
 use Rattle.gm_syntax.proofs.Places.{line_stands, lines_numbered_push}
 use Rattle.gm_syntax.proofs.Filling.{lines_fill_more, lines_fill_end}
 use Rattle.gm_syntax.proofs.Counting.{document_counted}

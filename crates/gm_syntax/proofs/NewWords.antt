@@ -3,15 +3,15 @@ use Rattle.std.proofs.Common.{◌≡◌, ℕ, ◌-◌, ◌==◌, Bool, true, fal
 use Rattle.std.specs.Prelude.{◌||◌, ◌↔◌, if◌then◌else◌}
 use Rattle.std.proofs.lemmas.Bool.{cases_Bool, true≢false}
 use Rattle.std.proofs.lemmas.List.{take_at}
-use Rattle.gm_syntax.specs.declared.word.Kind.{Kind}
-use Rattle.gm_syntax.specs.declared.word.Kind.TheVariants.{Bare, Text, Mark}
-use Rattle.gm_syntax.specs.Lines.{HasNoLineFeed}
-use Rattle.gm_syntax.specs.Words.{Word, IsBare, IsString, HasShape, HasValue, escaped_value, is_mark}
-use Rattle.gm_syntax.specs.Bare.{can_be_bare, in_quotes, new_word}
-use Rattle.gm_syntax.specs.Values.{all_but_last, string_value, unescaped_bytes, value_of, value_of_kind}
-use Rattle.gm_syntax.specs.Spelling.{IsWord}
-use Rattle.gm_syntax.specs.Tokens.{Placed, IsNewWord}
-use Rattle.gm_syntax.proofs.Spelled.{is_bare_word, bare_word_is}
+use Rattle.gm_syntax_words.specs.declared.word.Kind.{Kind}
+use Rattle.gm_syntax_words.specs.declared.word.Kind.TheVariants.{Bare, Text, Mark}
+use Rattle.gm_syntax_words.specs.Lines.{HasNoLineFeed}
+use Rattle.gm_syntax_words.specs.Words.{Word, IsBare, IsString, HasShape, HasValue, escaped_value, is_mark}
+use Rattle.gm_syntax_words.specs.Bare.{can_be_bare, in_quotes, new_word}
+use Rattle.gm_syntax_words.specs.Values.{all_but_last, string_value, unescaped_bytes, value_of, value_of_kind}
+use Rattle.gm_syntax_words.specs.Spelling.{IsWord}
+use Rattle.gm_syntax_words.specs.Tokens.{Placed, IsNewWord}
+use Rattle.gm_syntax_words.proofs.Spelled.{is_bare_word, bare_word_is}
 use Rattle.gm_syntax.proofs.Stable.{plain_append}
 
 -- ---- values

@@ -1,12 +1,12 @@
 -- A text that has one reading is one line, or has one fault.
 use Rattle.std.proofs.Common.{◌≡◌, Bool, List, ℕ, Option, Some, None, Result, Ok, Err, inl, inr, refl, sym, ap, ◌∙◌}
-use Rattle.gm_syntax.specs.declared.fault.SyntaxKind.{SyntaxKind}
-use Rattle.gm_syntax.specs.declared.fault.LineSyntaxFault.{LineSyntaxFault}
-use Rattle.gm_syntax.specs.declared.fault.LineSyntaxFault.TheVariants as faults
-use Rattle.gm_syntax.specs.Words.{Word}
-use Rattle.gm_syntax.specs.Spelling.{Fault, Reads, IsSpelledBy, ending_of}
+use Rattle.gm_syntax_words.specs.declared.fault.SyntaxKind.{SyntaxKind}
+use Rattle.gm_syntax_words.specs.declared.fault.LineSyntaxFault.{LineSyntaxFault}
+use Rattle.gm_syntax_words.specs.declared.fault.LineSyntaxFault.TheVariants as faults
+use Rattle.gm_syntax_words.specs.Words.{Word}
+use Rattle.gm_syntax_words.specs.Spelling.{Fault, Reads, IsSpelledBy, ending_of}
+use Rattle.gm_syntax_words.specs.ReadLine.{IsOnlyReading, IsReadAs}
 use Rattle.gm_syntax.specs.Document.{Line, HasLineFault, class_of}
-use Rattle.gm_syntax.specs.Private.ReadLine.{IsOnlyReading, IsReadAs}
 use Rattle.gm_syntax.specs.Private.Reader.{IsOnlyLine, IsLineReadAs}
 
 -- an ending that is no fault says which comment it has

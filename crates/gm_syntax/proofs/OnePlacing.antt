@@ -3,20 +3,20 @@ use Rattle.std.proofs.Common.{◌≡◌, ℕ, ◌+◌, Bool, false, List, [], �
 use Rattle.std.specs.List.{AllByRecursion}
 use Rattle.std.proofs.lemmas.Bool.{true≢false}
 use Rattle.std.proofs.lemmas.List.{append_cancel_left}
-use Rattle.gm_syntax.specs.declared.word.Span.{Span}
-use Rattle.gm_syntax.specs.declared.word.Kind.{Kind}
-use Rattle.gm_syntax.specs.declared.word.Kind.TheVariants.{Bare, Text, Mark}
-use Rattle.gm_syntax.specs.Bytes.{is_blank}
-use Rattle.gm_syntax.specs.Words.{Word, AllBlank, HasShape, IsShaped, escaped_value}
-use Rattle.gm_syntax.specs.Lines.{lines_of}
-use Rattle.gm_syntax.specs.Tokens.{Placed, words_of}
-use Rattle.gm_syntax.specs.Spelling.{Ending, Reads, ending_of}
+use Rattle.gm_syntax_words.specs.declared.word.Span.{Span}
+use Rattle.gm_syntax_words.specs.declared.word.Kind.{Kind}
+use Rattle.gm_syntax_words.specs.declared.word.Kind.TheVariants.{Bare, Text, Mark}
+use Rattle.gm_syntax_words.specs.Bytes.{is_blank}
+use Rattle.gm_syntax_words.specs.Words.{Word, AllBlank, HasShape, IsShaped, escaped_value}
+use Rattle.gm_syntax_words.specs.Lines.{lines_of}
+use Rattle.gm_syntax_words.specs.Tokens.{Placed, words_of}
+use Rattle.gm_syntax_words.specs.Spelling.{Ending, Reads, ending_of}
+use Rattle.gm_syntax_words.specs.LineText.{IsNextWord, FillText}
+use Rattle.gm_syntax_words.proofs.Classes.{bracket_not_blank, quote_not_others, word_not_others, equals_word, quote_quote, grave_quote}
 use Rattle.gm_syntax.specs.Document.{Line, Blank, Comment, Open, Close, Entry, Finish, Whole, IsLineAt, ReadsLines, start, after, Place}
 use Rattle.gm_syntax.specs.LineViews.{plain, plain_lines, tokens_of, all_tokens}
 use Rattle.gm_syntax.specs.Parsed.{IsParsedAs}
-use Rattle.gm_syntax.specs.LineText.{IsNextWord, FillText}
 use Rattle.gm_syntax.specs.Placing.{FillsLine, FillLines, IsLineCounted, IsPlacedIn}
-use Rattle.gm_syntax.proofs.Classes.{bracket_not_blank, quote_not_others, word_not_others, equals_word, quote_quote, grave_quote}
 use Rattle.gm_syntax.proofs.Stable.{from_words}
 use Rattle.gm_syntax.proofs.Counting.{all_split}
 

@@ -1,14 +1,14 @@
 -- Each line has one reading: one spelling, or one lexical fault.
 use Rattle.std.proofs.Common.{◌≡◌, ℕ, zero, suc, ◌<◌, ◌≤◌, Bool, false, List, [], length, drop, Option, Some, None, refl, sym, ◌∙◌, arith, inl, inr, length-drop}
 use Rattle.std.specs.Prelude.{◌⊎◌}
-use Rattle.gm_syntax.specs.declared.fault.SyntaxKind.{SyntaxKind}
-use Rattle.gm_syntax.specs.declared.scan.Piece.{Piece}
-use Rattle.gm_syntax.specs.declared.scan.Piece.TheVariants as piece
-use Rattle.gm_syntax.specs.Words.{Word, is_bare}
-use Rattle.gm_syntax.specs.Spelling.{Ending, Nothing, Comment, Fault, IsSpelledBy, HasLexicalFault, IsSpelled, IsFaulty, ending_of}
-use Rattle.gm_syntax.specs.Private.Scan.{piece_of, trim_end}
-use Rattle.gm_syntax.specs.Private.ReadLine.{IsOnlyReading}
-use Rattle.gm_syntax.proofs.Progress.{Progress, progress_start, progress_end, progress_comment, progress_fault, progress_blank, progress_word, blank_positive, word_positive, word_in_range}
+use Rattle.gm_syntax_words.specs.declared.fault.SyntaxKind.{SyntaxKind}
+use Rattle.gm_syntax_words.specs.declared.scan.Piece.{Piece}
+use Rattle.gm_syntax_words.specs.declared.scan.Piece.TheVariants as piece
+use Rattle.gm_syntax_words.specs.Words.{Word, is_bare}
+use Rattle.gm_syntax_words.specs.Spelling.{Ending, Nothing, Comment, Fault, IsSpelledBy, HasLexicalFault, IsSpelled, IsFaulty, ending_of}
+use Rattle.gm_syntax_words.specs.Private.Scan.{piece_of, trim_end}
+use Rattle.gm_syntax_words.specs.ReadLine.{IsOnlyReading}
+use Rattle.gm_syntax_words.proofs.Progress.{Progress, progress_start, progress_end, progress_comment, progress_fault, progress_blank, progress_word, blank_positive, word_positive, word_in_range}
 use Rattle.gm_syntax.proofs.OneLine.{one_comment}
 
 record OneReading (line : List ℕ) : Type 0 where

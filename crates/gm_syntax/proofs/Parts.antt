@@ -2,7 +2,7 @@
 use Rattle.std.proofs.Common.{◌≡◌, ℕ, Bool, true, false, List, [], ◌∷◌, ◌++◌, Option, refl, sym, ap, ◌∙◌, append_assoc}
 use Rattle.std.specs.List.{AllByRecursion, flat_map}
 use Rattle.std.proofs.lemmas.Bool.{true≢false}
-use Rattle.gm_syntax.specs.Words.{Word}
+use Rattle.gm_syntax_words.specs.Words.{Word}
 use Rattle.gm_syntax.specs.Document.{Line, Blank, Comment, Open, Close, Entry, inside_after_all, IsValidLine, IsDocument, start}
 use Rattle.gm_syntax.specs.Documents.{Part, Single, Block, part_lines, IsLooseLine, IsPart, ConsistOfParts}
 use Rattle.gm_syntax.proofs.Changes.{AreValidFrom, lines_stand, standing_lines, stand_together, inside_after_all-append, inside_after-level, open_outside}

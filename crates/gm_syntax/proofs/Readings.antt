@@ -4,10 +4,10 @@ use Rattle.std.specs.Prelude.{◌⊎◌, slice_get}
 use Rattle.std.specs.List.{list_all}
 use Rattle.std.proofs.lemmas.Bool.{true≢false}
 use Rattle.std.proofs.lemmas.List.{append-nil, length-append}
-use Rattle.gm_syntax.specs.declared.fault.SyntaxKind.{SyntaxKind}
-use Rattle.gm_syntax.specs.declared.fault.SyntaxKind.TheVariants.{OpenBlock}
-use Rattle.gm_syntax.specs.Words.{Word}
-use Rattle.gm_syntax.specs.Lines.{lines_of}
+use Rattle.gm_syntax_words.specs.declared.fault.SyntaxKind.{SyntaxKind}
+use Rattle.gm_syntax_words.specs.declared.fault.SyntaxKind.TheVariants.{OpenBlock}
+use Rattle.gm_syntax_words.specs.Words.{Word}
+use Rattle.gm_syntax_words.specs.Lines.{lines_of}
 use Rattle.gm_syntax.specs.Document.{Line, Blank, Comment, Open, Close, Entry, Finish, Whole, Faulty, is_level, inside_after_all, IsLineAt, HasLineFault, Finishes, ReadsLines, start, after, Place}
 use Rattle.gm_syntax.specs.Documents.{openings, closings, is_open_after, IsLastOpening, EndsAfter, IsReading}
 use Rattle.gm_syntax.proofs.Stable.{and_both, after_inside, Fits, line_fits}

@@ -5,17 +5,22 @@ use Rattle.std.specs.Str.{IsCharBoundary}
 use Rattle.std.proofs.iter.FirstChar.{beside_ascii}
 use Rattle.std.proofs.lemmas.Bool.{true≢false}
 use Rattle.std.proofs.lemmas.List.{take_at, drop_at, drop-drop, append-nil, length-append}
-use Rattle.gm_syntax.specs.declared.scan.Piece.TheVariants as piece
-use Rattle.gm_syntax.specs.declared.word.Kind.TheVariants.{Bare, Mark}
-use Rattle.gm_syntax.specs.Bytes.{is_blank, is_bracket_or_comma}
-use Rattle.gm_syntax.specs.Bare.{bare_len}
-use Rattle.gm_syntax.specs.Private.Scan.{is_plain, piece_of, trim_end}
-use Rattle.gm_syntax.specs.Words.{Word, AllBlank, IsBare}
-use Rattle.gm_syntax.specs.Lines.{lines_of, HasNoLineFeed}
-use Rattle.gm_syntax.specs.Tokens.{Placed, words_of, AreSlicesBetween, AreNumbered}
-use Rattle.gm_syntax.specs.LineText.{IsTail, FillText}
-use Rattle.gm_syntax.specs.Spelling.{EndsLine, Reads, ending_of}
-use Rattle.gm_syntax.specs.Private.ReadLine.{IsOnlyReading}
+use Rattle.gm_syntax_words.specs.declared.scan.Piece.TheVariants as piece
+use Rattle.gm_syntax_words.specs.declared.word.Kind.TheVariants.{Bare, Mark}
+use Rattle.gm_syntax_words.specs.Bytes.{is_blank, is_bracket_or_comma, is_plain}
+use Rattle.gm_syntax_words.specs.Bare.{bare_len}
+use Rattle.gm_syntax_words.specs.Private.Scan.{piece_of, trim_end}
+use Rattle.gm_syntax_words.specs.Words.{Word, AllBlank, IsBare}
+use Rattle.gm_syntax_words.specs.Lines.{lines_of, HasNoLineFeed}
+use Rattle.gm_syntax_words.specs.Tokens.{Placed, words_of, AreSlicesBetween, AreNumbered}
+use Rattle.gm_syntax_words.specs.LineText.{IsTail, FillText}
+use Rattle.gm_syntax_words.specs.Spelling.{EndsLine, Reads, ending_of}
+use Rattle.gm_syntax_words.specs.ReadLine.{IsOnlyReading}
+use Rattle.gm_syntax_words.proofs.Classes.{word_not_blank}
+use Rattle.gm_syntax_words.proofs.Pieces.{piece_end, piece_blank, piece_bracket, piece_comment}
+use Rattle.gm_syntax_words.proofs.WordPlaces.{stand_take}
+use Rattle.gm_syntax_words.proofs.Progress.{Progress, progress_start, progress_blank, progress_word, progress_end, progress_comment, word_boundary, word_shaped, blank_boundary}
+use Rattle.gm_syntax_words.proofs.Steps.{plain_piece}
 use Rattle.gm_syntax.specs.Private.Reader.{IsOnlyLine}
 use Rattle.gm_syntax.specs.Document.{Line, Blank, Open, Close, Entry, class_of, Place}
 use Rattle.gm_syntax.specs.LineViews.{plain}
@@ -26,11 +31,6 @@ use Rattle.gm_syntax.specs.declared.simple_line.SimpleLine.{SimpleLine}
 use Rattle.gm_syntax.specs.declared.simple_line.SimpleLine.TheVariants as simple
 use Rattle.gm_syntax.proofs.LineReading.{unread, read_more}
 use Rattle.gm_syntax.proofs.OneLine.{one_line}
-use Rattle.gm_syntax.proofs.Classes.{word_not_blank}
-use Rattle.gm_syntax.proofs.Pieces.{piece_end, piece_blank, piece_bracket, piece_comment}
-use Rattle.gm_syntax.proofs.WordPlaces.{stand_take}
-use Rattle.gm_syntax.proofs.Progress.{Progress, progress_start, progress_blank, progress_word, progress_end, progress_comment, word_boundary, word_shaped, blank_boundary}
-use Rattle.gm_syntax.proofs.Steps.{plain_piece}
 use Rattle.gm_syntax.proofs.Classing.{class_blank}
 use Rattle.gm_syntax.proofs.Stable.{mark}
 

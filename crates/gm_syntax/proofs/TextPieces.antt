@@ -4,7 +4,7 @@ use Rattle.std.specs.Prelude.{◌≢◌}
 use Rattle.std.specs.List.{AllByRecursion, flat_map}
 use Rattle.std.proofs.lemmas.Bool.{cases_eq}
 use Rattle.std.proofs.lemmas.List.{append-nil}
-use Rattle.gm_syntax.specs.Lines.{put_first, lines_of, HasNoLineFeed}
+use Rattle.gm_syntax_words.specs.Lines.{put_first, lines_of, HasNoLineFeed}
 use Rattle.gm_syntax.specs.Documents.{with_line_feed, ArePieces}
 use Rattle.gm_syntax.proofs.Lines.{lines_nil, lines_cut, lines_more}
 use Rattle.gm_syntax.proofs.Stable.{ended_line}

@@ -3,13 +3,13 @@
 use Rattle.std.specs.Prelude.{◌≡◌, ◌≢◌, ◌⊎◌, ◌<◌, ◌≤◌, ◌+◌, ℕ, Bool, true, false, List, [], ◌∷◌, ◌++◌, length, nat_lt, slice_get, Option, Some, Result, Ok, Err}
 use Rattle.std.specs.List.{AllByRecursion, list_all, filter, flat_map}
 use Rattle.std.specs.Str.{IsUtf8}
-use Rattle.gm_syntax.specs.declared.fault.SyntaxKind.{SyntaxKind}
-use Rattle.gm_syntax.specs.declared.fault.SyntaxKind.TheVariants.{OpenBlock}
-use Rattle.gm_syntax.specs.declared.fault.SyntaxFault.{SyntaxFault}
-use Rattle.gm_syntax.specs.declared.fault.SyntaxFault.TheVariants as faults
-use Rattle.gm_syntax.specs.Words.{Word}
-use Rattle.gm_syntax.specs.Lines.{HasNoLineFeed}
-use Rattle.gm_syntax.specs.Tokens.{Placed}
+use Rattle.gm_syntax_words.specs.declared.fault.SyntaxKind.{SyntaxKind}
+use Rattle.gm_syntax_words.specs.declared.fault.SyntaxKind.TheVariants.{OpenBlock}
+use Rattle.gm_syntax_words.specs.declared.fault.SyntaxFault.{SyntaxFault}
+use Rattle.gm_syntax_words.specs.declared.fault.SyntaxFault.TheVariants as faults
+use Rattle.gm_syntax_words.specs.Words.{Word}
+use Rattle.gm_syntax_words.specs.Lines.{HasNoLineFeed}
+use Rattle.gm_syntax_words.specs.Tokens.{Placed}
 use Rattle.gm_syntax.specs.Document.{Line, Open, Close, Finish, Whole, Faulty, is_level, IsLineAt, HasLineFault, IsValidLine}
 use Rattle.gm_syntax.specs.LineViews.{plain_lines}
 use Rattle.gm_syntax.specs.Layout.{is_open, is_close}

@@ -1,10 +1,10 @@
 -- Reading a document line by line, without keeping its lines.
 use Rattle.std.specs.Prelude.{◌≡◌, ℕ, ◌+◌, ◌-◌, ◌≤◌, List, [], ◌∷◌, ◌++◌, length, drop, Option, Some, None, Result, Ok, Err}
-use Rattle.gm_syntax.specs.declared.fault.SyntaxFault.{SyntaxFault}
+use Rattle.gm_syntax_words.specs.declared.fault.SyntaxFault.{SyntaxFault}
+use Rattle.gm_syntax_words.specs.Words.{Word}
+use Rattle.gm_syntax_words.specs.Tokens.{Placed, AreSlicesBetween}
+use Rattle.gm_syntax_words.specs.Lines.{lines_of}
 use Rattle.gm_syntax.specs.declared.line.Line as declared
-use Rattle.gm_syntax.specs.Words.{Word}
-use Rattle.gm_syntax.specs.Tokens.{Placed, AreSlicesBetween}
-use Rattle.gm_syntax.specs.Lines.{lines_of}
 use Rattle.gm_syntax.specs.Document.{Line, Finish, ReadsLines, AreLines, IsDocument, start, Place}
 use Rattle.gm_syntax.specs.LineViews.{line_of, plain_lines, all_tokens, AreLinesNumbered}
 use Rattle.gm_syntax.specs.Placing.{FillLines, IsPlacedIn}

@@ -1,10 +1,10 @@
 -- Where the words of a document stand in its source: with blanks and comments they make up each line.
 use Rattle.std.specs.Prelude.{⊤, ◌≡◌, ℕ, ◌+◌, ◌==◌, List, [], ◌∷◌, length, take, Some, None}
 use Rattle.std.specs.List.{AllByRecursion, count_by}
-use Rattle.gm_syntax.specs.declared.word.Span.{Span}
-use Rattle.gm_syntax.specs.Lines.{lines_of}
-use Rattle.gm_syntax.specs.Tokens.{Placed}
-use Rattle.gm_syntax.specs.LineText.{FillText}
+use Rattle.gm_syntax_words.specs.declared.word.Span.{Span}
+use Rattle.gm_syntax_words.specs.Lines.{lines_of}
+use Rattle.gm_syntax_words.specs.Tokens.{Placed}
+use Rattle.gm_syntax_words.specs.LineText.{FillText}
 use Rattle.gm_syntax.specs.Document.{Line, Blank, Comment, Open, Close, Entry}
 use Rattle.gm_syntax.specs.LineViews.{all_tokens}
 

@@ -1,5 +1,3 @@
 -- What only the code's own contracts and proofs say: no public contract reaches it.
-pub mod ReadLine
 pub mod Reader
-pub mod Scan
 pub mod SimpleLines

@@ -1,11 +1,11 @@
 -- Lines that are read without a list of words: empty ones, two or three bare words, and those that open and close a
 -- block.
 use Rattle.std.specs.Prelude.{◌≡◌, List, [], ◌∷◌, ◌++◌, ℕ, Option, None}
+use Rattle.gm_syntax_words.specs.declared.word.Kind.TheVariants.{Bare}
+use Rattle.gm_syntax_words.specs.Words.{Word}
+use Rattle.gm_syntax_words.specs.Tokens.{Placed}
 use Rattle.gm_syntax.specs.declared.simple_line.SimpleLine.{SimpleLine}
 use Rattle.gm_syntax.specs.declared.simple_line.SimpleLine.TheVariants as simple
-use Rattle.gm_syntax.specs.declared.word.Kind.TheVariants.{Bare}
-use Rattle.gm_syntax.specs.Words.{Word}
-use Rattle.gm_syntax.specs.Tokens.{Placed}
 use Rattle.gm_syntax.specs.Document.{Line, Blank, Open, Close, Entry}
 use Rattle.gm_syntax.specs.LineViews.{plain}
 use Rattle.gm_syntax.specs.LineReading.{Unread, HasRead}

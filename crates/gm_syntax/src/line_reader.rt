@@ -2,9 +2,9 @@
 //! read without keeping its lines.
 
 ghost use Rattle.std.specs.Prelude.{◌≡◌, ◌≢◌, ◌+◌, ◌<◌, ◌≤◌, ◌-◌, ◌^◌, ◌∷◌, ◌++◌, [], ℕ, List, length, drop, IfOk, IfErr, IfSome, IfNone, None, IsSome, OnErr};
-ghost use Rattle.gm_syntax.specs.Tokens.{Placed, AreSlicesBetween, AreNumbered};
+ghost use Rattle.gm_syntax_words.specs.Tokens.{Placed, AreSlicesBetween, AreNumbered};
+ghost use Rattle.gm_syntax_words.specs.Lines.{lines_of, HasNoLineFeed};
 ghost use Rattle.gm_syntax.specs.LineViews.{line_of, tokens_of};
-ghost use Rattle.gm_syntax.specs.Lines.{lines_of, HasNoLineFeed};
 ghost use Rattle.gm_syntax.specs.Private.Reader.{line_len, IsLineReadAs};
 ghost use Rattle.gm_syntax.specs.Parsed.{IsParsedAs};
 ghost use Rattle.gm_syntax.specs.Placing.{FillsLine};
@@ -12,12 +12,10 @@ ghost use Rattle.gm_syntax.specs.Document.{Line as LineOf};
 ghost use Rattle.gm_syntax.specs.LineReading.{HasRead, IsNextRead, IsRestRead};
 ghost use Rattle.gm_syntax.specs.SimpleLines.{IsSimpleRead};
 
-use crate::fault::{LineSyntaxFault, SyntaxFault, SyntaxKind};
 use crate::line::{Line, classify, keep_memory};
 use crate::place::Place;
-use crate::reader::read_line;
 use crate::simple_line::{SimpleLine, simple_line};
-use crate::token::Token;
+use gm_syntax_words::{LineSyntaxFault, SyntaxFault, SyntaxKind, Token, read_line};
 use memchr::memchr;
 use std::alloc::Global;
 use std::marker::Model;

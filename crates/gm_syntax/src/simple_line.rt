@@ -2,17 +2,17 @@
 //! perhaps a comment, and the lines that open and close a block. A line is read in one pass, and no list of words is made.
 
 ghost use Rattle.std.specs.Prelude.{◌≡◌, ◌++◌, ◌+◌, ◌<◌, ◌^◌, ℕ, List, Bool, false, IfSome, IsTrue, length};
-ghost use Rattle.gm_syntax.specs.Words.{AllBlank, IsBare};
+ghost use Rattle.gm_syntax_words.specs.Words.{AllBlank, IsBare};
+ghost use Rattle.gm_syntax_words.specs.Private.Scan.{piece_of};
+ghost use Rattle.gm_syntax_words.specs.declared.scan.Piece.TheVariants as piece;
+ghost use Rattle.gm_syntax_words.specs.declared.word.Kind.TheVariants as kind;
 ghost use Rattle.gm_syntax.specs.Private.SimpleLines.{bare_at, IsOpeningEnd, IsSimpleText};
-ghost use Rattle.gm_syntax.specs.Private.Scan.{piece_of};
-ghost use Rattle.gm_syntax.specs.declared.scan.Piece.TheVariants as piece;
 ghost use Rattle.gm_syntax.specs.declared.simple_line.SimpleLine.TheVariants as simple;
-ghost use Rattle.gm_syntax.specs.declared.word.Kind.TheVariants as kind;
 
 use crate::place::Place;
-use crate::scan::{bare_len, begins_blank, begins_opening, begins_plain, ends_line};
-use crate::token::Token;
-use crate::word::Kind;
+use gm_syntax_words::{
+    Kind, Token, bare_len, begins_blank, begins_opening, begins_plain, ends_line,
+};
 
 /// A line that is read without a list of words.
 #[derive(Drop)]

@@ -2,8 +2,8 @@
 use Rattle.std.proofs.Common.{◌≡◌, ◌<◌, ◌∙◌, ◌++◌, ◌+◌, ℕ, List, [], ◌∷◌, length, None, arith, refl, subst, sym, inl, inr}
 use Rattle.std.specs.Global.{Global, Vec}
 use Rattle.std.specs.Prelude.{String}
+use Rattle.gm_syntax_words.specs.Tokens.{Placed}
 use Rattle.gm_syntax.specs.Document.{Line}
-use Rattle.gm_syntax.specs.Tokens.{Placed}
 use Rattle.gm_file_edit.specs.Edited.{lines_after}
 use Rattle.gm_file_edit_laws.proofs.SecondOperations.{second-operation}
 use Rattle.gomod_run.specs.Edit.{applied, bad_main}

@@ -8,16 +8,16 @@ use Rattle.std.proofs.lemmas.Str.{IsUtf8-from_ascii}
 use Rattle.std.specs.Cmp.{first_so, second_so}
 use Rattle.gm_name.specs.Element.{is_path_byte}
 use Rattle.gm_name.specs.Path.{is_byte_of_path}
-use Rattle.gm_syntax.specs.declared.word.Kind.TheVariants.{Bare}
-use Rattle.gm_syntax.specs.Bytes.{is_bad, is_blank, is_bracket_or_comma, is_quote, is_word_byte}
+use Rattle.gm_syntax_words.specs.declared.word.Kind.TheVariants.{Bare}
+use Rattle.gm_syntax_words.specs.Bytes.{is_bad, is_blank, is_bracket_or_comma, is_quote, is_word_byte}
+use Rattle.gm_syntax_words.specs.Lines.{lines_of}
+use Rattle.gm_syntax_words.specs.Spelling.{IsWord}
+use Rattle.gm_syntax_words.specs.Words.{BeginsWithArrow, HoldsNoComment, IsBare, Word}
 use Rattle.gm_syntax.specs.Document.{AreLines, Entry, IsValidLine, Line, Place, ReadsLines, Whole, after, begins_close, ends_open, start}
 use Rattle.gm_syntax.specs.Layout.{initial_state, layout}
 use Rattle.gm_syntax.proofs.LayoutLines.{layout_lines}
 use Rattle.gm_syntax.specs.LineViews.{plain_lines}
-use Rattle.gm_syntax.specs.Lines.{lines_of}
 use Rattle.gm_syntax.specs.Parsed.{IsParsedAs}
-use Rattle.gm_syntax.specs.Spelling.{IsWord}
-use Rattle.gm_syntax.specs.Words.{BeginsWithArrow, HoldsNoComment, IsBare, Word}
 use Rattle.gm_syntax.proofs.Changes.{entry_stands}
 use Rattle.gm_syntax.proofs.OneText.{reading_parsed}
 use Rattle.gm_syntax.proofs.Readings.{reading_of}

@@ -4,14 +4,14 @@ use Rattle.std.proofs.Common.{◌≡◌, ◌≤◌, ◌<◌, ◌∙◌, ◌∷�
 use Rattle.std.specs.List.{filter_map}
 use Rattle.std.specs.Str.{IsUtf8}
 use Rattle.std.proofs.lemmas.Option.{same_Some}
-use Rattle.gm_syntax.specs.declared.fault.SyntaxFault.TheVariants as faults
-use Rattle.gm_syntax.specs.Words.{Word}
+use Rattle.gm_syntax_words.specs.declared.fault.SyntaxFault.TheVariants as faults
+use Rattle.gm_syntax_words.specs.Words.{Word}
+use Rattle.gm_syntax_words.specs.Tokens.{Placed}
 use Rattle.gm_syntax.specs.Document.{Faulty, Finish, Line, Whole}
 use Rattle.gm_syntax.specs.Layout.{layout}
 use Rattle.gm_syntax.specs.LineViews.{plain_lines}
 use Rattle.gm_syntax.specs.Parsed.{IsText}
 use Rattle.gm_syntax.specs.Reader.{IsOnlyText}
-use Rattle.gm_syntax.specs.Tokens.{Placed}
 use Rattle.gm_file.specs.Directives.{Strict}
 use Rattle.gm_file.specs.Faults.{Fault, fault_of}
 use Rattle.gm_file.specs.Main.{IsMainFile, IsMainOf, Main}

@@ -1,10 +1,10 @@
 -- The proofs of the laws of formatting.
 use Rattle.std.proofs.Common.{◌≡◌, ◌≤◌, ℕ, List, [], length, None, Ok, refl, sym, ap, subst, ◌∙◌, IsUtf8}
+use Rattle.gm_syntax_words.specs.Tokens.{Placed}
 use Rattle.gm_syntax.specs.Document.{Line}
 use Rattle.gm_syntax.specs.Layout.{layout}
 use Rattle.gm_syntax.specs.LineViews.{plain_lines}
 use Rattle.gm_syntax.specs.Parsed.{IsParsedAs}
-use Rattle.gm_syntax.specs.Tokens.{Placed}
 use Rattle.gm_file.specs.Directives.{Strict, directives}
 use Rattle.gm_file.specs.Fields.{first}
 use Rattle.gm_file.specs.Main.{Main, IsMainFile}

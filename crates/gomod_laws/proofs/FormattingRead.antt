@@ -1,13 +1,13 @@
 -- The layout of a document that was read is a document that reads as the same lines, but for blank ones.
 use Rattle.std.proofs.Common.{◌≡◌, ◌≤◌, ℕ, List, [], ◌∷◌, length, map, Ok, IsUtf8, refl, ap, ◌∙◌}
+use Rattle.gm_syntax_words.specs.Lines.{lines_of}
+use Rattle.gm_syntax_words.specs.Tokens.{Placed}
+use Rattle.gm_syntax_words.specs.Words.{Word}
 use Rattle.gm_syntax.specs.Document.{Line, Blank, Comment, Open, Close, Entry, AreLines, ReadsLines, Whole, map_line, start}
 use Rattle.gm_syntax.specs.Layout.{filled_lines, initial_state, layout}
 use Rattle.gm_syntax.proofs.LayoutLines.{layout_lines}
 use Rattle.gm_syntax.specs.LineViews.{plain, plain_lines}
-use Rattle.gm_syntax.specs.Lines.{lines_of}
 use Rattle.gm_syntax.specs.Parsed.{IsParsedAs}
-use Rattle.gm_syntax.specs.Tokens.{Placed}
-use Rattle.gm_syntax.specs.Words.{Word}
 use Rattle.gm_syntax.proofs.OneText.{reading_parsed}
 use Rattle.gm_syntax.proofs.Readings.{reading_of}
 use Rattle.gm_syntax.proofs.Stable.{is_stable}

@@ -5,9 +5,9 @@ use Rattle.std.specs.List.{cons_option, filter_map}
 use Rattle.std.specs.Option.{option_map, option_or}
 use Rattle.std.proofs.lemmas.Bool.{cases_Bool, false≢true}
 use Rattle.std.proofs.lemmas.List.Folds.{list_any-from_Any}
+use Rattle.gm_syntax_words.specs.Tokens.{Placed}
 use Rattle.gm_syntax.specs.Document.{Line}
 use Rattle.gm_syntax.specs.LineViews.{plain_lines}
-use Rattle.gm_syntax.specs.Tokens.{Placed}
 use Rattle.gm_file.specs.Directives.{Strict, Directive, DeclaresModule, DeclaresGo, Replaces, Left, Replacing, directives, left_with, left_without}
 use Rattle.gm_file.specs.Faults.{fault_of, go_in, is_same_left, is_same_right}
 use Rattle.gm_file.specs.Pairwise.{do_clash}

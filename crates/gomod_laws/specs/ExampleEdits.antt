@@ -1,7 +1,7 @@
 -- Operations on small files, for the definition of what an edit leaves (go help mod edit).
 use Rattle.std.specs.Prelude.{◌≡◌, ℕ, List, [], ◌∷◌, codes, Option, Some, None}
-use Rattle.gm_syntax.specs.declared.word.Kind.TheVariants.{Bare}
-use Rattle.gm_syntax.specs.Tokens.{Placed}
+use Rattle.gm_syntax_words.specs.declared.word.Kind.TheVariants.{Bare}
+use Rattle.gm_syntax_words.specs.Tokens.{Placed}
 use Rattle.gm_syntax.specs.Document.{Line, Blank, Comment, Open, Close, Entry}
 use Rattle.gm_file.specs.Directives.{pair}
 use Rattle.gm_file_edit.specs.Edited.{lines_after}

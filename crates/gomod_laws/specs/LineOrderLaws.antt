@@ -1,9 +1,9 @@
 -- What the order of the lines of a main file leaves as it is.
 use Rattle.std.specs.Prelude.{◌≡◌, ◌↔◌, ℕ, List, Option, Contains, true}
+use Rattle.gm_syntax_words.specs.Tokens.{Placed}
+use Rattle.gm_syntax_words.specs.Words.{Word}
 use Rattle.gm_syntax.specs.Document.{Line}
 use Rattle.gm_syntax.specs.LineViews.{plain_lines}
-use Rattle.gm_syntax.specs.Tokens.{Placed}
-use Rattle.gm_syntax.specs.Words.{Word}
 use Rattle.gm_file.specs.Directives.{Directive, Strict, directives}
 use Rattle.gm_store.specs.Asked.{Name, Reply}
 use Rattle.gomod_run.specs.QueryLaws.{AnswerAlike}

@@ -7,7 +7,7 @@ use Rattle.std.specs.List.{list_all}
 use Rattle.std.specs.Str.{bytes_eq}
 use Rattle.std.proofs.lemmas.Fmt.{decimal_injective}
 use Rattle.gm_version.proofs.Numbers.{decimal-digits}
-use Rattle.gm_syntax.specs.declared.fault.SyntaxKind.TheVariants as syntax
+use Rattle.gm_syntax_words.specs.declared.fault.SyntaxKind.TheVariants as syntax
 use Rattle.gm_file.specs.declared.fault.DirectiveKind.TheVariants as directive
 use Rattle.gm_graph_cache.specs.declared.cache.class.Class.{Class}
 use Rattle.gm_graph_cache.specs.declared.cache.class.Class.TheVariants.{NotFetchable, Missing, TooLong, NoSum, SumDiffers, Malformed, WrongPath}

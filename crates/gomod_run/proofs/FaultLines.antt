@@ -1,6 +1,6 @@
 -- The text of a report determines its faults.
 use Rattle.std.proofs.Common.{◌∷◌, codes, ap₂, append_assoc, arith, refl}
-use Rattle.gm_syntax.specs.Lines.{HasNoLineFeed}
+use Rattle.gm_syntax_words.specs.Lines.{HasNoLineFeed}
 use Rattle.gm_graph.specs.declared.fault.Fault.{Fault}
 use Rattle.gm_graph.specs.Private.Gathering.{fault}
 use Rattle.gomod_run.specs.PrintedLines.{HasLines, IsProperFault, LineIsOfOne, LineSaysOne, TextSaysAll, fault_text}

@@ -6,7 +6,7 @@ use Rattle.std.proofs.lemmas.Bool.{true≢false}
 use Rattle.gm_name.specs.Path.{IsPath, is_byte_of_path}
 use Rattle.gm_version.specs.Version.{IsVersion, is_byte_of_version}
 use Rattle.gm_name.proofs.Bytes.{path-bytes, version-bytes}
-use Rattle.gm_syntax.specs.Lines.{HasNoLineFeed, lines_of}
+use Rattle.gm_syntax_words.specs.Lines.{HasNoLineFeed, lines_of}
 use Rattle.gm_syntax.proofs.Lines.{lines_nil}
 use Rattle.gm_syntax.proofs.Stable.{ended_line, plain_append}
 use Rattle.gm_file.specs.Directives.{Right, Folder, Module}

@@ -1,8 +1,8 @@
 -- What is reported of bytes that are misread.
 use Rattle.std.proofs.Common.{ℕ, List, Err, inl, inr, refl}
+use Rattle.gm_syntax_words.specs.declared.fault.SyntaxFault.{SyntaxFault}
+use Rattle.gm_syntax_words.specs.declared.fault.SyntaxFault.TheVariants as syntax
 use Rattle.gm_syntax.specs.Parsed.{IsFaultOrNoMemory, IsParsedAs}
-use Rattle.gm_syntax.specs.declared.fault.SyntaxFault.{SyntaxFault}
-use Rattle.gm_syntax.specs.declared.fault.SyntaxFault.TheVariants as syntax
 use Rattle.gm_file.specs.BytesFaults.{fault_by_syntax}
 use Rattle.gm_file.specs.declared.misreading.Misreading.TheVariants as misreading
 use Rattle.gomod_run.specs.FromFaults.{report_by_bytes}

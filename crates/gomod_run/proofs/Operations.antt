@@ -2,10 +2,10 @@
 use Rattle.std.proofs.Common.{◌≡◌, ◌∙◌, ◌∷◌, ◌+◌, ℕ, Bool, List, [], IfErr, Option, Some, None, Ok, Err, Result, ap, codes, false, if◌then◌else◌, inl, inr, refl, true}
 use Rattle.std.specs.Prelude.{IsErrAnd, IsOk, OnOk}
 use Rattle.std.specs.List.{cons_option, filter_map}
+use Rattle.gm_syntax_words.specs.Tokens.{Placed}
 use Rattle.gm_syntax.specs.Document.{Line}
 use Rattle.gm_syntax.specs.Layout.{layout}
 use Rattle.gm_syntax.specs.LineViews.{plain_lines}
-use Rattle.gm_syntax.specs.Tokens.{Placed}
 use Rattle.gm_file_edit.specs.Edited.{lines_after}
 use Rattle.gm_file_edit.specs.Edits.{Edit, edit_in}
 use Rattle.gm_file_edit.specs.Kinds.{is_fit}

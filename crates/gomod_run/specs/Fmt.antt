@@ -1,11 +1,11 @@
 -- How `fmt` ends.
 use Rattle.std.specs.Prelude.{◌≡◌, ℕ, List, Ok, Err, Some}
-use Rattle.gm_syntax.specs.declared.fault.SyntaxFault.{SyntaxFault}
+use Rattle.gm_syntax_words.specs.declared.fault.SyntaxFault.{SyntaxFault}
+use Rattle.gm_syntax_words.specs.Tokens.{Placed}
 use Rattle.gm_syntax.specs.Document.{Line}
 use Rattle.gm_syntax.specs.Layout.{layout}
 use Rattle.gm_syntax.specs.LineViews.{plain_lines}
 use Rattle.gm_syntax.specs.Parsed.{IsParsedAs}
-use Rattle.gm_syntax.specs.Tokens.{Placed}
 use Rattle.gomod_run.specs.Outcome.{Outcome, text_outcome, refusal_outcome}
 use Rattle.gomod_run.specs.Reports.{FaultPlace, main_line, syntax_place}
 

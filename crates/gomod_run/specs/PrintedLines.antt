@@ -4,7 +4,7 @@ use Rattle.std.specs.Prelude.{◌≡◌, ◌≤◌, ℕ, true, List, map, Option
 use Rattle.gm_name.specs.Path.{IsPath}
 use Rattle.gm_version.specs.Version.{IsVersion}
 use Rattle.gm_name.specs.ModuleVersion.{ModuleVersion}
-use Rattle.gm_syntax.specs.Lines.{HasNoLineFeed, lines_of}
+use Rattle.gm_syntax_words.specs.Lines.{HasNoLineFeed, lines_of}
 use Rattle.gm_file.specs.Directives.{Right, Folder, Module}
 use Rattle.gm_file.specs.Values.{is_folder_path}
 use Rattle.gm_graph_select.specs.declared.step.Edge.{Edge}

@@ -3,8 +3,8 @@ use Rattle.std.specs.Prelude.{ℕ, List, ◌++◌, codes, Option, Some, None}
 use Rattle.std.specs.Fmt.{decimal}
 use Rattle.std.specs.List.{flat_map}
 use Rattle.gm_name.specs.ModuleVersion.{ModuleVersion}
-use Rattle.gm_syntax.specs.declared.fault.SyntaxFault.{SyntaxFault}
-use Rattle.gm_syntax.specs.declared.fault.SyntaxFault.TheVariants as syntax
+use Rattle.gm_syntax_words.specs.declared.fault.SyntaxFault.{SyntaxFault}
+use Rattle.gm_syntax_words.specs.declared.fault.SyntaxFault.TheVariants as syntax
 use Rattle.gm_store.specs.Asked.{Name, mod_file, folder_file, list_file}
 use Rattle.gm_graph_cache.specs.declared.cache.class.Class.{Class}
 use Rattle.gm_graph_cache.specs.declared.cache.class.Class.TheVariants.{Malformed}

@@ -13,7 +13,7 @@ use Rattle.page_commands.specs.Element.{is_reserved, is_shortened, stem, has_out
 use Rattle.page_commands.specs.Fates.{remaining}
 use Rattle.page_commands.specs.Faults.{directive_kinds, faults, fault_of}
 use Rattle.page_commands.specs.GmFileValues.{is_folder_path}
-use Rattle.page_commands.specs.GmSyntaxLines.{lines_of}
+use Rattle.page_commands.specs.GmSyntaxWordsLines.{lines_of}
 use Rattle.page_commands.specs.GoVersions.{small_number, first_number, is_go_suffix, last_number, second_number, strict_go, lax_go_text, lax_go}
 use Rattle.page_commands.specs.Layout.{layout_from}
 use Rattle.page_commands.specs.Names.{is_path, is_version, does_fit}

@@ -1,4 +1,4 @@
--- A copy from crates/gm_syntax/specs/Bare.antt, which tools/check/headline.py writes.
+-- A copy from crates/gm_syntax_words/specs/Bare.antt, which tools/check/headline.py writes.
 use Rattle.std.specs.Prelude.{length, ℕ, suc, ◌==◌, ◌||◌, ◌&&◌, Bool, false, not, List, [], ◌∷◌, ◌++◌, if◌then◌else◌}
 use Rattle.page_commands.specs.Types.Kind.{Bare, Text}
 use Rattle.page_commands.specs.Bytes.{is_word_byte}

@@ -1,4 +1,4 @@
--- A copy from crates/gm_syntax/specs/Bytes.antt, which tools/check/headline.py writes.
+-- A copy from crates/gm_syntax_words/specs/Bytes.antt, which tools/check/headline.py writes.
 use Rattle.std.specs.Prelude.{ℕ, Bool, ◌==◌, ◌||◌, ◌&&◌, nat_lt, not}
 
 -- space, tab or carriage return

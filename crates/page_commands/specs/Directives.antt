@@ -4,9 +4,9 @@ use Rattle.std.specs.Option.{option_map}
 use Rattle.std.specs.List.{after_first, before_first, filter_map}
 use Rattle.std.specs.Str.{bytes_eq}
 use Rattle.page_commands.specs.ModuleVersion.{ModuleVersion}
-use Rattle.page_commands.specs.Words.{Word}
-use Rattle.page_commands.specs.Document.{Line, Blank, Comment, Open, Close, Entry, is_mark}
+use Rattle.page_commands.specs.Words.{Word, is_mark}
 use Rattle.page_commands.specs.Types.Kind.{Kind, Mark}
+use Rattle.page_commands.specs.Document.{Line, Blank, Comment, Open, Close, Entry}
 use Rattle.page_commands.specs.Types.Verb.{Verb, Module as ForModule, Go as ForGo, Require as ForRequire, Exclude as ForExclude, Replace as ForReplace, Retract as ForRetract, Nothing as ForNothing, Unknown}
 use Rattle.page_commands.specs.GmFileValues.{argument, both, is_folder_path}
 

@@ -1,8 +1,7 @@
 -- A copy from crates/gm_syntax/specs/Document.antt, which tools/check/headline.py writes.
-use Rattle.std.specs.Prelude.{ℕ, ◌+◌, ◌==◌, ◌&&◌, Bool, true, false, List, [], ◌∷◌, map, Option, Some, None, Result, Ok, Err, if◌then◌else◌}
+use Rattle.std.specs.Prelude.{ℕ, ◌+◌, ◌&&◌, Bool, true, false, List, [], ◌∷◌, map, Option, Some, None, Result, Ok, Err, if◌then◌else◌}
 use Rattle.page_commands.specs.Types.SyntaxKind.{SyntaxKind, StrayClose, NestedOpen}
-use Rattle.page_commands.specs.Types.Kind.{Kind, Bare, Text, Mark}
-use Rattle.page_commands.specs.Words.{Word}
+use Rattle.page_commands.specs.Words.{Word, is_mark, is_bare}
 
 -- a line without its blanks, whose words come with or without their positions
 pub data Line (W : Type 0) : Type 0 where
@@ -18,19 +17,6 @@ map_line f (Comment text) = Comment text
 map_line f (Open verb suffix) = Open (f verb) suffix
 map_line f (Close suffix) = Close suffix
 map_line f (Entry words suffix) = Entry (map f words) suffix
-
-abbrev pub is_mark_byte : ℕ → Kind → List ℕ → Bool
-is_mark_byte b Mark (c ∷ []) = c == b
-is_mark_byte b kind text = false
-
--- the word is the punctuation of this one byte
-abbrev pub is_mark : ℕ → Word → Bool
-is_mark b w = is_mark_byte b w.kind w.spelling
-
-abbrev pub is_bare : Kind → Bool
-is_bare Bare = true
-is_bare Text = false
-is_bare Mark = false
 
 abbrev pub ends_open : List Word → Bool
 ends_open [] = false

@@ -2,10 +2,10 @@
 use Rattle.std.specs.Prelude.{◌≡◌, ◌++◌, ◌∷◌, ◌+◌, ℕ, List, [], Option, Some, None, codes, if◌then◌else◌}
 use Rattle.std.specs.List.{filter_map, fold}
 use Rattle.std.specs.Option.{option_map, option_to_list}
+use Rattle.page_commands.specs.Tokens.{Placed}
 use Rattle.page_commands.specs.Document.{Line}
 use Rattle.page_commands.specs.Layout.{layout}
 use Rattle.page_commands.specs.LineViews.{plain_lines}
-use Rattle.page_commands.specs.Tokens.{Placed}
 use Rattle.page_commands.specs.Edited.{lines_after}
 use Rattle.page_commands.specs.Kinds.{is_fit}
 use Rattle.page_commands.specs.Edits.{Edit, edit_in}

@@ -5,7 +5,7 @@ use Rattle.std.specs.Prelude.{◌≡◌, ◌==◌, ◌&&◌, ◌||◌, ◌++◌,
 use Rattle.std.specs.List.{suffix_len}
 use Rattle.std.specs.Str.{is_utf8}
 use Rattle.page_commands.specs.Document.{Line, Place, after, class_of, start}
-use Rattle.page_commands.specs.GmSyntaxLines.{lines_of}
+use Rattle.page_commands.specs.GmSyntaxWordsLines.{lines_of}
 use Rattle.page_commands.specs.LineViews.{plain_lines}
 use Rattle.page_commands.specs.Tokens.{Placed}
 use Rattle.page_commands.specs.Types.Kind.{Kind, Bare, Mark, Text}

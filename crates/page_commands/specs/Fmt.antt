@@ -1,11 +1,11 @@
 -- A copy from crates/gomod_run/specs/Fmt.antt, which tools/check/headline.py writes.
 use Rattle.std.specs.Prelude.{◌≡◌, ℕ, List, Ok, Err, Some}
 use Rattle.page_commands.specs.Types.SyntaxFault.{SyntaxFault}
+use Rattle.page_commands.specs.Tokens.{Placed}
 use Rattle.page_commands.specs.Document.{Line}
 use Rattle.page_commands.specs.Layout.{layout}
 use Rattle.page_commands.specs.LineViews.{plain_lines}
 use Rattle.page_commands.specs.Files.{IsParsedAs}
-use Rattle.page_commands.specs.Tokens.{Placed}
 use Rattle.page_commands.specs.Outcome.{Outcome, text_outcome, refusal_outcome}
 use Rattle.page_commands.specs.Reports.{FaultPlace, main_line, syntax_place}
 

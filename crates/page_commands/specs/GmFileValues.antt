@@ -4,7 +4,7 @@ use Rattle.std.specs.List.{starts_with}
 use Rattle.std.specs.Str.{bytes_eq}
 use Rattle.page_commands.specs.Words.{Word}
 use Rattle.page_commands.specs.Types.Kind.{Kind, Mark}
-use Rattle.page_commands.specs.GmSyntaxValues.{value_of_kind}
+use Rattle.page_commands.specs.GmSyntaxWordsValues.{value_of_kind}
 
 -- f of both values, if there are both
 abbrev pub both : {A B C : Type 0} → (A → B → C) → Option A → Option B → Option C

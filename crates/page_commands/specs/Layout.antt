@@ -1,14 +1,8 @@
 -- A copy from crates/gm_syntax/specs/Layout.antt, which tools/check/headline.py writes.
-use Rattle.std.specs.Prelude.{ℕ, Bool, true, false, not, ◌&&◌, ◌||◌, List, [], ◌∷◌, ◌++◌, Option, Some, None, if◌then◌else◌}
-use Rattle.page_commands.specs.Words.{Word}
-use Rattle.page_commands.specs.Document.{Line, Blank, Comment, Open, Close, Entry, is_mark, inside_after}
-
--- what the lines so far decide of the next one: whether a blank line may go before it, whether the document has blank
--- lines there, and whether a block is open
-pub record LayoutState : Type 0 where
-  pub gap_allowed : Bool
-  pub gap_pending : Bool
-  pub inside : Bool
+use Rattle.std.specs.Prelude.{ℕ, Bool, true, false, not, ◌&&◌, ◌||◌, List, [], ◌∷◌, ◌++◌, if◌then◌else◌}
+use Rattle.page_commands.specs.Words.{Word, is_mark}
+use Rattle.page_commands.specs.LayoutParts.{LayoutState, suffix_text}
+use Rattle.page_commands.specs.Document.{Line, Blank, Comment, Open, Close, Entry, inside_after}
 
 -- no space after ( and [, and none before ) ] and ,
 abbrev pub omits_space : Word → Word → Bool
@@ -22,11 +16,6 @@ abbrev pub words_text : List Word → List ℕ
 words_text [] = []
 words_text (w ∷ []) = w.spelling
 words_text (w ∷ v ∷ words) = w.spelling ++ between w v ++ words_text (v ∷ words)
-
--- a comment after words
-abbrev pub suffix_text : Option (List ℕ) → List ℕ
-suffix_text None = []
-suffix_text (Some text) = 32 ∷ text
 
 abbrev pub indent : Bool → List ℕ
 indent inside = if inside then 9 ∷ [] else []

@@ -23,8 +23,8 @@ pub mod Fit
 pub mod Fmt
 pub mod GmFileValues
 pub mod GmNameLines
-pub mod GmSyntaxLines
-pub mod GmSyntaxValues
+pub mod GmSyntaxWordsLines
+pub mod GmSyntaxWordsValues
 pub mod GoVersions
 pub mod Graph
 pub mod GraphQuery
@@ -33,6 +33,7 @@ pub mod Holding
 pub mod Kinds
 pub mod Latest
 pub mod Layout
+pub mod LayoutParts
 pub mod LineParts
 pub mod LineViews
 pub mod Listed

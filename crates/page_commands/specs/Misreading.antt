@@ -1,12 +1,12 @@
 -- A copy from crates/gm_file/specs/Misreading.antt, which tools/check/headline.py writes.
 use Rattle.std.specs.Prelude.{◌≡◌, ℕ, List, codes, Some, Ok, Err}
 use Rattle.page_commands.specs.Tokens.{Placed}
-use Rattle.page_commands.specs.Document.{Line}
-use Rattle.page_commands.specs.LineViews.{plain_lines}
-use Rattle.page_commands.specs.Files.{IsParsedAs}
 use Rattle.page_commands.specs.Types.SyntaxFault as text
 use Rattle.page_commands.specs.Types.SyntaxKind.{SyntaxKind}
 use Rattle.page_commands.specs.Types.SyntaxKind as syntax
+use Rattle.page_commands.specs.Document.{Line}
+use Rattle.page_commands.specs.LineViews.{plain_lines}
+use Rattle.page_commands.specs.Files.{IsParsedAs}
 use Rattle.page_commands.specs.Types.DirectiveKind.{DirectiveKind}
 use Rattle.page_commands.specs.Types.DirectiveKind as directive
 use Rattle.page_commands.specs.Types.Misreading.{Misreading}

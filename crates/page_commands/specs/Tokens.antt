@@ -1,4 +1,4 @@
--- A copy from crates/gm_syntax/specs/Tokens.antt, which tools/check/headline.py writes.
+-- A copy from crates/gm_syntax_words/specs/Tokens.antt, which tools/check/headline.py writes.
 use Rattle.std.specs.Prelude.{ℕ, Option}
 use Rattle.page_commands.specs.Types.Span.{Span}
 use Rattle.page_commands.specs.Words.{Word}

@@ -1,7 +1,7 @@
--- A copy from crates/gm_syntax/specs/Words.antt, which tools/check/headline.py writes.
-use Rattle.std.specs.Prelude.{ℕ, ◌==◌, ◌||◌, List, [], ◌∷◌, if◌then◌else◌}
+-- A copy from crates/gm_syntax_words/specs/Words.antt, which tools/check/headline.py writes.
+use Rattle.std.specs.Prelude.{ℕ, ◌==◌, ◌||◌, List, [], ◌∷◌, if◌then◌else◌, Bool, true, false}
 use Rattle.std.specs.List.{flat_map}
-use Rattle.page_commands.specs.Types.Kind.{Kind}
+use Rattle.page_commands.specs.Types.Kind.{Kind, Bare, Text, Mark}
 use Rattle.page_commands.specs.Types.Punct.{Punct, LeftParen, RightParen, LeftBracket, RightBracket, Comma, Arrow}
 
 -- a word, apart from its position in the source
@@ -21,3 +21,16 @@ mark_text LeftBracket = 91 ∷ []
 mark_text RightBracket = 93 ∷ []
 mark_text Comma = 44 ∷ []
 mark_text Arrow = 61 ∷ 62 ∷ []
+
+abbrev pub is_mark_byte : ℕ → Kind → List ℕ → Bool
+is_mark_byte b Mark (c ∷ []) = c == b
+is_mark_byte b kind text = false
+
+-- the word is the punctuation of this one byte
+abbrev pub is_mark : ℕ → Word → Bool
+is_mark b w = is_mark_byte b w.kind w.spelling
+
+abbrev pub is_bare : Kind → Bool
+is_bare Bare = true
+is_bare Text = false
+is_bare Mark = false

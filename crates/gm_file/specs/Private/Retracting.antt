@@ -1,7 +1,7 @@
 -- The retractions of a dependency's file, line by line.
 use Rattle.std.specs.Prelude.{◌≡◌, ℕ, List, Option, Some, None, option_and_then}
 use Rattle.std.specs.Option.{option_map}
-use Rattle.gm_syntax.specs.Words.{Word}
+use Rattle.gm_syntax_words.specs.Words.{Word}
 use Rattle.gm_syntax.specs.Document.{Line}
 use Rattle.gm_file.specs.declared.retractions.Retractions.{Retractions}
 use Rattle.gm_file.specs.Directives.{Strict, Item, Saying, VersionInterval, block_after_lines, directive_in, ends_of}

@@ -1,9 +1,9 @@
 -- Lines that are read without a list of words, in a block of `require` and outside blocks.
 use Rattle.std.specs.Prelude.{◌≡◌, ℕ, List, [], ◌∷◌, ◌++◌, codes, IfSome, Result}
+use Rattle.gm_syntax_words.specs.Tokens.{Placed}
 use Rattle.gm_syntax.specs.LineReading.{Unread, HasRead}
 use Rattle.gm_syntax.specs.LineViews.{plain, plain_lines}
 use Rattle.gm_syntax.specs.SimpleLines.{bare_word}
-use Rattle.gm_syntax.specs.Tokens.{Placed}
 use Rattle.gm_syntax.specs.Document.{Line}
 use Rattle.gm_file.specs.declared.dep_lines.DepLines.{DepLines}
 use Rattle.gm_file.specs.declared.fault.LineFault.{LineFault}

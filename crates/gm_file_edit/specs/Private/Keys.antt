@@ -3,9 +3,9 @@ use Rattle.std.specs.Prelude.{◌≡◌, ◌&&◌, ◌||◌, if◌then◌else◌
 use Rattle.std.specs.Borrow.{Bor}
 use Rattle.std.specs.Option.{option_map, option_map_or}
 use Rattle.gm_name.specs.Fingerprint.{fingerprint, tag_of}
-use Rattle.gm_syntax.specs.Tokens.{Placed, words_of}
+use Rattle.gm_syntax_words.specs.Tokens.{Placed, words_of}
+use Rattle.gm_syntax_words.specs.Words.{Word}
 use Rattle.gm_syntax.specs.Document.{Line, Entry}
-use Rattle.gm_syntax.specs.Words.{Word}
 use Rattle.gm_file.specs.Faults.{is_same_version}
 use Rattle.gm_file.specs.Values.{argument}
 use Rattle.gm_file.specs.Directives.{Directive, DeclaresModule, DeclaresGo, Requires, Excludes, Replaces, Retracts, Item, Kept, LineInBlock, Strict, directive_in, verb_eq, with_blocks_from}

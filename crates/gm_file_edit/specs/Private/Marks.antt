@@ -1,7 +1,7 @@
 -- How contracts view the marks of lines. No public contract cites it.
 use Rattle.std.specs.Prelude.{◌≡◌, ◌≤◌, ℕ, ⊤, Bool, true, false, List, [], ◌∷◌, length, insert, map, take, Option, Some, None, is_none, is_some, slice_index_or}
 use Rattle.std.specs.List.{zip}
-use Rattle.gm_syntax.specs.Tokens.{Placed}
+use Rattle.gm_syntax_words.specs.Tokens.{Placed}
 use Rattle.gm_syntax.specs.Document.{Line, Blank, Open, Close}
 use Rattle.gm_file.specs.declared.verb.Verb.{Verb}
 use Rattle.gm_file.specs.Directives.{Strict, Directive, block_after_lines, main_verb, verb_in, with_blocks_from}

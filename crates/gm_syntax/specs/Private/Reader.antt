@@ -1,15 +1,15 @@
 -- What the reader of a line answers, and that no other reading is right.
 use Rattle.std.specs.Prelude.{ℕ, suc, ◌≡◌, ◌==◌, if◌then◌else◌, Bool, [], ◌∷◌, Result, Ok, Err, List, MatchResult, ⊤}
 use Rattle.std.specs.Result.{result_map_both}
-use Rattle.gm_syntax.specs.declared.fault.LineSyntaxFault.{LineSyntaxFault}
-use Rattle.gm_syntax.specs.declared.fault.LineSyntaxFault.TheVariants as faults
-use Rattle.gm_syntax.specs.declared.fault.SyntaxKind.{SyntaxKind}
-use Rattle.gm_syntax.specs.declared.reader.LineParts.{LineParts}
-use Rattle.gm_syntax.specs.Tokens.{comment_of, words_of}
+use Rattle.gm_syntax_words.specs.declared.fault.LineSyntaxFault.{LineSyntaxFault}
+use Rattle.gm_syntax_words.specs.declared.fault.LineSyntaxFault.TheVariants as faults
+use Rattle.gm_syntax_words.specs.declared.fault.SyntaxKind.{SyntaxKind}
+use Rattle.gm_syntax_words.specs.declared.reader.LineParts.{LineParts}
+use Rattle.gm_syntax_words.specs.Tokens.{comment_of, words_of}
+use Rattle.gm_syntax_words.specs.Words.{Word}
 use Rattle.gm_syntax.specs.Document.{Line, class_of, IsLineAt, HasLineFault}
 use Rattle.gm_syntax.specs.LineViews.{line_of, plain}
 use Rattle.gm_syntax.specs.declared.line.Line as lines
-use Rattle.gm_syntax.specs.Words.{Word}
 
 -- the result is the class of these words and this comment
 abbrev pub IsClassed : Bool → LineParts → Result lines.Line SyntaxKind → Type 0

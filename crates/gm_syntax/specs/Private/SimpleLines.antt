@@ -1,12 +1,12 @@
 -- Texts of lines that are read without a list of words.
 use Rattle.std.specs.Prelude.{◌≡◌, ◌⊎◌, List, [], ◌∷◌, ◌++◌, ℕ, ◌+◌, length, true, false, Option, Some}
+use Rattle.gm_syntax_words.specs.declared.word.Kind.TheVariants.{Mark}
+use Rattle.gm_syntax_words.specs.Words.{Word, AllBlank}
+use Rattle.gm_syntax_words.specs.Tokens.{Placed}
+use Rattle.gm_syntax_words.specs.Spelling.{ending_of}
+use Rattle.gm_syntax_words.specs.ReadLine.{IsOnlyReading}
 use Rattle.gm_syntax.specs.declared.simple_line.SimpleLine.{SimpleLine}
 use Rattle.gm_syntax.specs.declared.simple_line.SimpleLine.TheVariants as simple
-use Rattle.gm_syntax.specs.declared.word.Kind.TheVariants.{Mark}
-use Rattle.gm_syntax.specs.Words.{Word, AllBlank}
-use Rattle.gm_syntax.specs.Tokens.{Placed}
-use Rattle.gm_syntax.specs.Spelling.{ending_of}
-use Rattle.gm_syntax.specs.Private.ReadLine.{IsOnlyReading}
 use Rattle.gm_syntax.specs.Document.{Place}
 use Rattle.gm_syntax.specs.SimpleLines.{bare_word}
 

@@ -1,7 +1,7 @@
 //! Documents: copies, and lines that are inserted and removed.
 
 ghost use Rattle.std.specs.Prelude.{◌≡◌};
-ghost use Rattle.gm_syntax.specs.Lines.{HasNoLineFeed};
+ghost use Rattle.gm_syntax_words.specs.Lines.{HasNoLineFeed};
 ghost use Rattle.gm_syntax.specs.Document.{is_level};
 ghost use Rattle.gm_syntax.specs.LineViews.{line_of, plain};
 

@@ -6,7 +6,7 @@ use Rattle.page_commands.specs.Directives.{Strict, is_of_arrow, verb_eq}
 use Rattle.page_commands.specs.Document.{Blank, Close, Open, begins_close, ends_open}
 use Rattle.page_commands.specs.Edits.{is_bracketed}
 use Rattle.page_commands.specs.Fates.{Fate, empties, is_emptied, widened_from}
-use Rattle.page_commands.specs.GmSyntaxValues.{value_of_kind}
+use Rattle.page_commands.specs.GmSyntaxWordsValues.{value_of_kind}
 use Rattle.page_commands.specs.Misreading.{IsMisread}
 use Rattle.page_commands.specs.NewWords.{made_word, unplaced_word}
 use Rattle.page_commands.specs.Reports.{syntax_place}

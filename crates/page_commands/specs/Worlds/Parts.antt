@@ -4,7 +4,7 @@ use Rattle.std.specs.Prelude.{◌≡◌, ◌+◌, ◌++◌, ℕ, zero, suc, List
 use Rattle.page_commands.specs.Asked.{folder_file, mod_file}
 use Rattle.page_commands.specs.Bare.{can_be_bare, opens_comment}
 use Rattle.page_commands.specs.Bytes.{is_bad, is_blank, is_bracket_or_comma, is_quote, is_word_byte}
-use Rattle.page_commands.specs.Document.{Line, is_bare}
+use Rattle.page_commands.specs.Document.{Line}
 use Rattle.page_commands.specs.Faults.{first_of, rank}
 use Rattle.page_commands.specs.Fields.{Dependency, dependency_of}
 use Rattle.page_commands.specs.Files.{lines_in}
@@ -26,7 +26,7 @@ use Rattle.page_commands.specs.Types.Sum.{Differs, Good, Unlisted}
 use Rattle.page_commands.specs.Types.SyntaxFault as syntax
 use Rattle.page_commands.specs.Types.SyntaxFault.{SyntaxFault}
 use Rattle.page_commands.specs.Version.{parts_in}
-use Rattle.page_commands.specs.Words.{Word, mark_text}
+use Rattle.page_commands.specs.Words.{Word, mark_text, is_bare}
 use Rattle.page_commands.specs.Worlds.Sums.{hash_a, hash_b}
 
 abbrev pub stamped : List ℕ

@@ -1,7 +1,7 @@
 use Rattle.std.proofs.Common.{◌+◌, List, drop, length, take, subst, sym, ◌∙◌}
+use Rattle.gm_syntax_words.specs.Words.{Word}
 use Rattle.gm_syntax.specs.Document.{Line}
 use Rattle.gm_syntax.specs.LineViews.{line_views, plain_lines}
-use Rattle.gm_syntax.specs.Words.{Word}
 use Rattle.gm_file.specs.Directives.{Lax}
 use Rattle.gm_file.specs.Views.{ReportsFault}
 use Rattle.gm_file.specs.Private.Reading.{file_fault_at}

@@ -1,6 +1,6 @@
 use Rattle.std.proofs.Common.{refl}
 use Rattle.std.proofs.lemmas.Result.{err_from_is_err_and}
-use Rattle.gm_syntax.specs.Tokens.{words_of}
+use Rattle.gm_syntax_words.specs.Tokens.{words_of}
 use Rattle.gm_file.specs.declared.fault.DirectiveKind.TheVariants.{WrongArguments}
 use Rattle.gm_file.specs.Directives.{Replaces, Retracts, directive_of, ends_of, replacing_of}
 use Rattle.gm_file.specs.DirectiveViews.{directive_view}

@@ -1,6 +1,6 @@
 use Rattle.std.proofs.Common.{ap, ◌∙◌}
 use Rattle.std.proofs.lemmas.Result.{err_from_is_err_and}
-use Rattle.gm_syntax.specs.Tokens.{words_of}
+use Rattle.gm_syntax_words.specs.Tokens.{words_of}
 use Rattle.gm_file.specs.Directives.{verb_in}
 use Rattle.gm_file.specs.VerbViews.{mode_view}
 use Rattle.gm_file.proofs.Entries.{saying-fault}

@@ -1,4 +1,4 @@
-use Rattle.gm_syntax.specs.Tokens.{words_of}
+use Rattle.gm_syntax_words.specs.Tokens.{words_of}
 use Rattle.gm_file.specs.Directives.{ends_of}
 use Rattle.gm_file.proofs.Retracted.{ends-read}
 use Rattle.gm_file.proofs.retractions.interval_in.Goals as goal

@@ -3,7 +3,7 @@ use Rattle.std.proofs.lemmas.Bool.{not-false}
 use Rattle.std.specs.Prelude.{IfOk}
 use Rattle.std.specs.Option.{option_map}
 use Rattle.std.specs.Str.{bytes_eq}
-use Rattle.gm_syntax.specs.Tokens.{words_of}
+use Rattle.gm_syntax_words.specs.Tokens.{words_of}
 use Rattle.gm_name.proofs.NameTests.{not_true}
 use Rattle.gm_file.specs.Directives.{VersionInterval}
 use Rattle.gm_file.specs.Views.{interval_view}

@@ -1,5 +1,5 @@
 use Rattle.std.proofs.Common.{ap, ◌∙◌}
-use Rattle.gm_syntax.specs.Tokens.{words_of}
+use Rattle.gm_syntax_words.specs.Tokens.{words_of}
 use Rattle.gm_file.specs.Directives.{main_verb}
 use Rattle.gm_file_edit.proofs.WordKeys.{entry-key}
 use Rattle.gm_file_edit.proofs.keys.entry_key.Goals as goal

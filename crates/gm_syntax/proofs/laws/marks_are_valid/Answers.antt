@@ -1,4 +1,4 @@
-use Rattle.gm_syntax.proofs.Marks.{mark_stands}
+use Rattle.gm_syntax_words.proofs.Marks.{mark_stands}
 use Rattle.gm_syntax.proofs.laws.marks_are_valid.Goals as goal
 
 pub returns : goal.returns

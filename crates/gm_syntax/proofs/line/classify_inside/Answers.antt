@@ -1,6 +1,6 @@
 use Rattle.std.proofs.Common.{◌≡◌, ◌<◌, ◌≤◌, true, false, length, arith}
 use Rattle.std.proofs.lemmas.List.{length-map}
-use Rattle.gm_syntax.specs.Tokens.{Placed, words_of, comment_of}
+use Rattle.gm_syntax_words.specs.Tokens.{Placed, words_of, comment_of}
 use Rattle.gm_syntax.specs.Document.{ends_open, begins_close}
 use Rattle.gm_syntax.proofs.Classing.{class_stray, class_close, class_inside_nested, class_inside_entry}
 use Rattle.gm_syntax.proofs.line.classify_inside.Goals as goal

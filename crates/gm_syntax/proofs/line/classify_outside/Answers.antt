@@ -1,6 +1,6 @@
 use Rattle.std.proofs.Common.{◌≡◌, ◌<◌, true, false, length, arith}
 use Rattle.std.proofs.lemmas.List.{length-map}
-use Rattle.gm_syntax.specs.Tokens.{Placed, words_of, comment_of}
+use Rattle.gm_syntax_words.specs.Tokens.{Placed, words_of, comment_of}
 use Rattle.gm_syntax.specs.Document.{ends_open, opens_block, begins_close}
 use Rattle.gm_syntax.proofs.Classing.{class_open, class_nested, class_stray_outside, class_entry}
 use Rattle.gm_syntax.proofs.line.classify_outside.Goals as goal

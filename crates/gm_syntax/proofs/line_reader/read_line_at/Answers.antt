@@ -1,8 +1,8 @@
 use Rattle.std.proofs.Common.{◌+◌, length}
 use Rattle.std.proofs.lemmas.Result.{err_from_is_err_and}
-use Rattle.gm_syntax.specs.Tokens.{comment_of, words_of}
+use Rattle.gm_syntax_words.specs.Tokens.{comment_of, words_of}
+use Rattle.gm_syntax_words.proofs.WordPlaces.{stand_take}
 use Rattle.gm_syntax.specs.LineViews.{line_of, plain, tokens_of}
-use Rattle.gm_syntax.proofs.WordPlaces.{stand_take}
 use Rattle.gm_syntax.proofs.Filling.{line_filled}
 use Rattle.gm_syntax.proofs.OneLine.{one_line, one_misplaced, read_fault}
 use Rattle.gm_syntax.proofs.line_reader.read_line_at.Goals as goal

@@ -3,10 +3,10 @@ use Rattle.std.specs.Str.{IsCharBoundary}
 use Rattle.std.proofs.iter.FirstChar.{cut}
 use Rattle.std.proofs.lemmas.List.{nil_from_length, take-append-drop}
 use Rattle.std.proofs.lemmas.Bool.{eqb-true, eqb-false}
-use Rattle.gm_syntax.specs.Lines.{lines_of}
+use Rattle.gm_syntax_words.specs.Lines.{lines_of}
+use Rattle.gm_syntax_words.proofs.WordPlaces.{suffix_of}
 use Rattle.gm_syntax.specs.Private.Reader.{line_len}
 use Rattle.gm_syntax.proofs.Lines.{CutLine, CutLine-line_len, line_boundary, past_boundary}
-use Rattle.gm_syntax.proofs.WordPlaces.{suffix_of}
 use Rattle.gm_syntax.proofs.line_reader.split_first_line.Goals as goal
 use Rattle.gm_syntax.proofs.line_reader.split_first_line.Goals.{After-split_at}
 

@@ -1,7 +1,7 @@
 use Rattle.std.proofs.Common.{ℕ, take, ap, sym, ◌∙◌}
-use Rattle.gm_syntax.specs.declared.scan.Piece.TheVariants as piece
-use Rattle.gm_syntax.specs.declared.word.Kind.TheVariants.{Bare}
-use Rattle.gm_syntax.specs.Bare.{bare_len}
+use Rattle.gm_syntax_words.specs.declared.scan.Piece.TheVariants as piece
+use Rattle.gm_syntax_words.specs.declared.word.Kind.TheVariants.{Bare}
+use Rattle.gm_syntax_words.specs.Bare.{bare_len}
 use Rattle.gm_syntax.proofs.SimpleLines.{plain_begins_word, plain_word_bare, plain_word_end}
 use Rattle.gm_syntax.proofs.simple_line.split_word.Goals as goal
 

@@ -1,9 +1,9 @@
 use Rattle.std.proofs.Common.{◌≡◌, ℕ, [], inl, ap, sym, ◌∙◌}
 use Rattle.std.proofs.lemmas.List.{nil_from_length}
 use Rattle.std.proofs.lemmas.Bool.{eqb-true}
-use Rattle.gm_syntax.specs.Lines.{lines_of}
+use Rattle.gm_syntax_words.specs.Lines.{lines_of}
+use Rattle.gm_syntax_words.specs.ReadLine.{fault_at}
 use Rattle.gm_syntax.specs.LineViews.{line_of}
-use Rattle.gm_syntax.specs.Private.ReadLine.{fault_at}
 use Rattle.gm_syntax.specs.LineReading.{HasRead}
 use Rattle.gm_syntax.proofs.Lines.{lines_nil}
 use Rattle.gm_syntax.proofs.LineReading.{unread, read_more, read_fault, read_end, read_open}

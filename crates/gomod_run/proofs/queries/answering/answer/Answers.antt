@@ -3,8 +3,8 @@ use Rattle.std.proofs.lemmas.Result.{IfOk-weaker}
 use Rattle.std.proofs.lemmas.Str.{IsUtf8-nil}
 use Rattle.std.specs.Option.{option_copied}
 use Rattle.std.specs.Str.{IsUtf8}
+use Rattle.gm_syntax_words.specs.Tokens.{Placed}
 use Rattle.gm_syntax.specs.Document.{Line}
-use Rattle.gm_syntax.specs.Tokens.{Placed}
 use Rattle.gm_file.specs.Main.{IsMainFile, IsMainOf, Main, main_of}
 use Rattle.gomod_run.specs.Runs.{ComesTo}
 use Rattle.gomod_run.proofs.CommandOutcomes.{loading_comes, main_told, refused_read, sums_told}

@@ -1,5 +1,5 @@
 use Rattle.std.proofs.Common.{◌≡◌, false, List, [], ◌∷◌, ◌++◌, None, insert, refl, ap, subst, sym, ◌∙◌, arith}
-use Rattle.gm_syntax.specs.Tokens.{Placed, words_of}
+use Rattle.gm_syntax_words.specs.Tokens.{Placed, words_of}
 use Rattle.gm_syntax.specs.Document.{Line, Entry, IsDocument, IsEntry}
 use Rattle.gm_syntax.specs.LineViews.{plain, plain_lines}
 use Rattle.gm_syntax.proofs.Edits.{map-insert}

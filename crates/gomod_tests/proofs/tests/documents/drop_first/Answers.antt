@@ -2,8 +2,8 @@ use Rattle.std.proofs.Common.{◌≡◌, ◌<◌, Bool, true, List, [], ◌∷�
 use Rattle.std.specs.Prelude.{◌&&◌, ◌≢◌}
 use Rattle.std.proofs.lemmas.Bool.{eqb-false}
 use Rattle.std.proofs.lemmas.List.{length-map}
+use Rattle.gm_syntax_words.specs.Tokens.{Placed}
 use Rattle.gm_syntax.specs.declared.line.Line as declared
-use Rattle.gm_syntax.specs.Tokens.{Placed}
 use Rattle.gm_syntax.specs.Document.{Line, IsDocument, is_level}
 use Rattle.gm_syntax.specs.LineViews.{line_of, plain, plain_lines, line_views}
 use Rattle.gm_syntax.proofs.Changes.{level_lines_go_out}

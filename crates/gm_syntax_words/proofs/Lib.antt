@@ -1,0 +1,12 @@
+pub mod ByteTable
+pub mod Steps
+pub mod Classes
+pub mod Scanned
+pub mod Pieces
+pub mod Reading
+pub mod Trim
+pub mod Progress
+pub mod WordPlaces
+pub mod LineText
+pub mod Spelled
+pub mod Marks

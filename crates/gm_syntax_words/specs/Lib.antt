@@ -1,0 +1,11 @@
+pub mod Bytes
+pub mod Private
+pub mod Words
+pub mod Bare
+pub mod Values
+pub mod Spelling
+pub mod Tokens
+pub mod Lines
+pub mod LineText
+pub mod ReadLine
+pub mod LayoutParts
