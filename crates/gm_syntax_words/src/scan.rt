@@ -2,7 +2,6 @@
 //! the line or a fault.
 
 ghost use Rattle.std.specs.Prelude.{◌≡◌, ◌⊎◌, ◌&&◌, [], ◌∷◌, ℕ, List, IsTrue, not, slice_index, ◌+◌, ◌<◌, ◌≤◌, length, drop, take, IfOk};
-ghost use Rattle.std.specs.List.{suffix_len};
 ghost use Rattle.gm_syntax_words.specs.Bytes.{is_blank, is_bracket_or_comma, is_quote, is_bad, is_word_byte, is_plain};
 ghost use Rattle.gm_syntax_words.specs.Private.Scan.{quoted_len, raw_len, piece_of, trim_end, plain_len};
 ghost use Rattle.gm_syntax_words.specs.Bare.{opens_comment, bare_len, can_be_bare};
@@ -283,19 +282,16 @@ pub(crate) fn piece_of(after_bare: bool, bytes: &[u8]) -> Piece
     }
 }
 
-/// How many blanks are at the end of the text.
-fn blanks_at_end(bytes: &[u8]) -> usize
-    ensures { result ≡ suffix_len is_blank bytes.now }
-{
-    bytes.iter().rev().take_while(|b| is_blank(**b)).count()
-}
-
 /// The length of the text without the blanks at its end.
 pub(crate) fn trimmed_len(bytes: &[u8]) -> usize
     ensures in_range { result ≤ length bytes.now }
     ensures text { take result bytes.now ≡ trim_end bytes.now }
 {
-    bytes.len() - blanks_at_end(bytes)
+    let mut n = bytes.len();
+    while n > 0 && is_blank(bytes[n - 1]) {
+        n -= 1;
+    }
+    n
 }
 
 /// Whether the text can be written as one bare word.

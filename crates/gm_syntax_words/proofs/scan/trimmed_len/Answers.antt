@@ -1,10 +1,19 @@
-use Rattle.std.proofs.lemmas.List.Sums.{suffix_len-le-length}
-use Rattle.gm_syntax_words.specs.Bytes.{is_blank}
-use Rattle.gm_syntax_words.proofs.Trim.{trimmed-is}
+use Rattle.std.proofs.Common.{sym, ◌∙◌, arith}
+use Rattle.gm_syntax_words.proofs.Trim.{trim_done, trim_empty, trim_less}
 use Rattle.gm_syntax_words.proofs.scan.trimmed_len.Goals as goal
 
-pub overflow_sub-result : goal.overflow_sub-result
-overflow_sub-result c = rw c.blanks_at_end.ensures (suffix_len-le-length is_blank c.args.bytes.now)
+pub loop-n-preserved : goal.loop-n-preserved
+loop-n-preserved c = record {
+  in_range = omega arith;
+  trimmed =
+      trim_less c.args.bytes.now c.loop-n.n (omega arith) c.loop-n.invariant.in_range (sym c.is_blank.ensures ∙ c.if-is_blank.true)
+      ∙ c.loop-n.invariant.trimmed;
+}
 
-pub returns-clause-text : goal.returns-clause-text
-returns-clause-text c = rw c.blanks_at_end.ensures (trimmed-is c.args.bytes.now)
+pub returns-else-is_blank-clause-text : goal.returns-else-is_blank-clause-text
+returns-else-is_blank-clause-text c =
+    sym (trim_done c.args.bytes.now c.loop-n.n (omega arith) c.loop-n.invariant.in_range (sym c.is_blank.ensures ∙ c.if-is_blank.false))
+    ∙ c.loop-n.invariant.trimmed
+
+pub returns-after-loop-n-clause-text : goal.returns-after-loop-n-clause-text
+returns-after-loop-n-clause-text c = sym (trim_empty c.args.bytes.now c.loop-n.n (omega arith)) ∙ c.loop-n.invariant.trimmed
