@@ -10,7 +10,7 @@ use Rattle.gm_store.specs.Openings.{MayShow, opened}
 use Rattle.gm_store.specs.Private.Reading.{IsReadLookup}
 use Rattle.gm_store.specs.Pieces.{IsReadingFault}
 use Rattle.gm_store.specs.Steps.{Seen, found, result_of, too_long}
-use Rattle.gm_store.specs.declared.folders.Looked.{Looked}
+use Rattle.gm_store.specs.declared.looked.Looked.{Looked}
 
 abbrev result_up_to : ℕ → List ℕ → Seen
 result_up_to limit bytes = if nat_le (length bytes) limit then found bytes else too_long

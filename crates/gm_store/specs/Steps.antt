@@ -4,8 +4,8 @@ use Rattle.std.specs.Prelude.{◌≡◌, ◌≢◌, ◌-◌, ◌^◌, ◌+◌, �
 use Rattle.std.specs.List.{count_by}
 use Rattle.gm_store.specs.declared.fallback.proxy_list.Mark.{Mark}
 use Rattle.gm_store.specs.declared.fallback.proxy_list.Mark.TheVariants.{Comma, Bar}
-use Rattle.gm_store.specs.declared.folders.Looked.{Looked}
-use Rattle.gm_store.specs.declared.folders.Looked.TheVariants.{Found, TooLong, Absent, Failed}
+use Rattle.gm_store.specs.declared.looked.Looked.{Looked}
+use Rattle.gm_store.specs.declared.looked.Looked.TheVariants.{Found, TooLong, Absent, Failed}
 use Rattle.gm_store.specs.declared.fallback.step.Next.{Next}
 use Rattle.gm_store.specs.declared.fallback.step.Next.TheVariants.{Take, Go, Fail}
 use Rattle.gm_store.specs.Asked.{Reply}

@@ -16,20 +16,8 @@ ghost use Rattle.std.specs.Prelude.{◌<◌, ℕ, IfOk};
 
 use crate::files::FileName;
 use crate::folders::buffers::Buffers;
+use crate::looked::Looked;
 use gm_name::NoMemory;
-
-/// The result of a lookup in one folder.
-#[derive(Drop)]
-pub enum Looked {
-    /// The file's bytes, at most `LIMIT`.
-    Found(Vec<u8>),
-    /// A file of more than `LIMIT` bytes.
-    TooLong,
-    /// No file of that name.
-    Absent,
-    /// The device failed.
-    Failed,
-}
 
 /// A list of folders that can be looked into.
 pub trait FolderList {

@@ -6,7 +6,7 @@ ghost use Rattle.std.specs.Prelude.{◌≡◌};
 ghost use Rattle.gm_store.specs.Steps.{result_of, step_of};
 
 use crate::fallback::proxy_list::Mark;
-use crate::folders::Looked;
+use crate::looked::Looked;
 
 /// What happens after a lookup in one folder.
 #[derive(Clone, Copy, Debug)]

@@ -12,9 +12,10 @@ ghost use Rattle.gm_store.specs.Steps.{HasCounted, MayStop, counted_up, has_fail
 use crate::fallback::proxy_list::Mark;
 use crate::fallback::step::{Next, step};
 use crate::files::{Answer, FileName};
+use crate::folders::FolderList;
 use crate::folders::buffers::Buffers;
 use crate::folders::counted::CountedFolders;
-use crate::folders::{FolderList, Looked};
+use crate::looked::Looked;
 use gm_name::NoMemory;
 
 /// Looks into the folders in turn, and returns the answer of the one at which `step` stops, or `None` if the

@@ -7,8 +7,9 @@ ghost use Rattle.std.specs.List.{count_by};
 ghost use Rattle.gm_store.specs.Steps.{counted_up, has_failed, result_of};
 
 use crate::files::FileName;
+use crate::folders::FolderList;
 use crate::folders::buffers::Buffers;
-use crate::folders::{FolderList, Looked};
+use crate::looked::Looked;
 use gm_name::NoMemory;
 
 /// Folders, and how often they were looked into. Counts saturate.

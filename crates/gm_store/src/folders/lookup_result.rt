@@ -10,7 +10,7 @@ ghost use Rattle.gm_store.specs.Private.Reading.{IsReadLookup};
 ghost use Rattle.gm_store.specs.Steps.{reply_in, result_of};
 
 use crate::byte_reader::ByteReader;
-use crate::folders::Looked;
+use crate::looked::Looked;
 use crate::reading::{LIMIT, ReadFault, read_by_pieces};
 use gm_name::NoMemory;
 use std::alloc::{AllocError, Global};

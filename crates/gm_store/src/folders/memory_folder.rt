@@ -5,7 +5,7 @@ ghost use Rattle.gm_store.specs.Asked.{IsWithinLimit, Name, name_of, same_name};
 
 use crate::files::FileName;
 use crate::files::memory::copy_bytes;
-use crate::folders::Looked;
+use crate::looked::Looked;
 use crate::reading::LIMIT;
 use gm_name::NoMemory;
 use std::alloc::Global;

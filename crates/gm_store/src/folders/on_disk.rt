@@ -2,10 +2,11 @@
 
 use crate::file_system::FileSystem;
 use crate::files::FileName;
+use crate::folders::FolderList;
 use crate::folders::buffers::Buffers;
 use crate::folders::lookup_paths::set_lookup_path;
 use crate::folders::lookup_result::opened_result;
-use crate::folders::{FolderList, Looked};
+use crate::looked::Looked;
 use gm_name::NoMemory;
 use std::alloc::Global;
 
