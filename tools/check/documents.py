@@ -44,7 +44,7 @@ import names
 import refusals
 import sentences
 from script import Tally, checksum, git, read
-from sources import code_of, functions, items_of, plain
+from sources import code_of, functions, items_of, plain, scope_of
 
 # what documents name that no source has: names of the toolchain and of other commands, and parts of names
 ELSEWHERE = set("Dec Lts RT_JOBS axioms com1 com9 cpu drain extern into_iter lpt1 lpt9 rattle reserved-name sub"
@@ -156,6 +156,8 @@ class Sources:
         self.known["tests"].update(re.findall(r"(?m)^ *#\[test\]\n(?: *#\[.*\n)* *(?:pub )?fn (\w+)", text))
         for number, module in enumerate(modules):
             self.add_path(module, [crate, *modules[:number]], True)
+        for name in scope_of(text, "pub "):
+            self.add_path(name, [crate, *modules], True)
         for one in items_of(text):
             self.add_path(one.name, [crate, *modules], one.visibility == "pub")
             for variant in WORD.findall(one.text) if one.kind == "enum" else ():

@@ -52,7 +52,7 @@ COPIES = {"page": LIST[:1], "page_commands": [
     "gomod_run.specs.GraphQuery.PrintsGraph", "gomod_run.specs.Fmt.FmtEnds", "gomod_run.specs.Edit.EditEnds",
     "gm_store_sums.specs.Hash.file_hash", "gm_store_sums.specs.Sums.SaysOfHash",
     "gm_store_sums.specs.Sums.IsFirstInvalid", "gm_store_sums.specs.Sums.HasValidLines",
-    "gm_store.specs.Asked.answer_in", "gm_store.specs.Relative.relative_text", "gm_name.specs.Path.IsPath",
+    "gm_store_parts.specs.Asked.answer_in", "gm_store.specs.Relative.relative_text", "gm_name.specs.Path.IsPath",
     "gm_syntax_words.specs.Lines.lines_of", "gm_syntax.specs.Document.class_of", "gm_syntax.specs.Document.start",
     "gm_syntax.specs.Document.after",
 ]}

@@ -1,7 +1,7 @@
 -- What is asked for while a worklist is visited.
 use Rattle.std.proofs.Common.{◌≡◌, List, [], Option, Result, Ok, Err, ap}
 use Rattle.std.specs.Prelude.{IsErrAnd}
-use Rattle.gm_store.specs.Asked.{Name, Reply}
+use Rattle.gm_store_parts.specs.Asked.{Name, Reply}
 use Rattle.gm_graph_cache.specs.declared.cache.load_fault.LoadFault.{LoadFault}
 use Rattle.gm_graph_cache.specs.Refusals.{refused_names, refused_in}
 use Rattle.gm_graph.specs.Run.{AskedInTurn, nothing}

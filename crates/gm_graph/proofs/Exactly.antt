@@ -12,8 +12,8 @@ use Rattle.gm_name.specs.ModuleVersion.{ModuleVersion}
 use Rattle.gm_name.specs.Private.ModuleVersion.{pair_eq-Decides, pairs-equivalence}
 use Rattle.gm_file.specs.Fields.{Dependency}
 use Rattle.gm_file.specs.Main.{Main}
-use Rattle.gm_store.specs.Asked.{Name, Reply, names_in, same_name}
-use Rattle.gm_store.proofs.NameOrder.{names_equal}
+use Rattle.gm_store_parts.specs.Asked.{Name, Reply, names_in, same_name}
+use Rattle.gm_store_parts.proofs.NameOrder.{names_equal}
 use Rattle.gm_store_sums.specs.Sums.{Sums}
 use Rattle.gm_graph_cache.specs.declared.cache.class.Class.{Class}
 use Rattle.gm_graph_cache.specs.declared.cache.depth.Turn.{Turn}

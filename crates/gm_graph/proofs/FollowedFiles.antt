@@ -10,7 +10,7 @@ use Rattle.gm_graph_cache.specs.declared.cache.depth.Turn.{Turn}
 use Rattle.gm_graph_cache.specs.declared.cache.visit.Required.{Required}
 use Rattle.gm_graph_cache.specs.declared.cache.visit.Visit.TheVariants as visit
 use Rattle.gm_graph_cache.specs.Cached.{IsSound, run_in, table_in, Follows}
-use Rattle.gm_store.specs.Asked.{Name, Reply}
+use Rattle.gm_store_parts.specs.Asked.{Name, Reply}
 use Rattle.gm_graph_cache.specs.Sayings.{Requires, Run}
 use Rattle.gm_graph_cache.specs.Turns.{turn}
 use Rattle.gm_graph.specs.declared.followed.Followed.{Followed}

@@ -9,7 +9,7 @@ use Rattle.gm_graph.specs.declared.findings.Findings.{Findings}
 use Rattle.gm_graph.specs.declared.findings.NumberedFault.{NumberedFault}
 use Rattle.gm_graph_cache.specs.Cached.{IsSound, run_in, table_in, Follows, module_numbered}
 use Rattle.gm_name_table.specs.Listed.{BeginsWith}
-use Rattle.gm_store.specs.Asked.{Name, Reply}
+use Rattle.gm_store_parts.specs.Asked.{Name, Reply}
 use Rattle.gm_graph.specs.Private.Findings.{AreFindings, WasVisited, numbered, place_at}
 use Rattle.gm_graph_cache.specs.Sayings.{Run, Says}
 use Rattle.gm_graph_cache.proofs.NumberedModules.{number_below, number_stays}

@@ -3,9 +3,9 @@ use Rattle.std.proofs.Common.{◌≡◌, ◌∙◌, arith, take, ◌+◌, ◌<�
 use Rattle.std.proofs.lemmas.List.{get_or-map, length-map, take_more, take-append-le}
 use Rattle.std.proofs.lemmas.List.Elements.{Contains-push_cases}
 use Rattle.gm_name.specs.ModuleVersion.{ModuleVersion}
-use Rattle.gm_store.specs.Asked.{Name, Reply}
-use Rattle.gm_store.specs.States.{StoreState}
-use Rattle.gm_store.proofs.Serving.{nothing_served, served_both}
+use Rattle.gm_store_parts.specs.Asked.{Name, Reply}
+use Rattle.gm_store_parts.specs.States.{StoreState}
+use Rattle.gm_store_parts.proofs.Serving.{nothing_served, served_both}
 use Rattle.gm_store_sums.specs.Sums.{Sums}
 use Rattle.gm_file.specs.Main.{Main}
 use Rattle.gm_graph_cache.specs.declared.cache.Cache.{Cache}

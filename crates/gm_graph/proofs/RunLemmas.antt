@@ -9,8 +9,8 @@ use Rattle.std.proofs.lemmas.Bool.{false≢true}
 use Rattle.gm_name.specs.ModuleVersion.{ModuleVersion}
 use Rattle.gm_file.specs.Fields.{Dependency}
 use Rattle.gm_file.specs.Main.{Main, is_pruned_by, replacement_in, without_excluded}
-use Rattle.gm_store.specs.Asked.{Name, Reply, answer_in, names_in, same_name}
-use Rattle.gm_store.proofs.NameOrder.{names_equal, same_from_equal}
+use Rattle.gm_store_parts.specs.Asked.{Name, Reply, answer_in, names_in, same_name}
+use Rattle.gm_store_parts.proofs.NameOrder.{names_equal, same_from_equal}
 use Rattle.gm_store_sums.specs.Sums.{Sums}
 use Rattle.gm_graph_cache.specs.declared.cache.class.Class.{Class}
 use Rattle.gm_graph.specs.declared.fault.Fault.{Fault}

@@ -2,9 +2,9 @@
 
 ghost use Rattle.std.specs.Prelude.{◌≡◌, ◌<◌, ◌++◌, [], All, Contains, IfOk, Err, length, map};
 ghost use Rattle.std.specs.Option.{option_copied};
-ghost use Rattle.gm_store.specs.Asked.{name_of, names_in};
-ghost use Rattle.gm_store.specs.States.{HasServed};
-ghost use Rattle.gm_store.specs.declared.files.FileName.{FileName};
+ghost use Rattle.gm_store_parts.specs.Asked.{name_of, names_in};
+ghost use Rattle.gm_store_parts.specs.States.{HasServed};
+ghost use Rattle.gm_store_parts.specs.declared.files.FileName.{FileName};
 ghost use Rattle.gm_graph.specs.Private.Asking.{AsksInTurn};
 ghost use Rattle.gm_graph_cache.specs.Cached.{Knows, file_count, main_in, run_in, sums_in, turns_in};
 ghost use Rattle.gm_graph_cache.specs.Refusals.{refused_in};

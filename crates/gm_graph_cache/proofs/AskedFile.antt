@@ -2,13 +2,13 @@
 use Rattle.std.proofs.Common.{◌≡◌, ◌∙◌, List, [], ◌∷◌, Option, None, Some, Result, Ok, Err, ap, append-nil, refl, sym, inl, inr}
 use Rattle.std.specs.Prelude.{IsErrAnd, IsSome, IsSomeAnd}
 use Rattle.gm_name.specs.ModuleVersion.{ModuleVersion}
-use Rattle.gm_store.specs.Asked.{Name, Reply, answer_in, name_of}
-use Rattle.gm_store.specs.Requests.{IsRequest, refused_for}
-use Rattle.gm_store.specs.States.{StoreState}
-use Rattle.gm_store.specs.declared.files.AskFault.{AskFault}
-use Rattle.gm_store.specs.declared.files.AskFault.TheVariants as ask
-use Rattle.gm_store.specs.declared.files.FileName.{FileName}
-use Rattle.gm_store.proofs.Serving.{nothing_served, request_served}
+use Rattle.gm_store_parts.specs.Asked.{Name, Reply, answer_in, name_of}
+use Rattle.gm_store_parts.specs.Requests.{IsRequest, refused_for}
+use Rattle.gm_store_parts.specs.States.{StoreState}
+use Rattle.gm_store_parts.specs.declared.files.AskFault.{AskFault}
+use Rattle.gm_store_parts.specs.declared.files.AskFault.TheVariants as ask
+use Rattle.gm_store_parts.specs.declared.files.FileName.{FileName}
+use Rattle.gm_store_parts.proofs.Serving.{nothing_served, request_served}
 use Rattle.gm_graph_cache.specs.Asking.{AsksFor, StillLacks, AsksOne, IsAskableFile, IsLoadFaultOf}
 use Rattle.gm_graph_cache.specs.Refusals.{refused_names}
 use Rattle.gm_graph_cache.specs.declared.cache.load_fault.LoadFault.{LoadFault}

@@ -8,7 +8,7 @@ use Rattle.gm_name_table.specs.declared.place.OptionalPlace.{OptionalPlace}
 use Rattle.gm_name_table.specs.Private.Lists.{IsAbsent}
 use Rattle.gm_file.specs.Directives.{Right}
 use Rattle.gm_file.specs.Main.{Main, replacement_in}
-use Rattle.gm_store.specs.Asked.{Name, mod_file}
+use Rattle.gm_store_parts.specs.Asked.{Name, mod_file}
 use Rattle.gm_graph_cache.specs.declared.cache.file_table.FileTable.{FileTable}
 use Rattle.gm_graph_cache.specs.FileTable.{place_of}
 use Rattle.gm_graph_cache.specs.Private.FileTable.{IsUnnoted, NotesFiles, place_noted, replacing_place}

@@ -9,8 +9,8 @@ use Rattle.gm_name_table.proofs.Listed.{begins_as}
 use Rattle.gm_name_table.specs.Listed.{NumberedList, modules_of}
 use Rattle.gm_name_table.specs.Lists.{IsOneMoreAtMost}
 use Rattle.gm_file.specs.Main.{Main}
-use Rattle.gm_store.proofs.NameOrder.{names_equal}
-use Rattle.gm_store.specs.Asked.{Name, Reply, answer_in, same_name}
+use Rattle.gm_store_parts.proofs.NameOrder.{names_equal}
+use Rattle.gm_store_parts.specs.Asked.{Name, Reply, answer_in, same_name}
 use Rattle.gm_store_sums.specs.Sums.{Sums}
 use Rattle.gm_graph_cache.specs.declared.cache.file_table.FileTable.{FileTable}
 use Rattle.gm_graph_cache.specs.declared.cache.summary.Kept.{Kept}

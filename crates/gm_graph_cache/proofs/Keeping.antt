@@ -2,11 +2,11 @@
 use Rattle.std.proofs.Common.{◌≡◌, ◌∙◌, List, [], ◌++◌, Option, Some, None, Result, Ok, Err, append-nil, arith, length, length-append, sym, ap, refl}
 use Rattle.std.specs.Prelude.{IsErrAnd, OnErr}
 use Rattle.std.specs.Option.{option_and_then}
-use Rattle.gm_store.specs.Asked.{Name, Reply}
-use Rattle.gm_store.specs.States.{StoreState}
-use Rattle.gm_store.specs.declared.files.AskFault.{AskFault}
-use Rattle.gm_store.specs.declared.files.AskFault.TheVariants as ask
-use Rattle.gm_store.specs.declared.files.FileName.{FileName}
+use Rattle.gm_store_parts.specs.Asked.{Name, Reply}
+use Rattle.gm_store_parts.specs.States.{StoreState}
+use Rattle.gm_store_parts.specs.declared.files.AskFault.{AskFault}
+use Rattle.gm_store_parts.specs.declared.files.AskFault.TheVariants as ask
+use Rattle.gm_store_parts.specs.declared.files.FileName.{FileName}
 use Rattle.gm_name.specs.ModuleVersion.{ModuleVersion}
 use Rattle.gm_name_table.specs.Listed.{BeginsWith}
 use Rattle.gm_name_table.proofs.Listed.{begins_after}

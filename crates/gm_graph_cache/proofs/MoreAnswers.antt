@@ -3,8 +3,8 @@ use Rattle.std.proofs.Common.{◌≡◌, ◌∙◌, Bool, true, false, cond, Lis
 use Rattle.std.specs.Option.{option_map, option_or}
 use Rattle.std.proofs.lemmas.Bool.{cases_Bool}
 use Rattle.gm_name.specs.ModuleVersion.{ModuleVersion}
-use Rattle.gm_store.specs.Asked.{Name, Reply, answer_in, same_name}
-use Rattle.gm_store.proofs.NameOrder.{names_equal}
+use Rattle.gm_store_parts.specs.Asked.{Name, Reply, answer_in, same_name}
+use Rattle.gm_store_parts.proofs.NameOrder.{names_equal}
 use Rattle.gm_name_table.specs.Listed.{BeginsWith, modules_of}
 use Rattle.gm_graph_cache.specs.declared.cache.summary.Kept.{Kept}
 use Rattle.gm_graph_cache.specs.declared.cache.Cache.{Cache}

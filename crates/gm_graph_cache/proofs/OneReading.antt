@@ -9,7 +9,7 @@ use Rattle.std.specs.Str.{IsUtf8}
 use Rattle.gm_file.specs.Directives.{Lax, VersionInterval}
 use Rattle.gm_file.specs.Faults.{Fault, fault_of}
 use Rattle.gm_file.specs.Fields.{Dependency, dependency_of, lax_retracts_of}
-use Rattle.gm_store.specs.Asked.{Name, Reply, bytes, absent, too_long}
+use Rattle.gm_store_parts.specs.Asked.{Name, Reply, bytes, absent, too_long}
 use Rattle.gm_store_sums.specs.Sums.{Sums}
 use Rattle.gm_graph_cache.specs.declared.cache.class.Class.{Class}
 use Rattle.gm_graph_cache.specs.declared.cache.class.Class.TheVariants.{NotFetchable, Missing, TooLong, NoSum, SumDiffers, Malformed, WrongPath}

@@ -7,7 +7,7 @@ use Rattle.std.specs.List.{IsDistinct}
 use Rattle.gm_name.specs.ModuleVersion.{ModuleVersion, pair_eq}
 use Rattle.gm_name_table.specs.OptionalPlaces.{place_in}
 use Rattle.gm_name_table.specs.declared.place.OptionalPlace.{OptionalPlace}
-use Rattle.gm_store.specs.Asked.{Name}
+use Rattle.gm_store_parts.specs.Asked.{Name}
 use Rattle.gm_graph_cache.specs.declared.cache.file_table.FileTable.{FileTable}
 use Rattle.gm_graph_cache.specs.declared.cache.summary.Kept.{Kept}
 use Rattle.gm_graph_cache.specs.declared.cache.Cache.{Cache}

@@ -12,10 +12,10 @@ use Rattle.gm_name_table.specs.OptionalPlaces.{no_place, place_in}
 use Rattle.gm_name_table.specs.declared.place.OptionalPlace.{OptionalPlace}
 use Rattle.gm_name_table.specs.Listed.{BeginsWith}
 use Rattle.gm_name_table.proofs.Buckets.{before, last as last_one}
-use Rattle.gm_store.proofs.NameOrder.{name_itself, names_equal, same_name_from_cmp}
-use Rattle.gm_store.specs.Asked.{Name, name_of, same_name}
-use Rattle.gm_store.specs.contracts.files.FileNameOrd.TheImpl.{cmp-value}
-use Rattle.gm_store.specs.declared.files.FileName.{FileName}
+use Rattle.gm_store_parts.proofs.NameOrder.{name_itself, names_equal, same_name_from_cmp}
+use Rattle.gm_store_parts.specs.Asked.{Name, name_of, same_name}
+use Rattle.gm_store_parts.specs.contracts.files.FileNameOrd.TheImpl.{cmp-value}
+use Rattle.gm_store_parts.specs.declared.files.FileName.{FileName}
 use Rattle.gm_graph_cache.proofs.NumberedModules.{number_below, number_stays}
 use Rattle.gm_graph_cache.specs.declared.cache.file_table.FileTable.{FileTable}
 use Rattle.gm_graph_cache.specs.declared.cache.summary.Kept.{Kept}

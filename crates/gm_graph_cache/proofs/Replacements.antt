@@ -12,10 +12,10 @@ use Rattle.gm_file.specs.Faults.{is_same_left}
 use Rattle.gm_file.specs.Fields.{right_for}
 use Rattle.gm_file.specs.Views.{replace_view, replace_views, right_view}
 use Rattle.gm_file.specs.declared.replace.Replace.{Replace}
-use Rattle.gm_store.proofs.NameOrder.{held_inserted, same_from_equal}
-use Rattle.gm_store.specs.Asked.{Name, name_of, same_name}
-use Rattle.gm_store.specs.contracts.files.FileNameOrd.TheImpl.{cmp-value}
-use Rattle.gm_store.specs.declared.files.FileName.{FileName}
+use Rattle.gm_store_parts.proofs.NameOrder.{held_inserted, same_from_equal}
+use Rattle.gm_store_parts.specs.Asked.{Name, name_of, same_name}
+use Rattle.gm_store_parts.specs.contracts.files.FileNameOrd.TheImpl.{cmp-value}
+use Rattle.gm_store_parts.specs.declared.files.FileName.{FileName}
 use Rattle.gm_file.specs.Main.{Main, replacement_in}
 use Rattle.gm_graph_cache.specs.Reading.{file_named, file_of}
 

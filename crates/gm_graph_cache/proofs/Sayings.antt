@@ -7,8 +7,8 @@ use Rattle.gm_name.specs.ModuleVersion.{ModuleVersion}
 use Rattle.gm_file.specs.Directives.{Right}
 use Rattle.gm_file.specs.Fields.{Dependency}
 use Rattle.gm_file.specs.Main.{Main, replacement_in, without_excluded}
-use Rattle.gm_store.specs.Asked.{Name, Reply, answer_in, same_name}
-use Rattle.gm_store.specs.States.{StoreState}
+use Rattle.gm_store_parts.specs.Asked.{Name, Reply, answer_in, same_name}
+use Rattle.gm_store_parts.specs.States.{StoreState}
 use Rattle.gm_store_sums.specs.Sums.{Sums}
 use Rattle.gm_graph_cache.specs.declared.cache.class.Class.{Class}
 use Rattle.gm_graph_cache.specs.declared.cache.class.Class.TheVariants.{WrongPath}

@@ -8,7 +8,7 @@ use Rattle.std.proofs.lemmas.Option.{same_Some, slice_get_within}
 use Rattle.gm_name.specs.ModuleVersion.{ModuleVersion, module_at}
 use Rattle.gm_name_table.specs.Listed.{Appends, BeginsWith, NumberedList, modules_at, modules_of, part}
 use Rattle.gm_name_table.proofs.Listed.{appends_after, part_as}
-use Rattle.gm_store.specs.Asked.{Name}
+use Rattle.gm_store_parts.specs.Asked.{Name}
 use Rattle.gm_graph_cache.specs.FileTable.{kept_at, place_of}
 use Rattle.gm_graph_cache.specs.declared.cache.file_table.FileTable.{FileTable}
 use Rattle.gm_graph_cache.specs.declared.cache.summary.Kept.{Kept}

@@ -6,7 +6,7 @@ use Rattle.std.specs.Io.BufRead.{Rests}
 use Rattle.gm_name.specs.ModuleVersion.{ModuleVersion, module_at}
 use Rattle.gm_name_table.specs.Listed.{BeginsWith}
 use Rattle.gm_file.specs.Fields.{Dependency}
-use Rattle.gm_store.specs.Asked.{Name, Reply, name_of}
+use Rattle.gm_store_parts.specs.Asked.{Name, Reply, name_of}
 use Rattle.gm_store_sums.specs.Sums.{Sums}
 use Rattle.gm_graph_cache.specs.declared.cache.by_name.Known.{Known}
 use Rattle.gm_graph_cache.specs.declared.cache.by_name.Known.TheVariants as known

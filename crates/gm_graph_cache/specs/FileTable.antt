@@ -1,7 +1,7 @@
 -- What is kept of the files that were read, by their names.
 use Rattle.std.specs.Prelude.{ℕ, Option, slice_get}
 use Rattle.std.specs.Option.{option_and_then}
-use Rattle.gm_store.specs.Asked.{Name}
+use Rattle.gm_store_parts.specs.Asked.{Name}
 use Rattle.gm_graph_cache.specs.declared.cache.file_table.FileTable.{FileTable}
 use Rattle.gm_graph_cache.specs.declared.cache.summary.Kept.{Kept}
 use Rattle.gm_graph_cache.specs.Places.{place_among}

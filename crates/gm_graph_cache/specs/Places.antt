@@ -4,7 +4,7 @@ use Rattle.std.specs.Map.{lookup}
 use Rattle.std.specs.Option.{option_and_then}
 use Rattle.gm_name_table.specs.OptionalPlaces.{place_in}
 use Rattle.gm_name_table.specs.declared.place.OptionalPlace.{OptionalPlace}
-use Rattle.gm_store.specs.Asked.{Name, same_name}
+use Rattle.gm_store_parts.specs.Asked.{Name, same_name}
 
 -- A place is a number of 32 bits below the greatest one, which stands for no place.
 abbrev pub place_limit : ℕ

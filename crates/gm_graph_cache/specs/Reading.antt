@@ -7,7 +7,7 @@ use Rattle.gm_file.specs.Directives.{Lax, Right, Folder, Module, VersionInterval
 use Rattle.gm_file.specs.DepLines.{AreRetractedIn, IsDependencyIn}
 use Rattle.gm_file.specs.Fields.{Dependency}
 use Rattle.gm_file.specs.Misreading.{IsMisread}
-use Rattle.gm_store.specs.Asked.{Name, Reply, mod_file, folder_file, list_file, bytes, absent, too_long}
+use Rattle.gm_store_parts.specs.Asked.{Name, Reply, mod_file, folder_file, list_file, bytes, absent, too_long}
 use Rattle.gm_store_sums.specs.Sums.{Sums, check_in}
 use Rattle.gm_store_sums.specs.Hash.{file_hash}
 use Rattle.gm_store_sums.specs.declared.sum_table.Sum.{Sum}

@@ -1,6 +1,6 @@
 -- The names on which loading was refused, as its result reports them.
 use Rattle.std.specs.Prelude.{List, [], ◌∷◌, Result, Ok, Err}
-use Rattle.gm_store.specs.Asked.{Name, name_of}
+use Rattle.gm_store_parts.specs.Asked.{Name, name_of}
 use Rattle.gm_graph_cache.specs.declared.cache.load_fault.LoadFault.{LoadFault}
 use Rattle.gm_graph_cache.specs.declared.cache.load_fault.LoadFault.TheVariants.{NoMemory, Device, TooMany}
 

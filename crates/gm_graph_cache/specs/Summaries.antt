@@ -12,7 +12,7 @@ use Rattle.gm_graph_cache.specs.declared.cache.reading.FileReading.TheVariants a
 use Rattle.gm_graph_cache.specs.declared.cache.summary.Kept.{Kept}
 use Rattle.gm_graph_cache.specs.declared.cache.summary.Kept.TheVariants.{Valid, Faulty}
 use Rattle.gm_graph_cache.specs.declared.cache.summary.ListSpan.{ListSpan}
-use Rattle.gm_store.specs.Asked.{Reply}
+use Rattle.gm_store_parts.specs.Asked.{Reply}
 use Rattle.gm_graph_cache.specs.Reading.{AreRetractedBy}
 
 -- what an answer says, as a reading

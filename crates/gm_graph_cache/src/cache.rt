@@ -32,10 +32,10 @@ ghost use Rattle.std.specs.Prelude.{◌≡◌, ◌≤◌, ◌<◌, ◌+◌, ◌+
 ghost use Rattle.std.proofs.Props.{props};
 ghost use Rattle.std.specs.Option.{option_and_then, option_copied};
 ghost use Rattle.gm_name_table.specs.Listed.{modules_of};
-ghost use Rattle.gm_store.specs.Asked.{Name, Reply, answer_in, name_of};
-ghost use Rattle.gm_store.specs.Requests.{refused_for};
-ghost use Rattle.gm_store.specs.States.{AddsAnswer};
-ghost use Rattle.gm_store.specs.declared.files.FileName.{FileName};
+ghost use Rattle.gm_store_parts.specs.Asked.{Name, Reply, answer_in, name_of};
+ghost use Rattle.gm_store_parts.specs.Requests.{refused_for};
+ghost use Rattle.gm_store_parts.specs.States.{AddsAnswer};
+ghost use Rattle.gm_store_parts.specs.declared.files.FileName.{FileName};
 ghost use Rattle.gm_file.specs.Listed.{Head};
 ghost use Rattle.gm_file.specs.Main.{without_excluded};
 ghost use Rattle.gm_graph_cache.specs.Asking.{AsksOne, IsAskableFile, IsLoadFaultOf};

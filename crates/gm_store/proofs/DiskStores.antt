@@ -1,9 +1,9 @@
 -- The same may come of requests to stores over the same folders.
 use Rattle.std.proofs.Common.{◌≡◌, ℕ, List, Option, subst}
-use Rattle.gm_store.specs.declared.fallback.proxy_list.Mark.{Mark}
-use Rattle.gm_store.specs.Asked.{Name, Reply}
+use Rattle.gm_store_parts.specs.declared.fallback.proxy_list.Mark.{Mark}
+use Rattle.gm_store_parts.specs.Asked.{Name, Reply}
+use Rattle.gm_store_parts.specs.Openings.{Opening}
 use Rattle.gm_store.specs.DiskAnswers.{MayAnswer}
-use Rattle.gm_store.specs.Openings.{Opening}
 
 pub same_answers : {S : Type 0} (may_open : S → List ℕ → Opening → Type 0) (made system : S) (main folder : List ℕ)
     (proxies folders : List (List ℕ)) (between marks : List Mark)

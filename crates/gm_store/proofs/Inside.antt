@@ -17,9 +17,9 @@ use Rattle.gm_version.specs.Version.{IsVersion, is_byte_of_version}
 use Rattle.gm_name.proofs.Bytes.{path-bytes, path_has_no_bang, version-bytes, version_has_no_bang}
 use Rattle.gm_version.proofs.Escapes.{escaped-injective, escaped-small}
 use Rattle.gm_name.proofs.Paths.{element-bytes}
-use Rattle.gm_store.specs.Asked.{Name, mod_file, folder_file, list_file}
+use Rattle.gm_store_parts.specs.Asked.{Name, mod_file, folder_file, list_file}
+use Rattle.gm_store_parts.proofs.Splits.{glue, glue_first, split-append, split_off, split_plain}
 use Rattle.gm_store.specs.Relative.{IsModuleFile, LeadsBelow, is_plain_element, is_slash, relative_text}
-use Rattle.gm_store.proofs.Splits.{glue, glue_first, split-append, split_off, split_plain}
 
 -- ---- bytes of escaped texts
 

@@ -1,20 +1,10 @@
-pub mod Appending
 pub mod Bytes
-pub mod Consuming
-pub mod Counts
 pub mod Limits
 pub mod Listing
 pub mod MainFolder
-pub mod NameOrder
-pub mod Splits
-pub mod Cuts
 pub mod DiskStores
 pub mod Walks
 pub mod Greatest
 pub mod Inside
-pub mod Shown
 pub mod Stops
 pub mod Requesting
-pub mod Serving
-pub mod Answering
-mod Failing

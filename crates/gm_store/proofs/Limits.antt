@@ -1,7 +1,7 @@
 -- Answers of at most 16 MiB.
 use Rattle.std.proofs.Common.{◌≡◌, Option, Some, None, IfSome, subst, sym}
-use Rattle.gm_store.specs.Asked.{IsWithinLimit, Reply, reply_of}
-use Rattle.gm_store.specs.declared.files.Answer.{Answer}
+use Rattle.gm_store_parts.specs.Asked.{IsWithinLimit, Reply, reply_of}
+use Rattle.gm_store_parts.specs.declared.files.Answer.{Answer}
 
 -- an answer that stands for a reply is as long as that reply
 pub same_limit : (answer : Option Answer) (reply : Reply) → IfSome answer (λ answer. reply_of answer ≡ reply)

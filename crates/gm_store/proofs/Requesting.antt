@@ -1,11 +1,11 @@
 -- The ends of a request, by what the store did.
 use Rattle.std.proofs.Common.{◌≡◌, ◌∙◌, ◌≤◌, ◌++◌, ◌∷◌, [], Option, Some, None, Result, Ok, Err, ap, append-nil, sym}
 use Rattle.std.specs.Result.{IsErrAnd}
-use Rattle.gm_store.specs.Asked.{IsWithinLimit, Name, Reply}
-use Rattle.gm_store.specs.Requests.{IsRequest, refused_for}
-use Rattle.gm_store.specs.States.{AddsAnswer, CountsFailure, MayLess, StoreState}
-use Rattle.gm_store.specs.declared.files.AskFault.{AskFault}
-use Rattle.gm_store.specs.declared.files.AskFault.TheVariants.{Device, NoMemory}
+use Rattle.gm_store_parts.specs.Asked.{IsWithinLimit, Name, Reply}
+use Rattle.gm_store_parts.specs.Requests.{IsRequest, refused_for}
+use Rattle.gm_store_parts.specs.States.{AddsAnswer, CountsFailure, MayLess, StoreState}
+use Rattle.gm_store_parts.specs.declared.files.AskFault.{AskFault}
+use Rattle.gm_store_parts.specs.declared.files.AskFault.TheVariants.{Device, NoMemory}
 
 module _ (before after : Name → Option Reply → Type 0) (old new : StoreState) (name : Name) (no_more : MayLess after before)
     (later : old.faults ≤ new.faults) where

@@ -2,14 +2,14 @@
 use Rattle.std.proofs.Common.{◌≡◌, ◌≢◌, ℕ, zero, suc, List, [], ◌∷◌, ◌++◌, length, Option, Some, None, ap, ◌∙◌, sym, refl, arith}
 use Rattle.std.specs.List.{count_by}
 use Rattle.std.specs.Prelude.{slice_get}
-use Rattle.gm_store.specs.declared.fallback.proxy_list.Mark.{Mark}
-use Rattle.gm_store.specs.declared.fallback.step.Next.{Next}
-use Rattle.gm_store.specs.declared.fallback.step.Next.TheVariants.{Take, Go, Fail}
-use Rattle.gm_store.specs.Asked.{Reply}
+use Rattle.gm_store_parts.specs.declared.fallback.proxy_list.Mark.{Mark}
+use Rattle.gm_store_parts.specs.declared.fallback.step.Next.{Next}
+use Rattle.gm_store_parts.specs.declared.fallback.step.Next.TheVariants.{Take, Go, Fail}
+use Rattle.gm_store_parts.specs.Asked.{Reply}
+use Rattle.gm_store_parts.specs.Openings.{Opening}
+use Rattle.gm_store_parts.specs.Steps.{Seen, StopsAt, absent, failed, found, has_failed, outcome_of, step_of, too_long}
 use Rattle.gm_store.specs.DiskAnswers.{DeviceFailsByAFile}
 use Rattle.gm_store.specs.FolderLookups.{lookup_results}
-use Rattle.gm_store.specs.Openings.{Opening}
-use Rattle.gm_store.specs.Steps.{Seen, StopsAt, absent, failed, found, has_failed, outcome_of, step_of, too_long}
 use Rattle.gm_store.specs.Stops.{OutcomeExists, OutcomeIsUnique, OutcomeFollowsContents}
 
 -- ---- it stops at one folder at most

@@ -2,16 +2,16 @@
 use Rattle.std.proofs.Common.{◌≡◌, ◌+◌, ◌-◌, ◌≤◌, ◌<◌, ◌^◌, ◌⊎◌, inl, inr, min, ℕ, false, true, cond, zero, suc, List, [], ◌∷◌, ◌++◌, length, Option, Some, None, ap, ◌∙◌, sym, refl, subst, arith, IsSome, length-append, add_assoc}
 use Rattle.std.specs.Prelude.{IfNone, slice_get}
 use Rattle.std.specs.Option.{option_map}
-use Rattle.gm_store.specs.declared.files.Answer.{Answer}
+use Rattle.gm_store_parts.specs.declared.files.Answer.{Answer}
 use Rattle.std.specs.List.{count_by}
 use Rattle.std.proofs.lemmas.Bool.{cases_lt}
 use Rattle.std.proofs.lemmas.List.Sums.{sum_by-append}
-use Rattle.gm_store.specs.declared.fallback.proxy_list.Mark.{Mark}
-use Rattle.gm_store.specs.declared.fallback.proxy_list.Mark.TheVariants.{Comma, Bar}
-use Rattle.gm_store.specs.declared.fallback.step.Next.{Next}
-use Rattle.gm_store.specs.declared.fallback.step.Next.TheVariants.{Take, Go}
-use Rattle.gm_store.specs.Asked.{Reply, reply_of}
-use Rattle.gm_store.specs.Steps.{AreCounted, Counts, HasCounted, MayStop, Seen, absent, counted_up, failed, found, has_failed, outcome_of, step_of, too_long}
+use Rattle.gm_store_parts.specs.declared.fallback.proxy_list.Mark.{Mark}
+use Rattle.gm_store_parts.specs.declared.fallback.proxy_list.Mark.TheVariants.{Comma, Bar}
+use Rattle.gm_store_parts.specs.declared.fallback.step.Next.{Next}
+use Rattle.gm_store_parts.specs.declared.fallback.step.Next.TheVariants.{Take, Go}
+use Rattle.gm_store_parts.specs.Asked.{Reply, reply_of}
+use Rattle.gm_store_parts.specs.Steps.{AreCounted, Counts, HasCounted, MayStop, Seen, absent, counted_up, failed, found, has_failed, outcome_of, step_of, too_long}
 
 -- the request fell back from the first `at` folders; `passed` has the results there, which are counted
 pub record HasPassed (may_find : ℕ → Seen → Type 0) (marks : List Mark) (at : ℕ) (old new : Counts) : Type 0 where

@@ -1,6 +1,6 @@
 -- Views of folders whose lookups are counted.
+use Rattle.gm_store_parts.specs.Steps.{Counts}
 use Rattle.gm_store.specs.declared.folders.counted.CountedFolders.{CountedFolders}
-use Rattle.gm_store.specs.Steps.{Counts}
 
 -- the folders
 abbrev pub inner_folders : {F : Type 0} → CountedFolders F → F

@@ -1,11 +1,11 @@
 -- What may come of a request to a store over folders of a file system.
 use Rattle.std.specs.Prelude.{ℕ, List, Option, None}
-use Rattle.gm_store.specs.declared.fallback.proxy_list.Mark.{Mark}
-use Rattle.gm_store.specs.Asked.{Name, Reply}
+use Rattle.gm_store_parts.specs.declared.fallback.proxy_list.Mark.{Mark}
+use Rattle.gm_store_parts.specs.Asked.{Name, Reply}
+use Rattle.gm_store_parts.specs.Openings.{MayLookUp, Opening}
+use Rattle.gm_store_parts.specs.Steps.{failed}
 use Rattle.gm_store.specs.FolderLookups.{MayAnswerFrom}
-use Rattle.gm_store.specs.Openings.{MayLookUp, Opening}
 use Rattle.gm_store.specs.Placed.{lookup_path_text}
-use Rattle.gm_store.specs.Steps.{failed}
 
 -- The answer to a name is that of the file at the name's path in the folder at which the fallback stops, or none if
 -- opening or reading it fails there. `may_open` says what may come of opening the file at a path; `main` is the main

@@ -1,11 +1,11 @@
 -- Which folders and marks a name is looked up with, what may come of a request for it, and the results of all
 -- lookups over folders in memory.
 use Rattle.std.specs.Prelude.{ℕ, List, [], ◌∷◌, map, Option}
-use Rattle.gm_store.specs.declared.fallback.proxy_list.Mark.{Mark}
+use Rattle.gm_store_parts.specs.declared.fallback.proxy_list.Mark.{Mark}
+use Rattle.gm_store_parts.specs.Asked.{Name, Reply, mod_file, folder_file, list_file}
+use Rattle.gm_store_parts.specs.FoldersInMemory.{result_at}
+use Rattle.gm_store_parts.specs.Steps.{MayStop, Seen}
 use Rattle.gm_store.specs.declared.folders.in_memory.FoldersInMemory.{FoldersInMemory}
-use Rattle.gm_store.specs.Asked.{Name, Reply, mod_file, folder_file, list_file}
-use Rattle.gm_store.specs.FoldersInMemory.{result_at}
-use Rattle.gm_store.specs.Steps.{MayStop, Seen}
 
 -- the results of looking up a name in every folder: a module's file in each proxy folder in turn, the go.mod of a
 -- local folder only in the folder beside the main file

@@ -1,6 +1,6 @@
 -- Paths of files in a file system: which path a lookup opens.
 use Rattle.std.specs.Prelude.{ℕ, ◌&&◌, nat_lt, Bool, List, [], length, slice_index, slice_index_or, if◌then◌else◌}
-use Rattle.gm_store.specs.Asked.{Name, folder_file, list_file, mod_file}
+use Rattle.gm_store_parts.specs.Asked.{Name, folder_file, list_file, mod_file}
 use Rattle.gm_store.specs.Relative.{below, is_slash, relative_text}
 
 -- whether a path is absolute: it begins with a slash

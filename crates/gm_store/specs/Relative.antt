@@ -7,7 +7,7 @@ use Rattle.std.specs.Char.{is_ascii_uppercase}
 use Rattle.gm_version.specs.Escape.{escaped_text}
 use Rattle.gm_name.specs.Path.{IsPath}
 use Rattle.gm_version.specs.Version.{IsVersion}
-use Rattle.gm_store.specs.Asked.{Name, mod_file, folder_file, list_file}
+use Rattle.gm_store_parts.specs.Asked.{Name, mod_file, folder_file, list_file}
 
 -- the separator of path elements
 abbrev pub is_slash : ℕ → Bool

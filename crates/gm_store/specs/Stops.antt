@@ -1,10 +1,10 @@
 -- Laws about the GOPROXY fallback: a request has exactly one outcome.
 use Rattle.std.specs.Prelude.{◌≡◌, ◌<◌, ℕ, List, length, Option, Some, slice_get}
-use Rattle.gm_store.specs.declared.fallback.proxy_list.Mark.{Mark}
+use Rattle.gm_store_parts.specs.declared.fallback.proxy_list.Mark.{Mark}
+use Rattle.gm_store_parts.specs.Asked.{Name, Reply}
+use Rattle.gm_store_parts.specs.Steps.{MayStop, Seen, StopsAt}
 use Rattle.gm_store.specs.declared.folders.in_memory.FoldersInMemory.{FoldersInMemory}
-use Rattle.gm_store.specs.Asked.{Name, Reply}
 use Rattle.gm_store.specs.FolderLookups.{lookup_results}
-use Rattle.gm_store.specs.Steps.{MayStop, Seen, StopsAt}
 
 -- for given results and marks there is at most one outcome and one count of failures
 abbrev pub OutcomeIsUnique : Type 0

@@ -1,13 +1,13 @@
 -- Views of a fallback store: its folders and marks, its requests with their answers, its refusals, and its counts.
 use Rattle.std.specs.Prelude.{ℕ, List}
+use Rattle.gm_store_parts.specs.declared.fallback.proxy_list.Mark.{Mark}
+use Rattle.gm_store_parts.specs.declared.files.keeping.Keeps.{Ghosts as Kept}
+use Rattle.gm_store_parts.specs.Asked.{Name, Reply}
+use Rattle.gm_store_parts.specs.States.{StoreState}
+use Rattle.gm_store_parts.specs.Steps.{Counts}
 use Rattle.gm_store.specs.declared.fallback.store.FallbackStore.{FallbackStore}
-use Rattle.gm_store.specs.declared.fallback.proxy_list.Mark.{Mark}
-use Rattle.gm_store.specs.declared.files.keeping.Keeps.{Ghosts as Kept}
 use Rattle.gm_store.specs.declared.folders.FolderList.{Ghosts}
-use Rattle.gm_store.specs.Asked.{Name, Reply}
 use Rattle.gm_store.specs.Counted.{counts_in, inner_folders}
-use Rattle.gm_store.specs.States.{StoreState}
-use Rattle.gm_store.specs.Steps.{Counts}
 
 -- the folders that requests are looked up in
 abbrev pub folders_under : {F K : Type 0} {g : Ghosts F} {h : Kept K} → FallbackStore F K g h → F

@@ -6,23 +6,20 @@ pub(crate) mod buffers;
 pub(crate) mod counted;
 pub(crate) mod in_memory;
 mod lookup_paths;
-mod lookup_result;
 pub(crate) mod main_folder;
-pub(crate) mod memory_folder;
 pub(crate) mod on_disk;
 pub(crate) mod relative_path;
 
 ghost use Rattle.std.specs.Prelude.{◌<◌, ℕ, IfOk};
 
-use crate::files::FileName;
 use crate::folders::buffers::Buffers;
-use crate::looked::Looked;
 use gm_name::NoMemory;
+use gm_store_parts::{FileName, Looked};
 
 /// A list of folders that can be looked into.
 pub trait FolderList {
-    ghost use Rattle.gm_store.specs.Asked.{IsWithinLimit, Name, name_of};
-    ghost use Rattle.gm_store.specs.Steps.{Seen, reply_in, result_of};
+    ghost use Rattle.gm_store_parts.specs.Asked.{IsWithinLimit, Name, name_of};
+    ghost use Rattle.gm_store_parts.specs.Steps.{Seen, reply_in, result_of};
 
     /// How many folders there are for a name.
     ghost count_for: { Self → Name → ℕ };

@@ -5,14 +5,13 @@
 //! paths, and a lookup has exactly one outcome.
 
 ghost use Rattle.std.specs.Prelude.{◌≡◌};
-ghost use Rattle.gm_store.specs.Asked.{name_of, same_name};
+ghost use Rattle.gm_store_parts.specs.Asked.{name_of, same_name};
+ghost use Rattle.gm_store_parts.specs.declared.files.FileName.{FileName};
 ghost use Rattle.gm_store.specs.DiskAnswers.{DeviceFailsByAFile};
-ghost use Rattle.gm_store.specs.declared.files.FileName.{FileName};
 ghost use Rattle.gm_store.specs.Relative.{PathsAreLowercase, PathsDiffer};
 ghost use Rattle.gm_store.specs.Stops.{OutcomeExists, OutcomeIsUnique, OutcomeFollowsContents};
 
-use crate::file_system::FileSystem;
-use crate::files::FileName;
+use gm_store_parts::{FileName, FileSystem};
 
 /// Two names of files are equal exactly if they are the same: the same kind of file, with equal texts.
 pub fn names_are_equal_by_text()

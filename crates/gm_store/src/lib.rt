@@ -18,42 +18,24 @@
 //! including those that don't fail a request.
 #![tactic(auto)]
 
-mod byte_reader;
 mod fallback;
-mod file_system;
-mod files;
 mod folders;
 pub mod laws;
-mod looked;
-mod reading;
-mod sinks;
-mod standard_input;
 mod versions;
 
-pub use crate::byte_reader::ByteReader;
 pub use crate::fallback::in_memory::MemoryFolders;
 pub use crate::fallback::on_disk::{FolderFiles, FolderReader};
-pub use crate::fallback::proxy_list::{Mark, ProxyFault, ProxyList};
-pub use crate::fallback::step::{Next, step};
 pub use crate::fallback::store::FallbackStore;
-pub use crate::file_system::{FileSystem, read_file};
-pub use crate::files::all_answers::AllAnswers;
-pub use crate::files::failing::FailingFiles;
-pub use crate::files::keeping::Keeps;
-pub use crate::files::last_answer::LastAnswer;
-pub use crate::files::memory::MemoryFiles;
-pub use crate::files::{Answer, AskFault, Asks, FileName, Files, copy_name};
 pub use crate::folders::in_memory::FoldersInMemory;
 pub use crate::folders::main_folder::folder_of;
-pub use crate::folders::memory_folder::{Held, MemoryFolder};
 pub use crate::folders::on_disk::FoldersOnDisk;
 pub use crate::folders::relative_path::relative_name;
-pub use crate::looked::Looked;
-pub use crate::reading::{LIMIT, ReadFault, read_limited};
-pub use crate::sinks::memory::MemorySink;
-pub use crate::sinks::writer::StdSink;
-pub use crate::sinks::{Sink, WriteFault, write_all};
-pub use crate::standard_input::{StandardInput, read_input};
 pub use crate::versions::latest::latest;
 pub use crate::versions::list::versions_of;
 pub use gm_name::NoMemory;
+pub use gm_store_parts::{
+    AllAnswers, Answer, AskFault, Asks, ByteReader, FailingFiles, FileName, FileSystem, Files,
+    Held, Keeps, LIMIT, LastAnswer, Looked, Mark, MemoryFiles, MemoryFolder, MemorySink, Next,
+    ProxyFault, ProxyList, ReadFault, Sink, StandardInput, StdSink, WriteFault, copy_name,
+    read_file, read_input, read_limited, step, write_all,
+};

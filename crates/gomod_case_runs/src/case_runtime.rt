@@ -116,7 +116,7 @@ fn copy_word(word: &[u8], room: &mut [u8]) -> Result<usize, FillError>
 
 impl<'case> StandardInput for CaseRuntime<'case, '_> {
     ghost use Rattle.std.specs.Prelude.{◌≡◌, Some, false};
-    ghost use Rattle.gm_store.specs.Openings.{opened};
+    ghost use Rattle.gm_store_parts.specs.Openings.{opened};
 
     type Reader = KnownInput<'case>;
 

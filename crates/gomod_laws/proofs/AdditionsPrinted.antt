@@ -1,7 +1,7 @@
 -- A requirement added lowers nothing.
 use Rattle.std.proofs.Common.{◌∙◌, ℕ, List, [], Option, Ok, None, refl, sym, inl}
 use Rattle.gm_name.specs.ModuleVersion.{ModuleVersion}
-use Rattle.gm_store.specs.Asked.{Name, Reply}
+use Rattle.gm_store_parts.specs.Asked.{Name, Reply}
 use Rattle.gm_store_sums.specs.Sums.{Sums}
 use Rattle.gm_file.specs.Main.{Main, replacement_in}
 use Rattle.gm_graph_select.specs.declared.step.Step.{Step}

@@ -1,7 +1,7 @@
 -- Runs of which one asks for a file and the other does not.
 use Rattle.std.proofs.Common.{Contains, arith, refl}
 use Rattle.std.specs.Prelude.{codes}
-use Rattle.gm_store.specs.Asked.{Name, mod_file, names_in}
+use Rattle.gm_store_parts.specs.Asked.{Name, mod_file, names_in}
 use Rattle.gm_graph_select.proofs.Ascending.{no_member}
 use Rattle.gomod_laws.specs.CounterFolders.{FileIsAskedForInOne, asks_for_a}
 

@@ -7,7 +7,7 @@ use Rattle.std.proofs.lemmas.Option.{same_Some}
 use Rattle.gm_version.specs.Version.{IsVersion}
 use Rattle.gm_file.specs.Directives.{VersionInterval, pair}
 use Rattle.gm_file.specs.Shown.{is_at_most, is_retracted, shown_of}
-use Rattle.gm_store.specs.Asked.{Name, Reply, bytes}
+use Rattle.gm_store_parts.specs.Asked.{Name, Reply, bytes}
 use Rattle.gm_store.specs.Listed.{IsListed}
 use Rattle.gm_graph_cache.proofs.OneReading.{one_retracted}
 use Rattle.gm_graph_select.proofs.Ascending.{member_head, no_member, one_member}

@@ -1,6 +1,6 @@
 -- Outcomes of commands, of which it is not said that they are UTF-8.
 use Rattle.std.proofs.Common.{ℕ, List, [], Option}
-use Rattle.gm_store.specs.Asked.{Name, Reply}
+use Rattle.gm_store_parts.specs.Asked.{Name, Reply}
 use Rattle.gomod_run.specs.Outcome.{Outcome}
 use Rattle.gomod_run.specs.Queries.{answers_of, given_of}
 use Rattle.gomod_run.specs.Runs.{RunEnds}

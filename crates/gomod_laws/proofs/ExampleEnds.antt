@@ -13,7 +13,7 @@ use Rattle.gm_name.specs.ModuleVersion.{ModuleVersion, pair_cmp, pair_eq}
 use Rattle.gm_name.specs.Private.ModuleVersion.{pair-self}
 use Rattle.gm_file.specs.declared.fault.DirectiveKind.TheVariants.{NoModule}
 use Rattle.gm_file.specs.Fields.{Dependency}
-use Rattle.gm_store.specs.Asked.{Name, Reply, mod_file, folder_file, list_file, absent, names_in, same_name}
+use Rattle.gm_store_parts.specs.Asked.{Name, Reply, mod_file, folder_file, list_file, absent, names_in, same_name}
 use Rattle.gm_store_sums.specs.Sums.{Sums}
 use Rattle.gm_file.specs.Main.{Main}
 use Rattle.gm_graph_cache.specs.Reading.{file_of}

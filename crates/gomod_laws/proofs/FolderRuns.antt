@@ -2,7 +2,7 @@
 use Rattle.std.proofs.Common.{◌≡◌, ◌↔◌, ◌∙◌, ◌++◌, ◌∷◌, ℕ, Bool, List, [], Option, Some, None, Result, Ok, Err, Contains, ap, inl, inr, refl, subst, sym, true}
 use Rattle.std.proofs.lemmas.List.Elements.{Contains-push_cases}
 use Rattle.gm_file.specs.Fields.{Dependency}
-use Rattle.gm_store.specs.Asked.{Name, Reply, absent, answer_in, bytes, list_file, mod_file, names_in, too_long}
+use Rattle.gm_store_parts.specs.Asked.{Name, Reply, absent, answer_in, bytes, list_file, mod_file, names_in, too_long}
 use Rattle.gm_store_sums.specs.Sums.{Sums}
 use Rattle.gm_graph_cache.specs.declared.cache.class.Class.{Class}
 use Rattle.gm_file.specs.Main.{Main}

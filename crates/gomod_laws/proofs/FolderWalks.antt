@@ -2,14 +2,14 @@
 use Rattle.std.proofs.Common.{◌≡◌, ◌≢◌, ◌∙◌, ◌++◌, ◌∷◌, ℕ, zero, suc, List, [], Option, Some, None, ap, append_assoc, sym}
 use Rattle.std.specs.Prelude.{map, slice_get}
 use Rattle.std.proofs.lemmas.List.{map-append}
-use Rattle.gm_store.specs.declared.fallback.step.Next.TheVariants.{Go, Take}
+use Rattle.gm_store_parts.specs.declared.fallback.step.Next.TheVariants.{Go, Take}
+use Rattle.gm_store_parts.specs.declared.memory_folder.MemoryFolder.{MemoryFolder}
+use Rattle.gm_store_parts.specs.declared.fallback.proxy_list.Mark.{Mark}
+use Rattle.gm_store_parts.specs.declared.fallback.proxy_list.Mark.TheVariants.{Bar, Comma}
+use Rattle.gm_store_parts.specs.Asked.{Name, Reply, bytes, folder_file, list_file, mod_file}
+use Rattle.gm_store_parts.specs.FoldersInMemory.{result_at}
+use Rattle.gm_store_parts.specs.Steps.{Seen, StopsAt, absent, failed, found, outcome_of, step_of, too_long}
 use Rattle.gm_store.specs.declared.folders.in_memory.FoldersInMemory.{FoldersInMemory}
-use Rattle.gm_store.specs.declared.folders.memory_folder.MemoryFolder.{MemoryFolder}
-use Rattle.gm_store.specs.declared.fallback.proxy_list.Mark.{Mark}
-use Rattle.gm_store.specs.declared.fallback.proxy_list.Mark.TheVariants.{Bar, Comma}
-use Rattle.gm_store.specs.Asked.{Name, Reply, bytes, folder_file, list_file, mod_file}
-use Rattle.gm_store.specs.FoldersInMemory.{result_at}
-use Rattle.gm_store.specs.Steps.{Seen, StopsAt, absent, failed, found, outcome_of, step_of, too_long}
 use Rattle.gm_store.proofs.Stops.{held_stop, one_stop, unmarked}
 use Rattle.gomod_laws.specs.FolderLaws.{HasOneMore, FolderMayAnswer}
 

@@ -1,6 +1,6 @@
 -- Runs over a store in which files that were absent now exist.
 use Rattle.std.proofs.Common.{◌≡◌, ◌∙◌, ℕ, Bool, true, List, [], Some, ap, inl, inr, refl, sym}
-use Rattle.gm_store.specs.Asked.{Name, Reply, absent, answer_in, bytes}
+use Rattle.gm_store_parts.specs.Asked.{Name, Reply, absent, answer_in, bytes}
 use Rattle.gomod_run.specs.QueryLaws.{AnswerAlike}
 use Rattle.gomod_run.specs.Outcome.{Outcome}
 use Rattle.gomod_run.proofs.StoresAgree.{alike_back}

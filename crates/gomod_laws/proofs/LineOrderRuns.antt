@@ -1,6 +1,6 @@
 -- Runs of two main files, where each outcome over the one is an outcome over the other.
 use Rattle.std.proofs.Common.{◌≡◌, ℕ, List, [], true, Option, refl}
-use Rattle.gm_store.specs.Asked.{Name, Reply}
+use Rattle.gm_store_parts.specs.Asked.{Name, Reply}
 use Rattle.gomod_run.specs.QueryLaws.{AnswerAlike}
 use Rattle.gomod_run.specs.Queries.{Answers, QueryEnds, answers_of, given_of}
 use Rattle.gomod_run.specs.Outcome.{Outcome}

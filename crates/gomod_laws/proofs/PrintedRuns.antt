@@ -1,6 +1,6 @@
 -- Runs of queries that print.
 use Rattle.std.proofs.Common.{◌≡◌, ℕ, List, [], Option, subst, true}
-use Rattle.gm_store.specs.Asked.{Name, Reply}
+use Rattle.gm_store_parts.specs.Asked.{Name, Reply}
 use Rattle.gm_store_sums.specs.Sums.{Sums}
 use Rattle.gm_file.specs.Main.{Main, IsMainFile}
 use Rattle.gm_graph_cache.specs.Sayings.{run_of}

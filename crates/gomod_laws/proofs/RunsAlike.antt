@@ -5,7 +5,7 @@ use Rattle.gm_name.specs.ModuleVersion.{ModuleVersion}
 use Rattle.gm_file.specs.Directives.{Right}
 use Rattle.gm_file.specs.Fields.{Dependency}
 use Rattle.gm_file.specs.Main.{Main, is_pruned_by, replacement_in}
-use Rattle.gm_store.specs.Asked.{Name, Reply, names_in}
+use Rattle.gm_store_parts.specs.Asked.{Name, Reply, names_in}
 use Rattle.gm_store_sums.specs.Sums.{Sums}
 use Rattle.gm_graph_cache.specs.declared.cache.class.Class.{Class}
 use Rattle.gm_graph.specs.declared.fault.Fault.{Fault}

@@ -1,7 +1,7 @@
 -- A run is determined: two outcomes that the statement allows of one input are one, also over two stores that answer
 -- alike.
 use Rattle.std.proofs.Common.{◌≡◌, ◌≢◌, ◌∙◌, ◌⊎◌, ◌∷◌, ℕ, List, [], Option, None, ap, refl, subst, sym, arith, inl, inr}
-use Rattle.gm_store.specs.Asked.{Name}
+use Rattle.gm_store_parts.specs.Asked.{Name}
 use Rattle.gm_store_sums.specs.Sums.{Sums}
 use Rattle.gm_file.specs.Main.{Main}
 use Rattle.gm_graph_select.proofs.Ascending.{same_lists}

@@ -3,7 +3,7 @@
 use Rattle.std.proofs.Common.{◌≡◌, ◌∙◌, ◌≤◌, ◌↔◌, ◌++◌, ◌∷◌, ℕ, true, List, [], Option, Some, None, Result, ap, length, sym, refl, arith, codes, inl, inr}
 use Rattle.std.proofs.lemmas.Bool.{false≢true}
 use Rattle.gm_file.specs.Fields.{Dependency}
-use Rattle.gm_store.specs.Asked.{Name, Reply, absent, answer_in, bytes, folder_file, list_file, mod_file, names_in, too_long}
+use Rattle.gm_store_parts.specs.Asked.{Name, Reply, absent, answer_in, bytes, folder_file, list_file, mod_file, names_in, too_long}
 use Rattle.gm_store_sums.specs.Hash.{file_hash}
 use Rattle.gm_store_sums.specs.Sums.{HasValidLines, IsSum, SaysOfHash as SaysOfHash, Sums}
 use Rattle.gm_store_sums.specs.declared.sum_table.Sum.{Sum}

@@ -1,6 +1,6 @@
 -- A go.sum only refuses, and one with the right hashes changes nothing.
 use Rattle.std.proofs.Common.{◌≡◌, ◌∙◌, List, [], Option, Some, None, ap, sym, refl, true, ℕ}
-use Rattle.gm_store.specs.Asked.{Name, Reply, answer_in, bytes, folder_file, list_file, mod_file}
+use Rattle.gm_store_parts.specs.Asked.{Name, Reply, answer_in, bytes, folder_file, list_file, mod_file}
 use Rattle.gm_store_sums.specs.Hash.{file_hash}
 use Rattle.gm_store_sums.specs.Sums.{Sums, check_in}
 use Rattle.gm_store_sums.specs.declared.sum_table.Sum.TheVariants.{Good}

@@ -2,7 +2,7 @@
 use Rattle.std.proofs.Common.{◌≡◌, ◌∙◌, [], ℕ, Bool, List, Option, Some, None, ap, arith, inl, inr, refl, subst, sym, true, false}
 use Rattle.std.proofs.lemmas.Bool.{false≢true}
 use Rattle.gm_name.specs.Path.{is_fetchable}
-use Rattle.gm_store.specs.Asked.{Name, Reply, answer_in, bytes, bytes_in, list_file}
+use Rattle.gm_store_parts.specs.Asked.{Name, Reply, answer_in, bytes, bytes_in, list_file}
 use Rattle.gm_store.specs.Listed.{AreListed}
 use Rattle.gomod_run.specs.Outcome.{Outcome, text_outcome}
 use Rattle.gomod_run.specs.Needs.{AnswersByName}

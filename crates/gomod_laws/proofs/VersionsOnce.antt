@@ -8,7 +8,7 @@ use Rattle.gm_file.specs.Shown.{shown_of}
 use Rattle.gm_graph_cache.specs.declared.cache.class.Class.{Class}
 use Rattle.gm_graph_cache.specs.Reading.{AreRetractedBy}
 use Rattle.gm_graph_cache.proofs.OneReading.{one_reading, one_retracted}
-use Rattle.gm_store.specs.Asked.{Name, Reply, bytes, list_file, mod_file}
+use Rattle.gm_store_parts.specs.Asked.{Name, Reply, bytes, list_file, mod_file}
 use Rattle.gomod_run.specs.Outcome.{Outcome, failure_outcome, refusal_outcome, text_outcome}
 use Rattle.gomod_run.specs.Needs.{AnswersByName}
 use Rattle.gomod_run.specs.Reports.{device_line, fault_line}

@@ -4,7 +4,7 @@ use Rattle.std.specs.Ordering.{is_gt}
 use Rattle.gm_version.specs.Version.{version_cmp}
 use Rattle.gm_name.specs.ModuleVersion.{ModuleVersion}
 use Rattle.gm_file.specs.Directives.{Right}
-use Rattle.gm_store.specs.Asked.{Name, Reply}
+use Rattle.gm_store_parts.specs.Asked.{Name, Reply}
 use Rattle.gm_file.specs.Main.{Main, is_pruned_by, replacement_in, IsMainFile}
 use Rattle.gm_graph_select.specs.declared.step.Edge.{Edge}
 use Rattle.gm_graph_select.specs.declared.step.Step.TheVariants.{Of}

@@ -1,6 +1,6 @@
 -- What the laws on two stores conclude of the files that are asked for is false of runs that ask for others.
 use Rattle.std.specs.Prelude.{List, [], ◌∷◌, codes}
-use Rattle.gm_store.specs.Asked.{Name, Reply, bytes, mod_file}
+use Rattle.gm_store_parts.specs.Asked.{Name, Reply, bytes, mod_file}
 use Rattle.gomod_laws.specs.FolderLaws.{AskForTheSame}
 
 -- a run that asks for the file of a.b v1.0.0, and gets it

@@ -9,7 +9,7 @@ use Rattle.gm_file_edit.specs.Edits.{Edit as Operation, edit_in}
 use Rattle.gm_file_edit.specs.Kinds.{is_fit}
 use Rattle.gm_file_edit_laws.specs.Laws.{AreApart, directives_of}
 use Rattle.gm_file_edit_laws.specs.Undone.{undone_by}
-use Rattle.gm_store.specs.Asked.{Name, Reply}
+use Rattle.gm_store_parts.specs.Asked.{Name, Reply}
 use Rattle.gomod_run.specs.QueryLaws.{AnswerAlike}
 use Rattle.gomod_run.specs.Queries.{longest}
 use Rattle.gm_file.specs.Main.{IsMainOf}

@@ -4,11 +4,11 @@ use Rattle.std.specs.Prelude.{◌≡◌, ◌⊎◌, ◌∷◌, ◌<◌, ◌-◌,
 use Rattle.std.specs.Global.{Vec}
 use Rattle.std.specs.declared.io.ErrorKind.{ErrorKind}
 use Rattle.std.specs.declared.io.ErrorKind.TheVariants.{NotFound, OutOfMemory}
-use Rattle.gm_store.specs.Asked.{list_file, mod_file}
-use Rattle.gm_store.specs.Faults.{HasCountedFailure}
-use Rattle.gm_store.specs.Openings.{IsReadFrom, Opening, opened, refused as unopened}
-use Rattle.gm_store.specs.Taken.{SinkState}
-use Rattle.gm_store.specs.declared.reading.ReadFault.TheVariants.{Device, NoMemory}
+use Rattle.gm_store_parts.specs.Asked.{list_file, mod_file}
+use Rattle.gm_store_parts.specs.Faults.{HasCountedFailure}
+use Rattle.gm_store_parts.specs.Openings.{IsReadFrom, Opening, opened, refused as unopened}
+use Rattle.gm_store_parts.specs.Taken.{SinkState}
+use Rattle.gm_store_parts.specs.declared.reading.ReadFault.TheVariants.{Device, NoMemory}
 use Rattle.gomod_run.specs.Outcome.{Outcome, failure_outcome, out_of_memory, text_outcome, refusal_outcome}
 use Rattle.gomod_run.specs.Program.{FileGives, IsInput, IsProgramOutcome, IsUnread, any_input, anything, file_in_memory, usage_error}
 use Rattle.gomod_run.specs.Taking.{TookAll, TookPrefix}

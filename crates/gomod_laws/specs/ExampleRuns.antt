@@ -3,7 +3,7 @@ use Rattle.std.specs.Prelude.{◌≡◌, ℕ, List, [], ◌∷◌, Option, Some,
 use Rattle.std.specs.declared.cmp.Ordering.TheVariants.{Greater, Less}
 use Rattle.gm_name.specs.ModuleVersion.{ModuleVersion}
 use Rattle.gm_version.specs.Version.{version_cmp}
-use Rattle.gm_store.specs.Asked.{Name, Reply, mod_file, absent, bytes}
+use Rattle.gm_store_parts.specs.Asked.{Name, Reply, mod_file, absent, bytes}
 use Rattle.gm_file.specs.Fields.{Dependency}
 use Rattle.gm_file.specs.Main.{Main, IsMainFile}
 use Rattle.gm_graph_cache.specs.Reading.{IsFileReading}

@@ -1,9 +1,9 @@
 -- A law of proxy folders in memory: Go Modules Reference, GOPROXY ("falls back to the next").
 use Rattle.std.specs.Prelude.{◌≡◌, ◌↔◌, ◌++◌, ◌∷◌, ℕ, List, [], Option, Some, Contains, slice_get}
+use Rattle.gm_store_parts.specs.declared.memory_folder.MemoryFolder.{MemoryFolder}
+use Rattle.gm_store_parts.specs.declared.fallback.proxy_list.Mark.{Mark}
+use Rattle.gm_store_parts.specs.Asked.{Name, Reply, names_in}
 use Rattle.gm_store.specs.declared.folders.in_memory.FoldersInMemory.{FoldersInMemory}
-use Rattle.gm_store.specs.declared.folders.memory_folder.MemoryFolder.{MemoryFolder}
-use Rattle.gm_store.specs.declared.fallback.proxy_list.Mark.{Mark}
-use Rattle.gm_store.specs.Asked.{Name, Reply, names_in}
 use Rattle.gm_store.specs.FolderLookups.{MayAnswerFrom, lookup_results}
 use Rattle.gomod_run.specs.Outcome.{Outcome}
 use Rattle.gm_graph.specs.Run.{AskedInTurn}

@@ -1,7 +1,7 @@
 -- Runs of commands, as the laws speak of them.
 use Rattle.std.specs.Prelude.{◌≡◌, ℕ, List, [], Option, None, String}
 use Rattle.std.specs.Global.{Global, Vec}
-use Rattle.gm_store.specs.Asked.{Name, Reply}
+use Rattle.gm_store_parts.specs.Asked.{Name, Reply}
 use Rattle.gomod_run.specs.Outcome.{Outcome, text_outcome}
 use Rattle.gomod_words.specs.declared.usage.Command.{Command}
 use Rattle.gomod_words.specs.declared.usage.Command.TheVariants.{Edit}

@@ -1,7 +1,7 @@
 -- Laws of a go.sum. They hold of each command; `fmt`, `edit` and `versions` read no go.sum.
 use Rattle.std.specs.Prelude.{◌↔◌, ◌≡◌, ◌≤◌, ◌⊎◌, ◌++◌, ◌∷◌, ℕ, List, [], Some, None, Contains, codes, false, length, map, nat_eq}
 use Rattle.std.specs.List.{starts_with}
-use Rattle.gm_store.specs.Asked.{Name, Reply, answer_in, bytes, mod_file}
+use Rattle.gm_store_parts.specs.Asked.{Name, Reply, answer_in, bytes, mod_file}
 use Rattle.gm_name.specs.Lines.{fields, lines}
 use Rattle.gm_store_sums.specs.Hash.{file_hash}
 use Rattle.gm_store_sums.specs.Sums.{HasValidLines, SaysOfHash}

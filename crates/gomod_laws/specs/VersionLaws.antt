@@ -5,7 +5,7 @@ use Rattle.gm_version.specs.Version.{IsVersion}
 use Rattle.gm_file.specs.Directives.{VersionInterval}
 use Rattle.gm_file.specs.Fields.{Dependency}
 use Rattle.gm_file.specs.Shown.{shown_of}
-use Rattle.gm_store.specs.Asked.{Name, Reply, answer_in, bytes, list_file, mod_file}
+use Rattle.gm_store_parts.specs.Asked.{Name, Reply, answer_in, bytes, list_file, mod_file}
 use Rattle.gm_store.specs.Latest.{IsLatest}
 use Rattle.gm_store.specs.Listed.{AreListed}
 use Rattle.gm_graph_cache.specs.Reading.{AreRetractedBy, IsFileReading}

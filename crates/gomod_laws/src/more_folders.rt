@@ -1,7 +1,7 @@
 //! A law of several proxy folders.
 
 ghost use Rattle.std.specs.Prelude.{Option};
-ghost use Rattle.gm_store.specs.Asked.{Name, Reply};
+ghost use Rattle.gm_store_parts.specs.Asked.{Name, Reply};
 ghost use Rattle.gm_store.specs.Views.{folders_under, marks_between};
 ghost use Rattle.gomod_laws.specs.FolderLaws.{FolderMayAnswer, MoreFoldersChangeNothing};
 

@@ -1,7 +1,7 @@
 -- A run that is done has an answer for every file that it needs.
 use Rattle.std.proofs.Common.{◌≡◌, ◌∙◌, ℕ, Bool, List, [], Option, Some, false, true, ap, arith, inl, inr, sym}
 use Rattle.gm_name.specs.Path.{is_fetchable}
-use Rattle.gm_store.specs.Asked.{Name, Reply, absent, answer_in, bytes, list_file, mod_file, too_long}
+use Rattle.gm_store_parts.specs.Asked.{Name, Reply, absent, answer_in, bytes, list_file, mod_file, too_long}
 use Rattle.gm_store_sums.specs.Sums.{Sums}
 use Rattle.gm_file.specs.Main.{Main}
 use Rattle.gm_graph.specs.declared.fault.Fault.{Fault}
@@ -18,11 +18,11 @@ use Rattle.gomod_run.proofs.OneVersions.{alike_itself, none_needed, one_latest, 
 use Rattle.gomod_run.proofs.WrittenTexts.{written_as}
 use Rattle.gomod_words.specs.declared.usage.Command.{Command}
 use Rattle.gomod_words.specs.declared.usage.Command.TheVariants.{Fmt, Edit, Versions}
-use Rattle.gm_store.specs.States.{StoreState}
+use Rattle.gm_store_parts.specs.States.{StoreState}
 use Rattle.gomod_run.specs.Runs.{HoldsAtAnyEnd, Needs, RunEnds}
 use Rattle.gomod_run.specs.Versions.{AreShown, VersionsEnds, VersionsNeed, all_listed, bad_file, device, list_refusal, no_list, not_retracted, printed}
 use Rattle.gomod_run.specs.Written.{IsWritten}
-use Rattle.gm_store.specs.Taken.{SinkState}
+use Rattle.gm_store_parts.specs.Taken.{SinkState}
 
 -- ---- each file that is needed is answered
 

@@ -2,8 +2,8 @@
 use Rattle.std.proofs.Common.{◌≡◌, ◌&&◌, ℕ, Bool, if◌then◌else◌, List, [], ◌∷◌, Some, Contains, ap, ap₂, arith, inl, inr, sym}
 use Rattle.std.proofs.lemmas.Bool.{cases_Bool}
 use Rattle.gm_graph_select.proofs.Ascending.{member_tail}
-use Rattle.gm_store.proofs.NameOrder.{names_equal}
-use Rattle.gm_store.specs.Asked.{Name, Reply, answer_in, list_file, mod_file, same_name}
+use Rattle.gm_store_parts.proofs.NameOrder.{names_equal}
+use Rattle.gm_store_parts.specs.Asked.{Name, Reply, answer_in, list_file, mod_file, same_name}
 use Rattle.gm_name.proofs.Texts.{bytes_eq-self}
 
 -- the list is answered first

@@ -3,10 +3,10 @@ use Rattle.std.proofs.Common.{◌≡◌, ◌∙◌, ◌++◌, ℕ, Bool, List, [
 use Rattle.std.proofs.Math.Logic.{⊎_map}
 use Rattle.std.proofs.Math.Seq.{drop-append_seam}
 use Rattle.std.proofs.lemmas.List.{append_cancel_left}
-use Rattle.gm_store.specs.Asked.{Name, Reply, answer_in, name_of, names_in}
-use Rattle.gm_store.specs.States.{HasServed, StoreState}
-use Rattle.gm_store.proofs.Serving.{nothing_served}
-use Rattle.gm_store.specs.declared.files.FileName.{FileName}
+use Rattle.gm_store_parts.specs.Asked.{Name, Reply, answer_in, name_of, names_in}
+use Rattle.gm_store_parts.specs.States.{HasServed, StoreState}
+use Rattle.gm_store_parts.proofs.Serving.{nothing_served}
+use Rattle.gm_store_parts.specs.declared.files.FileName.{FileName}
 use Rattle.gm_store_sums.specs.Sums.{Sums}
 use Rattle.gm_file.specs.declared.misreading.BytesFault.{BytesFault}
 use Rattle.gm_file.specs.Directives.{Strict}

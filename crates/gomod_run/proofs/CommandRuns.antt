@@ -3,13 +3,13 @@ use Rattle.std.proofs.Common.{◌≡◌, ◌∙◌, ℕ, IfErr, IfOk, List, [], 
 use Rattle.std.proofs.lemmas.Str.{IsUtf8-nil}
 use Rattle.std.specs.Global.{Vec}
 use Rattle.std.specs.Result.{IsErrAnd}
-use Rattle.gm_store.specs.Asked.{Name, Reply, reply_for}
-use Rattle.gm_store.specs.Memory.{held_at, may_give}
-use Rattle.gm_store.specs.Openings.{Opening}
-use Rattle.gm_store.specs.States.{HasServed, StoreState}
-use Rattle.gm_store.specs.Taken.{SinkState}
-use Rattle.gm_store.specs.declared.files.memory.MemoryFiles.{MemoryFiles}
-use Rattle.gm_store.proofs.Serving.{may_all, may_refuse_all}
+use Rattle.gm_store_parts.specs.Asked.{Name, Reply, reply_for}
+use Rattle.gm_store_parts.specs.Memory.{held_at, may_give}
+use Rattle.gm_store_parts.specs.Openings.{Opening}
+use Rattle.gm_store_parts.specs.States.{HasServed, StoreState}
+use Rattle.gm_store_parts.specs.Taken.{SinkState}
+use Rattle.gm_store_parts.specs.declared.files.memory.MemoryFiles.{MemoryFiles}
+use Rattle.gm_store_parts.proofs.Serving.{may_all, may_refuse_all}
 use Rattle.gomod_words.specs.declared.usage.Command.{Command}
 use Rattle.gomod_run.specs.Queries.{Answers, longest}
 use Rattle.gomod_run.specs.Outcome.{OrNoMemory, Outcome, code_of, report_outcome}

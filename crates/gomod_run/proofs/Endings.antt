@@ -3,7 +3,7 @@ use Rattle.std.proofs.Common.{◌≡◌, ◌∙◌, ◌∷◌, ℕ, Bor, List, O
 use Rattle.std.proofs.Math.Logic.{⊎_map}
 use Rattle.std.proofs.lemmas.Str.{IsUtf8-nil}
 use Rattle.std.specs.String.{string_bytes}
-use Rattle.gm_store.specs.Openings.{Opening}
+use Rattle.gm_store_parts.specs.Openings.{Opening}
 use Rattle.gomod_words.proofs.GivenWords.{all_readable}
 use Rattle.gomod_words.specs.Given.{AreGiven, IsUnreadableWords}
 use Rattle.gomod_words.specs.declared.usage.UsageFault.{UsageFault}
@@ -11,7 +11,7 @@ use Rattle.gomod_words.specs.declared.usage.UsageFault.TheVariants.{NoMemory, Li
 use Rattle.gomod_run.specs.Outcome.{Outcome, out_of_memory}
 use Rattle.gomod_run.specs.Program.{IsProgramOutcome, IsProgramStatus, IsWordsOutcome, usage_outcome, usage_error}
 use Rattle.gomod_run.specs.Written.{EndsAsStated, IsWritten}
-use Rattle.gm_store.specs.Taken.{SinkState}
+use Rattle.gm_store_parts.specs.Taken.{SinkState}
 
 -- an end may be stated more widely: if each outcome of the one kind is of the other, so is the end
 pub ends_weaken : {one other : Outcome → Type 0} {out out' report report' : SinkState} {status : ℕ}

@@ -1,6 +1,6 @@
 -- Files that are asked for in turn, each when it is needed.
 use Rattle.std.proofs.Common.{ℕ, List, Option}
-use Rattle.gm_store.specs.Asked.{Name, Reply, answer_in}
+use Rattle.gm_store_parts.specs.Asked.{Name, Reply, answer_in}
 use Rattle.gm_store_sums.specs.Sums.{Sums}
 use Rattle.gm_file.specs.Main.{Main}
 use Rattle.gm_graph.specs.Run.{AskedInTurn, LoadingNeeds, more, nothing}

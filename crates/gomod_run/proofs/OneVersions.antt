@@ -2,7 +2,7 @@
 use Rattle.std.proofs.Common.{◌≡◌, ◌⊎◌, ◌∙◌, ℕ, Bool, true, List, [], Option, Some, None, ap₂, refl, subst, sym, inl, inr}
 use Rattle.std.proofs.lemmas.Option.{same_Some}
 use Rattle.gm_name.specs.Path.{is_fetchable}
-use Rattle.gm_store.specs.Asked.{Name, Reply, bytes, bytes_in, list_file}
+use Rattle.gm_store_parts.specs.Asked.{Name, Reply, bytes, bytes_in, list_file}
 use Rattle.gm_store.specs.Latest.{IsLatest}
 use Rattle.gm_store.specs.Listed.{AreListed}
 use Rattle.gomod_run.specs.Outcome.{Outcome}

@@ -1,7 +1,7 @@
 -- How a query ends, by whether its two files are valid.
 use Rattle.std.proofs.Common.{◌≡◌, List, [], ◌∷◌, Option, true, inl, inr}
 use Rattle.std.proofs.lemmas.Bool.{false≢true}
-use Rattle.gm_store.specs.Asked.{Name}
+use Rattle.gm_store_parts.specs.Asked.{Name}
 use Rattle.gm_store_sums.specs.Sums.{Sums}
 use Rattle.gm_file.specs.Main.{Main}
 use Rattle.gm_graph.specs.declared.fault.Fault.{Fault}

@@ -9,7 +9,7 @@ use Rattle.gm_file.specs.Directives.{Lax, Strict, directives}
 use Rattle.gm_file.specs.Fields.{Dependency, replacement_of}
 use Rattle.gm_file.specs.Main.{Main, is_excluded, without_excluded, IsMainFile, replacement_in}
 use Rattle.gm_file.specs.declared.misreading.Misreading.TheVariants as misreading
-use Rattle.gm_store.specs.Asked.{Name, Reply, absent, bytes, mod_file, too_long}
+use Rattle.gm_store_parts.specs.Asked.{Name, Reply, absent, bytes, mod_file, too_long}
 use Rattle.gm_store_sums.specs.Hash.{file_hash}
 use Rattle.gm_store_sums.specs.Sums.{Sums, check_in}
 use Rattle.gm_store_sums.specs.declared.sum_table.Sum.{Sum}

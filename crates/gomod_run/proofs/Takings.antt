@@ -3,10 +3,10 @@ use Rattle.std.proofs.Common.{◌≡◌, ◌∙◌, ◌+◌, ◌-◌, ◌<◌, �
 use Rattle.std.proofs.Math.Seq.{take-append-add}
 use Rattle.std.proofs.lemmas.List.{take-append-le}
 use Rattle.std.specs.Io.KnownBytes.{Appends}
-use Rattle.gm_store.proofs.Appending.{appends_more, appends_none}
-use Rattle.gm_store.proofs.Counts.{cause_later, later_both}
-use Rattle.gm_store.specs.Taken.{AppendsSome, HasCause, SinkState, WritesWhatFits}
-use Rattle.gm_store.specs.declared.sinks.WriteFault.{WriteFault}
+use Rattle.gm_store_parts.proofs.Appending.{appends_more, appends_none}
+use Rattle.gm_store_parts.proofs.Counts.{cause_later, later_both}
+use Rattle.gm_store_parts.specs.Taken.{AppendsSome, HasCause, SinkState, WritesWhatFits}
+use Rattle.gm_store_parts.specs.declared.sinks.WriteFault.{WriteFault}
 use Rattle.gomod_run.specs.Taking.{FitsIn, Overflows, Took, TookAll, TookPrefix}
 
 -- ---- nothing

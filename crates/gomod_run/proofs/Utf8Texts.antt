@@ -9,8 +9,8 @@ use Rattle.std.specs.Str.{IsUtf8}
 use Rattle.gm_name.specs.Path.{IsPath, is_byte_of_path}
 use Rattle.gm_version.specs.Version.{IsVersion}
 use Rattle.gm_name.proofs.Bytes.{path-bytes}
-use Rattle.gm_store.specs.Asked.{Name, Reply}
-use Rattle.gm_store.specs.States.{StoreState}
+use Rattle.gm_store_parts.specs.Asked.{Name, Reply}
+use Rattle.gm_store_parts.specs.States.{StoreState}
 use Rattle.gm_store.proofs.Bytes.{IsAscii-version}
 use Rattle.gm_store_sums.specs.Sums.{Sums}
 use Rattle.gm_file.specs.Directives.{Folder, Module, Right}

@@ -1,9 +1,9 @@
 -- Runs of `versions` over a store, step by step.
 use Rattle.std.proofs.Common.{◌≡◌, ◌⊎◌, ◌∙◌, ◌++◌, ◌∷◌, ℕ, Bool, true, false, List, [], Option, Some, None, Result, Ok, Err, ap, ap₂, inl, inr, refl, subst, sym}
 use Rattle.gm_name.specs.Path.{is_fetchable}
-use Rattle.gm_store.specs.Asked.{IsLast, Name, Reply, answer_in, bytes, list_file, mod_file}
+use Rattle.gm_store_parts.specs.Asked.{IsLast, Name, Reply, answer_in, bytes, list_file, mod_file}
+use Rattle.gm_store_parts.specs.States.{HasServed, StoreState}
 use Rattle.gm_store.specs.Latest.{IsLatest}
-use Rattle.gm_store.specs.States.{HasServed, StoreState}
 use Rattle.gm_file.specs.Directives.{VersionInterval}
 use Rattle.gm_file.specs.Fields.{Dependency}
 use Rattle.gm_file.specs.Shown.{shown_of}

@@ -3,8 +3,8 @@ use Rattle.std.proofs.Common.{◌≡◌, ◌∙◌, ◌+◌, ◌<◌, ◌≤◌,
 use Rattle.std.proofs.lemmas.List.{flat_map_more}
 use Rattle.std.specs.List.{flat_map}
 use Rattle.std.specs.Prelude.{IsOk, OnOk, ◌↔◌}
-use Rattle.gm_store.specs.Taken.{SinkState}
-use Rattle.gm_store.specs.declared.sinks.WriteFault.{WriteFault}
+use Rattle.gm_store_parts.specs.Taken.{SinkState}
+use Rattle.gm_store_parts.specs.declared.sinks.WriteFault.{WriteFault}
 use Rattle.gomod_run.proofs.Takings.{part_of_longer, took_both, took_nothing, took_then_part}
 use Rattle.gomod_run.specs.Private.Giving.{IsGiven, IsEnded, WasGiven}
 use Rattle.gomod_run.specs.Taking.{Took, TookAll, TookPrefix}

@@ -2,8 +2,8 @@
 use Rattle.std.proofs.Common.{◌≡◌, ℕ, List, MatchResult, Result, Ok, Err, inl, inr, refl, subst}
 use Rattle.std.specs.Str.{IsUtf8}
 use Rattle.std.proofs.lemmas.Str.{IsUtf8-nil, IsUtf8-string_bytes}
-use Rattle.gm_store.specs.Taken.{SinkState}
-use Rattle.gm_store.specs.declared.sinks.WriteFault.{WriteFault}
+use Rattle.gm_store_parts.specs.Taken.{SinkState}
+use Rattle.gm_store_parts.specs.declared.sinks.WriteFault.{WriteFault}
 use Rattle.gomod_run.proofs.Takings.{took_nothing}
 use Rattle.gomod_run.specs.Outcome.{Outcome, code_of, text_outcome, report_outcome, report_status, report_text}
 use Rattle.gomod_run.specs.Taking.{Took, TookAll, TookPrefix}

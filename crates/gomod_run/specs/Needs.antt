@@ -1,8 +1,8 @@
 -- The files that a run asks a store for: each when the answers so far call for it. Which files `graph`, `list` and
 -- `chain` need is in Go Modules Reference, "Minimal version selection" and "Module graph pruning".
 use Rattle.std.specs.Prelude.{◌≡◌, ◌⊎◌, ◌++◌, ◌∷◌, ℕ, List, [], Option, Some, None}
-use Rattle.gm_store.specs.Asked.{Name, Reply, answer_in}
-use Rattle.gm_store.specs.States.{StoreState}
+use Rattle.gm_store_parts.specs.Asked.{Name, Reply, answer_in}
+use Rattle.gm_store_parts.specs.States.{StoreState}
 use Rattle.gm_store_sums.specs.Sums.{Sums}
 use Rattle.gm_file.specs.Main.{Main}
 use Rattle.gm_graph.specs.Run.{LoadingNeeds}

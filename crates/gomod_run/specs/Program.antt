@@ -2,13 +2,13 @@
 use Rattle.std.specs.Prelude.{◌≡◌, ◌≢◌, ◌⊎◌, ◌++◌, ◌∷◌, ℕ, Contains, List, [], Option, Some, None, Ok, Err, codes, if◌then◌else◌, is_some, option_map, ⊤}
 use Rattle.std.specs.Global.{Vec}
 use Rattle.std.specs.String.{string_bytes}
-use Rattle.gm_store.specs.Asked.{Name, Reply, list_file, reply_for, same_name}
+use Rattle.gm_store_parts.specs.Asked.{Name, Reply, list_file, reply_for, same_name}
+use Rattle.gm_store_parts.specs.Openings.{MayRead, Opening}
+use Rattle.gm_store_parts.specs.Proxies.{folders_in, marks_in}
+use Rattle.gm_store_parts.specs.declared.fallback.proxy_list.ProxyList.{ProxyList}
+use Rattle.gm_store_parts.specs.declared.reading.ReadFault.TheVariants.{Device}
 use Rattle.gm_store.specs.DiskAnswers.{MayAnswer}
-use Rattle.gm_store.specs.Openings.{MayRead, Opening}
-use Rattle.gm_store.specs.Proxies.{folders_in, marks_in}
 use Rattle.gm_store.specs.Relative.{IsFolderOf}
-use Rattle.gm_store.specs.declared.fallback.proxy_list.ProxyList.{ProxyList}
-use Rattle.gm_store.specs.declared.reading.ReadFault.TheVariants.{Device}
 use Rattle.gomod_words.specs.Given.{AreGiven, first_unreadable}
 use Rattle.gomod_words.specs.Usage.{AskFor, IsFaultOf, unreadable_text}
 use Rattle.gomod_words.specs.declared.usage.Command.{Command}

@@ -2,7 +2,7 @@
 -- the answers of a store: Go Modules Reference, "Minimal version selection", "go.mod files", "go.sum files".
 use Rattle.std.specs.Prelude.{◌≡◌, ◌<◌, ◌≤◌, ◌⊎◌, ℕ, List, [], ◌∷◌, length, Option, Some, None, ⊤}
 use Rattle.gm_file.specs.Directives.{Strict}
-use Rattle.gm_store.specs.Asked.{Name, Reply, names_in}
+use Rattle.gm_store_parts.specs.Asked.{Name, Reply, names_in}
 use Rattle.gm_store_sums.specs.Sums.{HasValidLines, IsFirstInvalid, ReadsAs, Sums}
 use Rattle.gm_file.specs.Main.{IsMainFile, Main}
 use Rattle.gm_file.specs.Misreading.{IsMisread}

@@ -5,7 +5,7 @@ use Rattle.std.specs.List.{flat_map}
 use Rattle.gm_name.specs.ModuleVersion.{ModuleVersion}
 use Rattle.gm_syntax_words.specs.declared.fault.SyntaxFault.{SyntaxFault}
 use Rattle.gm_syntax_words.specs.declared.fault.SyntaxFault.TheVariants as syntax
-use Rattle.gm_store.specs.Asked.{Name, mod_file, folder_file, list_file}
+use Rattle.gm_store_parts.specs.Asked.{Name, mod_file, folder_file, list_file}
 use Rattle.gm_graph_cache.specs.declared.cache.class.Class.{Class}
 use Rattle.gm_graph_cache.specs.declared.cache.class.Class.TheVariants.{Malformed}
 use Rattle.gm_file.specs.declared.misreading.Misreading.{Misreading}

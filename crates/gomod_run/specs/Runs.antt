@@ -1,8 +1,8 @@
 -- How a run of a command ends, given what was read and answered, and the files that it asks a store for.
 use Rattle.std.specs.Prelude.{◌≡◌, ◌++◌, ◌∷◌, ℕ, Bool, List, [], Option, false, true, drop, length}
 use Rattle.std.specs.Option.{option_copied}
-use Rattle.gm_store.specs.States.{HasServed, StoreState}
-use Rattle.gm_store.specs.Asked.{Name, Reply, answer_in}
+use Rattle.gm_store_parts.specs.States.{HasServed, StoreState}
+use Rattle.gm_store_parts.specs.Asked.{Name, Reply, answer_in}
 use Rattle.gm_graph.specs.Run.{AskedInTurn}
 use Rattle.gomod_run.specs.declared.queries.query.Query.{Query}
 use Rattle.gomod_run.specs.declared.queries.query.Query.TheVariants as query

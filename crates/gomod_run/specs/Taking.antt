@@ -1,8 +1,8 @@
 -- What a sink took of a text.
 use Rattle.std.specs.Prelude.{◌≡◌, ◌<◌, ◌≤◌, ◌-◌, ℕ, List, Option, Some, None, Result, Ok, Err, length, take, ⊤}
 use Rattle.std.specs.Io.KnownBytes.{Appends}
-use Rattle.gm_store.specs.Faults.{HasCountedFailure}
-use Rattle.gm_store.specs.Taken.{AppendsSome, SinkState}
+use Rattle.gm_store_parts.specs.Faults.{HasCountedFailure}
+use Rattle.gm_store_parts.specs.Taken.{AppendsSome, SinkState}
 
 -- a text of this length leaves this room, if room is known
 abbrev pub FitsIn : Option ℕ → Option ℕ → ℕ → Type 0

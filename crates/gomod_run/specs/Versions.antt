@@ -3,7 +3,7 @@
 use Rattle.std.specs.Prelude.{◌≡◌, ◌⊎◌, ◌++◌, ◌∷◌, ℕ, Bool, List, [], Option, Some, None, Result, Ok, Err, codes, true, false}
 use Rattle.std.specs.List.{join_with_byte}
 use Rattle.gm_name.specs.Path.{is_fetchable}
-use Rattle.gm_store.specs.Asked.{Name, Reply, absent, bytes, list_file, mod_file, too_long}
+use Rattle.gm_store_parts.specs.Asked.{Name, Reply, absent, bytes, list_file, mod_file, too_long}
 use Rattle.gm_store.specs.Latest.{IsLatest}
 use Rattle.gm_store.specs.Listed.{AreListed}
 use Rattle.gm_file.specs.Directives.{VersionInterval}

@@ -1,7 +1,7 @@
 -- What sinks hold after texts were written to them.
 use Rattle.std.specs.Prelude.{◌≡◌, ◌⊎◌, ℕ, List}
 use Rattle.std.specs.Str.{IsUtf8}
-use Rattle.gm_store.specs.Taken.{SinkState}
+use Rattle.gm_store_parts.specs.Taken.{SinkState}
 use Rattle.gomod_run.specs.Outcome.{OrNoMemory, Outcome}
 use Rattle.gomod_run.specs.Taking.{TookAll, TookPrefix}
 

@@ -1,8 +1,8 @@
 //! Asking a store for one file. A separate step, because a failing device ends a run with a report of its own.
 
 ghost use Rattle.std.specs.Prelude.{◌≡◌, None};
-ghost use Rattle.gm_store.specs.Asked.{answer_in, name_of};
-ghost use Rattle.gm_store.specs.States.{HasServed};
+ghost use Rattle.gm_store_parts.specs.Asked.{answer_in, name_of};
+ghost use Rattle.gm_store_parts.specs.States.{HasServed};
 ghost use Rattle.gomod_run.specs.Private.Asking.{IsAsked};
 
 use crate::reports::report::Report;

@@ -6,7 +6,7 @@ ghost use Rattle.std.specs.Option.{option_map};
 ghost use Rattle.std.specs.String.{string_bytes};
 ghost use Rattle.gomod_run.specs.Outcome.{code_of, report_outcome};
 ghost use Rattle.gomod_run.specs.Program.{CommandEnds};
-ghost use Rattle.gm_store.specs.Taken.{SinkState};
+ghost use Rattle.gm_store_parts.specs.Taken.{SinkState};
 ghost use Rattle.gomod_run.specs.Written.{EndsAsStated, IsWritten};
 ghost use Rattle.gomod_run.specs.Private.Stopped.{EndsOrStops};
 

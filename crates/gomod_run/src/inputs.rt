@@ -4,8 +4,8 @@
 ghost use Rattle.std.specs.Prelude.{◌≡◌, IfErr, IfOk, MatchResult, None, Ok, Option, Some, false};
 ghost use Rattle.std.specs.Option.{option_map};
 ghost use Rattle.std.specs.String.{string_bytes};
-ghost use Rattle.gm_store.specs.Openings.{MayRead};
-ghost use Rattle.gm_store.specs.declared.fallback.proxy_list.ProxyList.{ProxyList};
+ghost use Rattle.gm_store_parts.specs.Openings.{MayRead};
+ghost use Rattle.gm_store_parts.specs.declared.fallback.proxy_list.ProxyList.{ProxyList};
 ghost use Rattle.gomod_run.specs.Outcome.{OrNoMemory, report_outcome};
 ghost use Rattle.gomod_run.specs.Program.{FileGives, IsInput, CommandEnds, IsUnread, bytes_read, main_input, sums_input, versions_path};
 ghost use Rattle.gomod_run.specs.Runs.{is_query};

@@ -3,10 +3,10 @@
 ghost use Rattle.std.specs.Prelude.{◌≡◌, ℕ, IfErr, IfOk, None, Option, Some, [], codes};
 ghost use Rattle.std.specs.Global.{Vec};
 ghost use Rattle.std.specs.String.{string_bytes};
-ghost use Rattle.gm_store.specs.Asked.{Name, Reply};
+ghost use Rattle.gm_store_parts.specs.Asked.{Name, Reply};
+ghost use Rattle.gm_store_parts.specs.Memory.{held_at, pairs_of};
+ghost use Rattle.gm_store_parts.specs.Proxies.{folders_in, marks_in};
 ghost use Rattle.gm_store.specs.DiskAnswers.{MayAnswer};
-ghost use Rattle.gm_store.specs.Memory.{held_at, pairs_of};
-ghost use Rattle.gm_store.specs.Proxies.{folders_in, marks_in};
 ghost use Rattle.gm_store.specs.Views.{asked_by, refused_by};
 ghost use Rattle.gomod_run.specs.Outcome.{OrNoMemory, report_outcome};
 ghost use Rattle.gomod_run.specs.Program.{FileGives, IsFolderFor, IsInput, IsUnread, file_in_memory, list_input, versions_path};

@@ -2,7 +2,7 @@
 
 ghost use Rattle.std.specs.Prelude.{◌≡◌, [], drop};
 ghost use Rattle.std.specs.String.{string_bytes};
-ghost use Rattle.gm_store.specs.Taken.{SinkState};
+ghost use Rattle.gm_store_parts.specs.Taken.{SinkState};
 ghost use Rattle.gomod_run.specs.ChainQuery.{chain_text};
 ghost use Rattle.gomod_run.specs.GraphQuery.{graph_text};
 ghost use Rattle.gomod_run.specs.ListQuery.{list_text, up_to};

@@ -1,7 +1,7 @@
 //! Writing what a command ends with. All writing is in this file, so that the status after a failed sink is settled in
 //! one place.
 
-ghost use Rattle.gm_store.specs.Taken.{SinkState};
+ghost use Rattle.gm_store_parts.specs.Taken.{SinkState};
 ghost use Rattle.gomod_run.specs.Outcome.{code_of, ended_view, report_outcome, text_outcome};
 ghost use Rattle.gomod_run.specs.Written.{IsWritten};
 

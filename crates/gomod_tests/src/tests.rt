@@ -13,7 +13,7 @@ mod sinks;
 mod stores;
 
 ghost use Rattle.std.specs.Prelude.{◌≡◌, []};
-ghost use Rattle.gm_store.specs.Memory.{pairs_of};
+ghost use Rattle.gm_store_parts.specs.Memory.{pairs_of};
 
 use gm_name::{ModPath, ModVersion};
 use gm_store::{FileName, MemoryFiles};

@@ -6,8 +6,8 @@ use Rattle.std.specs.Result.{IsErrAnd}
 use Rattle.std.specs.String.{string_bytes}
 use Rattle.clap.specs.Walk.{Row, Text}
 use Rattle.gm_name.specs.Path.{IsPath}
-use Rattle.gm_store.specs.Proxies.{folders_in, folders_of}
-use Rattle.gm_store.specs.declared.fallback.proxy_list.ProxyList.{ProxyList}
+use Rattle.gm_store_parts.specs.Proxies.{folders_in, folders_of}
+use Rattle.gm_store_parts.specs.declared.fallback.proxy_list.ProxyList.{ProxyList}
 use Rattle.gomod_words.specs.Usage.{ArePlaces, AreRecognized, HasBadPath, HasBadProxy, HasFiles, IsCommand, IsOneFile, given, is_proxy, path_text, proxy_text}
 use Rattle.gomod_words.specs.Private.Usage.{IsEntriesFault, IsFaultWith, LacksPlaces}
 use Rattle.gomod_words.specs.declared.table.Argument.TheVariants.{Proxy}

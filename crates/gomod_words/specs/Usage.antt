@@ -15,8 +15,8 @@ use Rattle.clap.specs.Takes.{takes}
 use Rattle.clap.specs.declared.error.kind.ErrorKind.{ErrorKind}
 use Rattle.clap.specs.declared.error.kind.ErrorKind.TheVariants.{DisplayHelp, DisplayVersion}
 use Rattle.gm_name.specs.Path.{IsPath}
-use Rattle.gm_store.specs.Proxies.{folders_in, folders_of, is_folder, marks_in, marks_of}
-use Rattle.gm_store.specs.declared.fallback.proxy_list.ProxyList.{ProxyList}
+use Rattle.gm_store_parts.specs.Proxies.{folders_in, folders_of, is_folder, marks_in, marks_of}
+use Rattle.gm_store_parts.specs.declared.fallback.proxy_list.ProxyList.{ProxyList}
 use Rattle.gomod_words.specs.Dashed.{dashed_in}
 use Rattle.gomod_hints.specs.Hints.{IsHintOf}
 use Rattle.gomod_words.specs.Limits.{limit_of}

@@ -1,4 +1,4 @@
--- A copy from crates/gm_store/specs/Asked.antt, which tools/check/headline.py writes.
+-- A copy from crates/gm_store_parts/specs/Asked.antt, which tools/check/headline.py writes.
 use Rattle.std.specs.Prelude.{ℕ, Bool, false, ◌&&◌, if◌then◌else◌, List, [], ◌∷◌, Option, Some, None}
 use Rattle.std.specs.Str.{bytes_eq}
 

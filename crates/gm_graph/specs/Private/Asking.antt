@@ -1,7 +1,7 @@
 -- What a call asks a store for, and the names that are refused.
 use Rattle.std.specs.Prelude.{◌≡◌, ◌∷◌, ◌++◌, [], List, Option}
-use Rattle.gm_store.specs.Asked.{Name, Reply}
-use Rattle.gm_store.specs.States.{HasServed, StoreState}
+use Rattle.gm_store_parts.specs.Asked.{Name, Reply}
+use Rattle.gm_store_parts.specs.States.{HasServed, StoreState}
 use Rattle.gm_store_sums.specs.Sums.{Sums}
 use Rattle.gm_file.specs.Main.{Main}
 use Rattle.gm_graph.specs.Run.{AskedInTurn, IsDue, LoadingNeeds}

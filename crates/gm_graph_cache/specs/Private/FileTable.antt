@@ -4,7 +4,7 @@ use Rattle.std.specs.Map.{lookup}
 use Rattle.gm_name.specs.ModuleVersion.{ModuleVersion, module_at}
 use Rattle.gm_name_table.specs.OptionalPlaces.{no_place, place_in}
 use Rattle.gm_name_table.specs.declared.place.OptionalPlace.{OptionalPlace}
-use Rattle.gm_store.specs.Asked.{Name, name_of, same_name}
+use Rattle.gm_store_parts.specs.Asked.{Name, name_of, same_name}
 use Rattle.gm_graph_cache.specs.declared.cache.file_table.FileTable.{FileTable}
 use Rattle.gm_graph_cache.specs.declared.cache.summary.Kept.{Kept}
 use Rattle.gm_file.specs.Main.{Main, replacement_in}

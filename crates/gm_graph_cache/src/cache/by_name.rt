@@ -5,8 +5,8 @@
 
 ghost use Rattle.std.specs.Prelude.{◌≡◌, ◌≤◌, ◌+◌, ◌++◌, ◌<◌, IfOk, List, OnErr, OnOk, Err, length};
 ghost use Rattle.std.specs.Option.{option_map};
-ghost use Rattle.gm_store.specs.Asked.{Name, Reply, name_of};
-ghost use Rattle.gm_store.specs.States.{HasServed};
+ghost use Rattle.gm_store_parts.specs.Asked.{Name, Reply, name_of};
+ghost use Rattle.gm_store_parts.specs.States.{HasServed};
 ghost use Rattle.gm_graph_cache.specs.Asking.{AsksFor, StillLacks};
 ghost use Rattle.gm_graph_cache.specs.Lent.{lent_modules};
 ghost use Rattle.gm_graph_cache.specs.Places.{place_limit};

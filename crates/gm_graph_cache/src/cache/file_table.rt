@@ -5,7 +5,7 @@
 
 ghost use Rattle.std.specs.Prelude.{◌≡◌, ◌<◌, ◌≤◌, ℕ, Some, length};
 ghost use Rattle.gm_graph_cache.specs.Places.{place_among, place_limit};
-ghost use Rattle.gm_store.specs.Asked.{Name};
+ghost use Rattle.gm_store_parts.specs.Asked.{Name};
 
 use crate::cache::naming::right_name;
 use crate::cache::place_history::PlaceHistory;
@@ -36,7 +36,7 @@ pub(crate) struct FileTable {
 impl FileTable {
     ghost use Rattle.std.specs.Prelude.{if◌then◌else◌, ◌⊎◌, ◌++◌, ◌∷◌, [], IfOk, IfSome, List, None, OnErr, OnOk, slice_get};
     ghost use Rattle.std.specs.Option.{option_and_then, option_map, option_or};
-    ghost use Rattle.gm_store.specs.Asked.{name_of, same_name};
+    ghost use Rattle.gm_store_parts.specs.Asked.{name_of, same_name};
     ghost use Rattle.gm_graph_cache.specs.FileTable.{kept_at, place_of};
     ghost use Rattle.gm_graph_cache.specs.Private.FileTable.{PutsFile, IsNewFile, KeepsFiles, KeepsOthers, NotesFiles, NotesFor, ReachesAtMost, place_noted, replacing_place};
     ghost use Rattle.gm_file.specs.Main.{Main};

@@ -3,7 +3,7 @@
 ghost use Rattle.std.specs.Prelude.{◌≡◌, List, [], ◌∷◌};
 ghost use Rattle.std.specs.Borrow.{ftrue};
 ghost use Rattle.gm_name_table.specs.declared.place.OptionalPlace.{OptionalPlace};
-ghost use Rattle.gm_store.specs.Asked.{Name, name_of};
+ghost use Rattle.gm_store_parts.specs.Asked.{Name, name_of};
 
 use gm_name_table::OptionalPlace;
 use gm_store::FileName;

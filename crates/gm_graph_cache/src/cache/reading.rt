@@ -6,7 +6,7 @@ ghost use Rattle.gm_name_table.specs.Listed.{modules_of};
 ghost use Rattle.gm_file.specs.Directives.{Lax};
 ghost use Rattle.gm_file.specs.Misreading.{IsBytesFault};
 ghost use Rattle.std.specs.Option.{option_copied};
-ghost use Rattle.gm_store.specs.Asked.{IsWithinLimit, bytes, name_of, reply_of};
+ghost use Rattle.gm_store_parts.specs.Asked.{IsWithinLimit, bytes, name_of, reply_of};
 ghost use Rattle.gm_graph_cache.specs.Reading.{IsContentReading, IsFileReading, class_of_sum, sum_fault};
 ghost use Rattle.gm_graph_cache.specs.Summaries.{RetractsBy, reading_of};
 ghost use Rattle.gm_graph_cache.specs.Private.Summaries.{Grows, listed_reading};

@@ -2,10 +2,9 @@
 //!
 //! Tests use it to run the fallback without a file system, and with device failures where they want them.
 
-use crate::fallback::proxy_list::Mark;
 use crate::fallback::store::FallbackStore;
 use crate::folders::in_memory::FoldersInMemory;
-use crate::folders::memory_folder::MemoryFolder;
+use gm_store_parts::{Mark, MemoryFolder};
 use std::alloc::Global;
 
 /// A store over folders in memory.

@@ -1,12 +1,8 @@
 //! The GOPROXY fallback over folders of a file system.
 
-use crate::fallback::proxy_list::ProxyList;
 use crate::fallback::store::FallbackStore;
-use crate::file_system::FileSystem;
-use crate::files::Asks;
-use crate::files::keeping::Keeps;
-use crate::files::last_answer::LastAnswer;
 use crate::folders::on_disk::FoldersOnDisk;
+use gm_store_parts::{Asks, FileSystem, Keeps, LastAnswer, ProxyList};
 use std::alloc::Global;
 
 /// A store over folders of a file system. It keeps all answers.
@@ -17,9 +13,9 @@ pub type FolderReader<S> = FallbackStore<FoldersOnDisk<S>, LastAnswer>;
 
 impl<S: FileSystem, K: Keeps> FallbackStore<FoldersOnDisk<S>, K> {
     ghost use Rattle.std.specs.Prelude.{◌≡◌, [], Option, string_bytes};
-    ghost use Rattle.gm_store.specs.Asked.{Name, Reply};
+    ghost use Rattle.gm_store_parts.specs.Asked.{Name, Reply};
+    ghost use Rattle.gm_store_parts.specs.Proxies.{folders_in, marks_in};
     ghost use Rattle.gm_store.specs.DiskAnswers.{MayAnswer};
-    ghost use Rattle.gm_store.specs.Proxies.{folders_in, marks_in};
     ghost use Rattle.gm_store.specs.FoldersOnDisk.{main_folder, proxy_folders, system_of};
     ghost use Rattle.gm_store.specs.Views.{asked_by, faults_of, folders_under, lookups_of, marks_between, refused_by};
 

@@ -4,19 +4,15 @@
 //! proofs.
 
 ghost use Rattle.std.specs.Prelude.{◌≡◌, ◌<◌, length};
-ghost use Rattle.gm_store.specs.Asked.{Name, name_of};
+ghost use Rattle.gm_store_parts.specs.Asked.{Name, name_of};
 ghost use Rattle.gm_store.specs.Counted.{inner_folders};
 ghost use Rattle.gm_store.specs.FolderLookups.{marks_for};
 
-use crate::fallback::proxy_list::Mark;
 use crate::fallback::walk::walk;
-use crate::files::all_answers::AllAnswers;
-use crate::files::history::History;
-use crate::files::keeping::Keeps;
-use crate::files::{Answer, AskFault, Asks, FileName, Files};
 use crate::folders::FolderList;
 use crate::folders::buffers::Buffers;
 use crate::folders::counted::CountedFolders;
+use gm_store_parts::{AllAnswers, Answer, AskFault, Asks, FileName, Files, History, Keeps, Mark};
 use std::alloc::Global;
 
 /// A store over several folders. `MemoryFolders` has them in memory, `FolderFiles` and `FolderReader` on a device.
@@ -81,11 +77,11 @@ impl<F: FolderList, K: Keeps> FallbackStore<F, K> {
 
 impl<F: FolderList, K: Keeps> Asks for FallbackStore<F, K> {
     ghost use Rattle.std.specs.Prelude.{ℕ, [], None, Some, OnOk};
-    ghost use Rattle.gm_store.specs.Asked.{Reply, answer_in};
+    ghost use Rattle.gm_store_parts.specs.Asked.{Reply, answer_in};
+    ghost use Rattle.gm_store_parts.specs.Requests.{IsRequest};
+    ghost use Rattle.gm_store_parts.specs.States.{AddsAnswer};
+    ghost use Rattle.gm_store_parts.specs.Steps.{HasCounted, MayStop, counted_up};
     ghost use Rattle.gm_store.specs.FolderLookups.{MayAnswerFrom};
-    ghost use Rattle.gm_store.specs.Requests.{IsRequest};
-    ghost use Rattle.gm_store.specs.States.{AddsAnswer};
-    ghost use Rattle.gm_store.specs.Steps.{HasCounted, MayStop, counted_up};
     ghost use Rattle.gm_store.specs.Views.{counts_of, fallback_state as state_of, folders_under, marks_between};
 
     ghost state = { state_of };

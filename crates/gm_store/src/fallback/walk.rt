@@ -4,19 +4,16 @@
 
 ghost use Rattle.std.specs.Prelude.{◌≡◌, ◌<◌, ℕ, length, slice_get, Some, None, IfNone, IfOk, IfSome, false, true};
 ghost use Rattle.std.specs.Option.{option_map};
-ghost use Rattle.gm_store.specs.Asked.{IsWithinLimit, name_of, reply_of};
+ghost use Rattle.gm_store_parts.specs.Asked.{IsWithinLimit, name_of, reply_of};
+ghost use Rattle.gm_store_parts.specs.Faults.{HasCountedFailure};
+ghost use Rattle.gm_store_parts.specs.Steps.{HasCounted, MayStop, counted_up, has_failed, outcome_of, reply_in, result_of};
 ghost use Rattle.gm_store.specs.Counted.{counts_in, inner_folders};
-ghost use Rattle.gm_store.specs.Faults.{HasCountedFailure};
-ghost use Rattle.gm_store.specs.Steps.{HasCounted, MayStop, counted_up, has_failed, outcome_of, reply_in, result_of};
 
-use crate::fallback::proxy_list::Mark;
-use crate::fallback::step::{Next, step};
-use crate::files::{Answer, FileName};
 use crate::folders::FolderList;
 use crate::folders::buffers::Buffers;
 use crate::folders::counted::CountedFolders;
-use crate::looked::Looked;
 use gm_name::NoMemory;
+use gm_store_parts::{Answer, FileName, Looked, Mark, Next, step};
 
 /// Looks into the folders in turn, and returns the answer of the one at which `step` stops, or `None` if the
 /// device failed there. `marks` has the marks between the folders.

@@ -4,13 +4,12 @@
 
 ghost use Rattle.std.specs.Prelude.{◌≡◌, ◌∷◌, []};
 ghost use Rattle.std.specs.List.{count_by};
-ghost use Rattle.gm_store.specs.Steps.{counted_up, has_failed, result_of};
+ghost use Rattle.gm_store_parts.specs.Steps.{counted_up, has_failed, result_of};
 
-use crate::files::FileName;
 use crate::folders::FolderList;
 use crate::folders::buffers::Buffers;
-use crate::looked::Looked;
 use gm_name::NoMemory;
+use gm_store_parts::{FileName, Looked};
 
 /// Folders, and how often they were looked into. Counts saturate.
 #[derive(Drop)]
@@ -25,9 +24,9 @@ pub struct CountedFolders<F> {
 
 impl<F: FolderList> CountedFolders<F> {
     ghost use Rattle.std.specs.Prelude.{◌<◌, IfOk, OnErr};
-    ghost use Rattle.gm_store.specs.Asked.{IsWithinLimit, name_of};
+    ghost use Rattle.gm_store_parts.specs.Asked.{IsWithinLimit, name_of};
+    ghost use Rattle.gm_store_parts.specs.Steps.{AreCounted, reply_in};
     ghost use Rattle.gm_store.specs.Counted.{counts_in, inner_folders};
-    ghost use Rattle.gm_store.specs.Steps.{AreCounted, reply_in};
 
     /// Folders that were not looked into yet.
     pub(crate) fn new(folders: F) -> CountedFolders<F>

@@ -2,12 +2,10 @@
 //!
 //! They answer like folders of a file system, so a test in memory tells how the real fallback behaves.
 
-use crate::files::FileName;
 use crate::folders::FolderList;
 use crate::folders::buffers::Buffers;
-use crate::folders::memory_folder::MemoryFolder;
-use crate::looked::Looked;
 use gm_name::NoMemory;
+use gm_store_parts::{FileName, Looked, MemoryFolder};
 
 /// Folders in memory: the proxy folders, and the folder beside the main file.
 #[derive(Drop)]

@@ -4,13 +4,13 @@
 //! main file's folder (Go Modules Reference, `replace` directive).
 
 ghost use Rattle.std.specs.Prelude.{◌≡◌, ◌<◌, ◌++◌, ℕ, List, OnOk, length, map, string_bytes};
-ghost use Rattle.gm_store.specs.Asked.{name_of};
+ghost use Rattle.gm_store_parts.specs.Asked.{name_of};
 ghost use Rattle.gm_store.specs.Placed.{is_absolute, lookup_path_text, placed_text};
 ghost use Rattle.gm_store.specs.FolderLookups.{count_for};
 
-use crate::files::FileName;
 use crate::folders::relative_path::{push_folder, push_relative};
 use gm_name::NoMemory;
+use gm_store_parts::FileName;
 
 /// Sets a text to the path that is opened to look up a name in folder number `folder`, counted from 0.
 ///

@@ -1,13 +1,10 @@
 //! The folders of a fallback store on a file system.
 
-use crate::file_system::FileSystem;
-use crate::files::FileName;
 use crate::folders::FolderList;
 use crate::folders::buffers::Buffers;
 use crate::folders::lookup_paths::set_lookup_path;
-use crate::folders::lookup_result::opened_result;
-use crate::looked::Looked;
 use gm_name::NoMemory;
+use gm_store_parts::{FileName, FileSystem, Looked, opened_result};
 use std::alloc::Global;
 
 /// Folders of a file system: the main file's folder, and the proxy folders.
@@ -25,9 +22,9 @@ pub struct FoldersOnDisk<S: FileSystem> {
 
 impl<S: FileSystem> FolderList for FoldersOnDisk<S> {
     ghost use Rattle.std.specs.Prelude.{length};
+    ghost use Rattle.gm_store_parts.specs.Openings.{MayLookUp};
     ghost use Rattle.gm_store.specs.FolderLookups.{count_for};
     ghost use Rattle.gm_store.specs.FoldersOnDisk.{main_folder, proxy_folders, system_of};
-    ghost use Rattle.gm_store.specs.Openings.{MayLookUp};
     ghost use Rattle.gm_store.specs.Placed.{lookup_path_text};
 
     ghost count_for = { λ places name. count_for (length places.proxies.items) name };

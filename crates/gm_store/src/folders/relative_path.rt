@@ -3,11 +3,11 @@
 //! Paths are escaped, so that they don't depend on whether a file system distinguishes upper and lower case.
 
 ghost use Rattle.std.specs.Prelude.{◌≡◌, ◌++◌, ℕ, List, IfOk, OnOk, string_bytes};
-ghost use Rattle.gm_store.specs.Asked.{list_file, mod_file, name_of};
+ghost use Rattle.gm_store_parts.specs.Asked.{list_file, mod_file, name_of};
 ghost use Rattle.gm_store.specs.Relative.{LeadsBelow, StaysBelow, below, ends_in_slash, relative_text};
 
-use crate::files::FileName;
 use gm_name::{ModPath, ModVersion, NoMemory, push_escaped};
+use gm_store_parts::FileName;
 use std::alloc::Global;
 
 /// The room that is made for a path at first, in bytes. Most paths are shorter, and take one allocation.

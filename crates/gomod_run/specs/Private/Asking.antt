@@ -1,7 +1,7 @@
 -- The results of one ask.
 use Rattle.std.specs.Prelude.{◌≡◌, ◌⊎◌, ◌++◌, ◌∷◌, [], Result, Ok, Err}
-use Rattle.gm_store.specs.Asked.{Name, Reply}
-use Rattle.gm_store.specs.States.{StoreState}
+use Rattle.gm_store_parts.specs.Asked.{Name, Reply}
+use Rattle.gm_store_parts.specs.States.{StoreState}
 use Rattle.gomod_run.specs.Outcome.{Outcome, failure_outcome, out_of_memory, report_outcome}
 use Rattle.gomod_run.specs.Reports.{device_line}
 use Rattle.gomod_run.specs.declared.reports.report.Report.{Report}

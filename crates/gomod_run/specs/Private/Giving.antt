@@ -1,6 +1,6 @@
 -- Texts on their way to a sink through a buffer.
 use Rattle.std.specs.Prelude.{◌≡◌, ◌++◌, ℕ, List, Result, Ok, Err}
-use Rattle.gm_store.specs.Taken.{SinkState}
+use Rattle.gm_store_parts.specs.Taken.{SinkState}
 use Rattle.gomod_run.specs.Taking.{TookAll, TookPrefix}
 
 -- since the sink was in the state `before`, this text was given: the sink took it, but for what waits in the buffer

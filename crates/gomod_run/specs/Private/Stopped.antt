@@ -1,6 +1,6 @@
 -- How a run ends that may be stopped before it begins.
 use Rattle.std.specs.Prelude.{◌≡◌, Result, Ok, Err}
-use Rattle.gm_store.specs.Taken.{SinkState}
+use Rattle.gm_store_parts.specs.Taken.{SinkState}
 use Rattle.gomod_run.specs.Outcome.{OrNoMemory, Outcome, code_of, report_outcome}
 use Rattle.gomod_run.specs.declared.reports.report.Report.{Report}
 use Rattle.gomod_run.specs.declared.reports.status.Status.{Status}

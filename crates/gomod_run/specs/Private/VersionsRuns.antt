@@ -2,9 +2,9 @@
 use Rattle.std.specs.Prelude.{◌≡◌, ◌++◌, ◌∷◌, ℕ, Bool, List, [], None, true}
 use Rattle.gm_name.specs.Path.{is_fetchable}
 use Rattle.gm_graph.specs.Run.{AskedInTurn}
-use Rattle.gm_store.specs.Asked.{Name, Reply, answer_in, bytes, list_file}
+use Rattle.gm_store_parts.specs.Asked.{Name, Reply, answer_in, bytes, list_file}
+use Rattle.gm_store_parts.specs.States.{StoreState}
 use Rattle.gm_store.specs.Listed.{AreListed}
-use Rattle.gm_store.specs.States.{StoreState}
 use Rattle.gomod_run.specs.Outcome.{Outcome, failure_outcome, out_of_memory}
 use Rattle.gomod_run.specs.Reports.{device_line}
 use Rattle.gomod_run.specs.Versions.{IsRefusedList, VersionsEnds, VersionsNeed}

@@ -3,7 +3,7 @@
 
 ghost use Rattle.std.specs.Prelude.{◌++◌, codes};
 ghost use Rattle.std.specs.List.{flat_map};
-ghost use Rattle.gm_store.specs.Asked.{name_of};
+ghost use Rattle.gm_store_parts.specs.Asked.{name_of};
 ghost use Rattle.gomod_run.specs.Private.Giving.{IsGiven};
 ghost use Rattle.gomod_run.specs.Outcome.{report_text};
 ghost use Rattle.gomod_run.specs.Reports.{cannot_read_line, device_line, fault_line, faults_text, list_line, numbered_line};

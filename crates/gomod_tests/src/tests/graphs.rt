@@ -3,8 +3,8 @@
 
 ghost use Rattle.std.specs.Option.{option_map};
 ghost use Rattle.std.specs.Prelude.{◌<◌};
-ghost use Rattle.gm_store.specs.Asked.{name_of};
-ghost use Rattle.gm_store.specs.Memory.{pairs_of};
+ghost use Rattle.gm_store_parts.specs.Asked.{name_of};
+ghost use Rattle.gm_store_parts.specs.Memory.{pairs_of};
 ghost use Rattle.gm_graph_cache.specs.Cached.{Knows, KnowsLender, file_count};
 ghost use Rattle.gm_graph_cache.specs.Places.{place_limit};
 

@@ -1,7 +1,7 @@
 use Rattle.std.proofs.Common.{◌∙◌, Err, append-nil, refl, sym, ap}
 use Rattle.std.specs.Option.{option_copied}
-use Rattle.gm_store.specs.Asked.{name_of}
-use Rattle.gm_store.proofs.Serving.{nothing_served}
+use Rattle.gm_store_parts.specs.Asked.{name_of}
+use Rattle.gm_store_parts.proofs.Serving.{nothing_served}
 use Rattle.gm_graph_cache.specs.Refusals.{refused_names}
 use Rattle.gm_graph.specs.Run.{nothing}
 use Rattle.gm_graph.proofs.Dues.{refused_same}

@@ -1,5 +1,5 @@
-use Rattle.gm_store.specs.Asked.{name_of}
-use Rattle.gm_store.proofs.Serving.{request_served}
+use Rattle.gm_store_parts.specs.Asked.{name_of}
+use Rattle.gm_store_parts.proofs.Serving.{request_served}
 use Rattle.gomod_run.proofs.asking.ask_for.Goals as goal
 
 pub returns-in-Ok-clause-served : goal.returns-in-Ok-clause-served

@@ -1,5 +1,5 @@
 use Rattle.std.proofs.Common.{◌∙◌, None, inl, inr, refl}
-use Rattle.gm_store.specs.Memory.{memory_files_state}
+use Rattle.gm_store_parts.specs.Memory.{memory_files_state}
 use Rattle.gomod_run.specs.Program.{no_list, runs, versions_path}
 use Rattle.gomod_run.specs.Runs.{answers_between}
 use Rattle.gomod_run.proofs.Endings.{ends_weaken}

@@ -1,7 +1,7 @@
 use Rattle.std.proofs.Common.{◌≡◌, ◌∙◌, ap, false, inr, refl, rules, sym}
 use Rattle.std.proofs.lemmas.Result.{err_from_is_err_and}
 use Rattle.gm_name.specs.Path.{is_fetchable}
-use Rattle.gm_store.specs.Asked.{list_file, reply_of}
+use Rattle.gm_store_parts.specs.Asked.{list_file, reply_of}
 use Rattle.gomod_run.specs.Private.VersionsRuns.{IsListAnswered}
 use Rattle.gomod_run.proofs.VersionsSteps.{last_answer, list_alone, listed_memory, no_list_run, unfetchable_run, unlisted_run}
 use Rattle.gomod_run.proofs.versions.list_of.Given.{Over}

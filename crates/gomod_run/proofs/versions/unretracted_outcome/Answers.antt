@@ -1,7 +1,7 @@
 use Rattle.std.proofs.Common.{inr, refl}
 use Rattle.std.proofs.lemmas.Result.{err_from_is_err_and}
 use Rattle.gm_file.specs.Views.{interval_views}
-use Rattle.gm_store.specs.Asked.{mod_file, reply_of}
+use Rattle.gm_store_parts.specs.Asked.{mod_file, reply_of}
 use Rattle.gomod_run.specs.Private.Asking.{IsAnsweredAsk}
 use Rattle.gomod_run.proofs.VersionsSteps.{file_faulty, file_memory, file_unanswered, file_valid, last_answer, shown_run}
 use Rattle.gomod_run.proofs.versions.unretracted_outcome.Given.{Over}

@@ -1,4 +1,4 @@
-use Rattle.gm_store.proofs.Serving.{served_both}
+use Rattle.gm_store_parts.proofs.Serving.{served_both}
 use Rattle.gomod_run.specs.Private.VersionsRuns.{IsVersionsRun}
 use Rattle.gomod_run.proofs.PassedOn.{no_memory, passed}
 use Rattle.gomod_run.proofs.VersionsSteps.{file_unasked, listed_memory}

@@ -1,6 +1,6 @@
 use Rattle.std.proofs.Common.{◌≡◌, ◌∙◌, [], ℕ, Option, Some, ap, refl, sym}
 use Rattle.std.proofs.lemmas.Option.{get_or_from_slice_get, slice_get_within}
-use Rattle.gm_store.specs.Asked.{name_of}
+use Rattle.gm_store_parts.specs.Asked.{name_of}
 use Rattle.gm_graph_cache.specs.declared.cache.load_fault.LoadFault.TheVariants as load
 use Rattle.gm_graph_cache.specs.Asking.{AsksOne, IsAskableFile}
 use Rattle.gm_graph_cache.specs.Refusals.{refused_names}

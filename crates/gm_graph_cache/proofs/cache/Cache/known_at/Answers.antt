@@ -1,6 +1,6 @@
 use Rattle.std.proofs.Common.{◌≡◌, ◌∙◌, ◌∷◌, [], ℕ, Err, None, Option, ap, arith, length, refl, sym}
-use Rattle.gm_store.specs.Asked.{Name, name_of}
-use Rattle.gm_store.specs.Requests.{refused_for}
+use Rattle.gm_store_parts.specs.Asked.{Name, name_of}
+use Rattle.gm_store_parts.specs.Requests.{refused_for}
 use Rattle.gm_graph_cache.specs.declared.cache.file_table.FileTable.{FileTable}
 use Rattle.gm_graph_cache.specs.declared.cache.summary.Kept.{Kept}
 use Rattle.gm_graph_cache.specs.Asking.{IsAskableFile}

@@ -1,7 +1,7 @@
 use Rattle.std.proofs.Common.{◌∙◌, ap, arith, refl, subst, sym}
-use Rattle.gm_store.specs.Asked.{name_of, reply_of}
+use Rattle.gm_store_parts.specs.Asked.{name_of, reply_of}
+use Rattle.gm_store_parts.specs.Steps.{Counts, HasCounted, reply_in, result_of, step_of}
 use Rattle.gm_store.specs.Counted.{counts_in, inner_folders}
-use Rattle.gm_store.specs.Steps.{Counts, HasCounted, reply_in, result_of, step_of}
 use Rattle.std.specs.Option.{option_map}
 use Rattle.gm_store.proofs.Limits.{same_limit}
 use Rattle.gm_store.proofs.Walks.{walk_outcome, fail_counts, none_passed, HasPassed-one_more, passed_counts, stop_counts, unanswered, walk_ends}

@@ -1,5 +1,5 @@
 use Rattle.std.proofs.Common.{◌-◌, ◌≡◌, length}
-use Rattle.gm_store.specs.Asked.{name_of}
+use Rattle.gm_store_parts.specs.Asked.{name_of}
 use Rattle.gm_store.specs.Counted.{counts_in, inner_folders}
 use Rattle.gm_store.proofs.Walks.{HasPassed}
 use Rattle.gm_store.proofs.fallback.walk.walk.Given as goal

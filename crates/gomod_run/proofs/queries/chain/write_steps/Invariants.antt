@@ -1,5 +1,5 @@
 use Rattle.std.proofs.Common.{[], Ok, take}
-use Rattle.gm_store.specs.declared.sinks.WriteFault.{WriteFault}
+use Rattle.gm_store_parts.specs.declared.sinks.WriteFault.{WriteFault}
 use Rattle.gomod_run.specs.ChainQuery.{chain_text}
 use Rattle.gomod_run.specs.Private.Giving.{IsGiven}
 use Rattle.gomod_run.proofs.queries.chain.write_steps.Given as goal

@@ -1,6 +1,6 @@
 use Rattle.std.proofs.Common.{[], Ok, take}
 use Rattle.std.specs.List.{flat_map}
-use Rattle.gm_store.specs.declared.sinks.WriteFault.{WriteFault}
+use Rattle.gm_store_parts.specs.declared.sinks.WriteFault.{WriteFault}
 use Rattle.gomod_run.specs.Private.Giving.{IsGiven}
 use Rattle.gomod_run.proofs.WrittenLines.{row_line}
 use Rattle.gomod_run.proofs.queries.list.write_rows.Given as goal

@@ -1,5 +1,5 @@
 use Rattle.std.specs.Option.{option_map}
-use Rattle.gm_store.specs.Asked.{name_of}
+use Rattle.gm_store_parts.specs.Asked.{name_of}
 use Rattle.gm_graph_cache.proofs.Named.{lender_still}
 use Rattle.gm_graph_cache.specs.Turns.{turn}
 use Rattle.gm_graph_cache.specs.declared.cache.depth.Depth.TheVariants.{Deep}

@@ -1,5 +1,5 @@
 use Rattle.std.proofs.Common.{◌∙◌}
-use Rattle.gm_store.specs.Asked.{name_of}
+use Rattle.gm_store_parts.specs.Asked.{name_of}
 use Rattle.gm_graph_cache.proofs.Keeping.{any_err}
 use Rattle.gm_graph_cache.proofs.PuttingPlaces.{file_added, files_kept, place_itself}
 use Rattle.gm_graph_cache.proofs.cache.file_table.FileTable.add.Goals as goal

@@ -1,5 +1,5 @@
 use Rattle.std.proofs.Common.{refl, ◌≡◌, ◌∙◌, ◌∷◌, List, ap, arith, length}
-use Rattle.gm_store.specs.Asked.{Name, name_of}
+use Rattle.gm_store_parts.specs.Asked.{Name, name_of}
 use Rattle.gm_graph_cache.proofs.Keeping.{any_err}
 use Rattle.gm_graph_cache.proofs.PuttingPlaces.{notes_kept, notes_put, within_put}
 use Rattle.gm_name_table.specs.declared.place.OptionalPlace.{OptionalPlace}

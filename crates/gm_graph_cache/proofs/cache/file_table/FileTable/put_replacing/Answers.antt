@@ -1,6 +1,6 @@
 use Rattle.std.proofs.Common.{◌∙◌, sym}
-use Rattle.gm_store.proofs.NameOrder.{found_by}
-use Rattle.gm_store.specs.Asked.{name_of}
+use Rattle.gm_store_parts.proofs.NameOrder.{found_by}
+use Rattle.gm_store_parts.specs.Asked.{name_of}
 use Rattle.gm_graph_cache.proofs.PuttingPlaces.{none_set, replacing_set}
 use Rattle.gm_graph_cache.proofs.cache.file_table.FileTable.put_replacing.Goals as goal
 

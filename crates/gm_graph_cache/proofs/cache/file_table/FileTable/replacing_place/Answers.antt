@@ -1,7 +1,7 @@
 use Rattle.std.proofs.Common.{◌∙◌, ap}
 use Rattle.std.specs.Option.{option_and_then}
 use Rattle.gm_name_table.specs.OptionalPlaces.{place_in}
-use Rattle.gm_store.proofs.NameOrder.{found_by}
+use Rattle.gm_store_parts.proofs.NameOrder.{found_by}
 use Rattle.gm_graph_cache.proofs.cache.file_table.FileTable.replacing_place.Goals as goal
 
 pub returns-in-None : goal.returns-in-None

@@ -16,8 +16,8 @@ use denote.Triple.Walked.{Stays, stay_dropped, Goes-dropped, walk_of, says, ends
 use Rattle.gm_graph_cache.specs.contracts.cache.place_history.PlaceHistory.with as f
 use Rattle.gm_graph_cache.specs.contracts.cache.place_history.PlaceHistory as PlaceHistory
 use Rattle.gm_name_table.specs.contracts.place.OptionalPlace as OptionalPlace
-use Rattle.gm_store.specs.Asked.{name_of}
-use Rattle.gm_store.specs.contracts.files.FileName as FileName
+use Rattle.gm_store_parts.specs.Asked.{name_of}
+use Rattle.gm_store_parts.specs.contracts.files.FileName as FileName
 use Rattle.gm_graph_cache.specs.declared.cache.place_history.PlaceHistory.{PlaceHistory as Value}
 use Rattle.gm_name.proofs.Empty.{empty, empty_made}
 use Rattle.gm_graph_cache.proofs.cache.place_history.PlaceHistory.with.Statement.{statement}

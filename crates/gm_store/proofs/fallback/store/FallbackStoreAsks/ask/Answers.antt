@@ -1,10 +1,10 @@
 use Rattle.std.proofs.Common.{◌∙◌, List, Some, None, ap, arith, refl, subst}
-use Rattle.gm_store.specs.Asked.{name_of, reply_of}
+use Rattle.gm_store_parts.specs.Asked.{name_of, reply_of}
+use Rattle.gm_store_parts.specs.Steps.{HasCounted, MayStop}
+use Rattle.gm_store_parts.specs.declared.fallback.proxy_list.Mark.{Mark}
+use Rattle.gm_store_parts.proofs.Counts.{count_rises, counted_rises}
 use Rattle.gm_store.specs.Counted.{counts_in, inner_folders}
 use Rattle.gm_store.specs.FolderLookups.{MayAnswerFrom, marks_for}
-use Rattle.gm_store.specs.Steps.{HasCounted, MayStop}
-use Rattle.gm_store.specs.declared.fallback.proxy_list.Mark.{Mark}
-use Rattle.gm_store.proofs.Counts.{count_rises, counted_rises}
 use Rattle.gm_store.proofs.Requesting.{request_answered, request_refused, request_starved}
 use Rattle.gm_store.proofs.fallback.store.FallbackStoreAsks.ask.Goals as goal
 
