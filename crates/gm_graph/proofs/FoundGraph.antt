@@ -16,7 +16,7 @@ use Rattle.gm_graph.specs.declared.findings.Findings.{Findings}
 use Rattle.gm_graph.specs.declared.worklist.Worklist.{Worklist}
 use Rattle.gm_graph_cache.specs.Cached.{ArePartsOf, module_numbered}
 use Rattle.gm_graph.specs.Private.Findings.{WasVisited, place_at}
-use Rattle.gm_graph.specs.Private.Gathering.{AreFaultsOf, AreFilePlaces, HasFaultOf, fault, is_in_places, gathered_sources, steps_by}
+use Rattle.gm_graph.specs.Private.Gathering.{AreFaultsOf, AreFilePlaces, HasFaultOf, fault, gathered_sources, steps_by}
 use Rattle.gm_graph.specs.Run.{AreFaults, IsEdge, IsFault, IsOpened}
 use Rattle.gm_graph_cache.specs.Sayings.{Requires, Run, Says}
 use Rattle.gm_graph.specs.Private.Visiting.{IsOpenedIn}
@@ -26,7 +26,7 @@ use Rattle.gm_graph_select.specs.declared.step.Step.{Step}
 use Rattle.gm_graph_select.specs.declared.step.Step.TheVariants.{Main as FromMain, Of}
 use Rattle.gm_graph_select.specs.Adjacency.{StepEdges, edges_of, left_by, list_at, sources_of as steps_left, step_edges, step_with}
 use Rattle.gm_graph_select.specs.Graph.{edge}
-use Rattle.gm_graph.proofs.Gathered.{each_source, file_source, lists_by, main_source, noted_has, source_there, used_list}
+use Rattle.gm_graph.proofs.Gathered.{each_source, file_source, lists_by, main_source, own_list, source_there}
 use Rattle.gm_graph.proofs.RunLemmas.{value_of}
 use Rattle.gm_graph_cache.proofs.SharedLists.{own_there}
 use Rattle.gm_graph_select.proofs.RankedLists.{edges_each, edges_only, from_mapped, in_mapped}
@@ -46,7 +46,7 @@ module _ {run : Run} {cache : Cache} {worklist : Worklist} {findings : Findings}
   steps = steps_by parts places
 
   abbrev lists : List (List ℕ)
-  lists = lists_by parts places
+  lists = lists_by parts
 
   -- The numbers are those of modules, and the places those of files.
   pub found_places : AreFilePlaces parts places
@@ -77,8 +77,7 @@ module _ {run : Run} {cache : Cache} {worklist : Worklist} {findings : Findings}
       let own = own_there cache.files.files.items place sound.span sound.own in
       let next : place + 1 ≡ suc place = omega arith in
       rw next
-      (ap (modules_at modules) (used_list parts.numbers.items (is_in_places places) parts.first (own_spans parts.files.items) place sound.span
-      (noted_has places number place e) (rw are.files own))
+      (ap (modules_at modules) (own_list parts.numbers.items parts.first (own_spans parts.files.items) place sound.span (rw are.files own))
       ∙ part_as _ _ _ _ sound.span.start sound.span.end are.modules are.numbers
       ∙ opened.lists (module_numbered cache number) place sound)
 

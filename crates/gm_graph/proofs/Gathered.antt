@@ -1,12 +1,9 @@
 -- What was found, as sources and as the spans of lists.
-use Rattle.std.proofs.Common.{◌≡◌, ◌∙◌, ◌≤◌, ◌<◌, ◌+◌, ◌-◌, ◌||◌, ◌++◌, ◌∷◌, [], ℕ, zero, suc, Bool, true, false, List, Option, None, Some, Contains, ap, append_assoc, arith, drop, get_or, inl, inr, length, refl, sym, add-zero, zero-add}
-use Rattle.std.specs.Prelude.{◌==◌, slice_get}
+use Rattle.std.proofs.Common.{◌≡◌, ◌∙◌, ◌≤◌, ◌<◌, ◌+◌, ◌-◌, ◌++◌, ◌∷◌, [], ℕ, zero, suc, false, List, Option, None, Some, All, Contains, append_assoc, arith, drop, get_or, length, refl, sym, add-zero, zero-add}
+use Rattle.std.specs.Prelude.{slice_get}
 use Rattle.std.specs.List.{AllByRecursion, IsDistinct, between}
 use Rattle.std.proofs.Math.Seq.{drop-cons}
-use Rattle.std.proofs.lemmas.Bool.{cases_Bool, eq-eqb, eqb-true, false≢true, or_cases}
-use Rattle.std.proofs.lemmas.List.{get_or_default}
-use Rattle.std.proofs.lemmas.List.Edits.{between_none}
-use Rattle.std.proofs.lemmas.List.Elements.{All-drop, All-map, All-take}
+use Rattle.std.proofs.lemmas.List.Elements.{All-drop, All-map, All-take, Contains-get_or}
 use Rattle.std.proofs.lemmas.Map.Keys.{apart_from_distinct}
 use Rattle.std.proofs.lemmas.Option.{same_Some}
 use Rattle.gm_name.specs.ModuleVersion.{ModuleVersion, module_at, pair_eq, pair_ties}
@@ -15,15 +12,15 @@ use Rattle.gm_graph_cache.specs.declared.cache.parts.CacheParts.{CacheParts}
 use Rattle.gm_graph_cache.specs.declared.cache.summary.Kept.{Kept}
 use Rattle.gm_graph_cache.specs.declared.cache.summary.ListSpan.{ListSpan}
 use Rattle.gm_graph.specs.Private.Findings.{place_at}
-use Rattle.gm_graph.specs.Private.Gathering.{AreFilePlaces, is_in_places, sources_from, gathered_sources, span_after, spans_from, spans_of, steps_by}
+use Rattle.gm_graph.specs.Private.Gathering.{AreFilePlaces, sources_from, gathered_sources, span_after, spans_from, spans_of, steps_by}
 use Rattle.gm_graph_cache.specs.Private.Summaries.{AreSpansInOrder}
 use Rattle.gm_graph_select.specs.declared.adjacency.Source.{Source}
 use Rattle.gm_graph_select.specs.declared.number_lists.Span.{Span}
-use Rattle.gm_graph_select.specs.Adjacency.{AreUsed, HaveNumbers, IsBelow, IsNumbered, StepEdges, by_step, left_by, list_at, same_step, step_edges}
+use Rattle.gm_graph_select.specs.Adjacency.{IsBelow, StepEdges, by_step, left_by, list_at, same_step}
 use Rattle.gm_graph_select.specs.Spans.{AreSpansApart, lists_at, part_at}
 use Rattle.gm_graph_select.specs.declared.step.Step.TheVariants.{Main, Of}
 use Rattle.gm_graph_select.specs.StepOrder.{step_eq}
-use Rattle.gm_graph_cache.proofs.Ordered.{own_spans, order_from}
+use Rattle.gm_graph_cache.proofs.Ordered.{own_spans}
 
 -- ---- the sources
 
@@ -127,25 +124,15 @@ pub order_first : (from : ℕ) (own : Option ListSpan) (spans : List (Option Lis
 order_first from (Some span) spans to are = (are.0, are.1, order_ends span.end spans to are.2)
 order_first from None spans to are = order_ends from spans to are
 
-pub order_rest : (from : ℕ) (used : Bool) (own : Option ListSpan) (spans : List (Option ListSpan)) (to : ℕ)
-    → AreSpansInOrder from (own ∷ spans) to → AreSpansInOrder (span_after from used own).end spans to
-order_rest from true (Some span) spans to are = are.2
-order_rest from false (Some span) spans to are = order_from from span.end spans to (omega (arith, are.0, are.1)) are.2
-order_rest from true None spans to are = are
-order_rest from false None spans to are = are
+pub order_rest : (from : ℕ) (own : Option ListSpan) (spans : List (Option ListSpan)) (to : ℕ)
+    → AreSpansInOrder from (own ∷ spans) to → AreSpansInOrder (span_after from own).end spans to
+order_rest from (Some span) spans to are = are.2
+order_rest from None spans to are = are
 
-span_apart : (from : ℕ) (b : Bool) (own : Option ListSpan) (owns : List (Option ListSpan)) (to : ℕ) → AreSpansInOrder from (own ∷ owns) to
-    → (from ≤ (span_after from b own).start) × ((span_after from b own).start ≤ (span_after from b own).end)
-span_apart from true (Some own) owns to are = (are.0, are.1)
-span_apart from true None owns to are = (omega arith, omega arith)
-span_apart from false own owns to are = (omega arith, omega arith)
-
-pub spans_apart : (used : ℕ → Bool) (place from : ℕ) (owns : List (Option ListSpan)) (to : ℕ) → AreSpansInOrder from owns to
-    → AreSpansApart from (spans_from used place from owns) to
-spans_apart used place from [] to are = are
-spans_apart used place from (own ∷ owns) to are =
-    let (starts, ends) = span_apart from (used place) own owns to are in
-    (starts, ends, spans_apart used (suc place) (span_after from (used place) own).end owns to (order_rest from (used place) own owns to are))
+pub spans_apart : (from : ℕ) (owns : List (Option ListSpan)) (to : ℕ) → AreSpansInOrder from owns to → AreSpansApart from (spans_from from owns) to
+spans_apart from [] to are = are
+spans_apart from (Some own ∷ owns) to are = (are.0, are.1, spans_apart own.end owns to are.2)
+spans_apart from (None ∷ owns) to are = (omega arith, omega arith, spans_apart from owns to are)
 
 -- The files from a place on are the one there, and those after it.
 pub from_place : (files : List Kept) (k : ℕ) (one : Kept) → k < length files → one ≡ get_or files k one
@@ -154,122 +141,41 @@ from_place files k one below is =
     let next : k + 1 ≡ suc k = omega arith in rw next (drop-cons files k one below ∙ rw (← is))
 
 -- one span more
-pub span_more : (used : ℕ → Bool) (place end : ℕ) (own : Option ListSpan) (rest : List (Option ListSpan)) (old : List Span) {span : Span}
-    {new whole : List Span} → span ≡ span_after end (used place) own → new ≡ old ++ span ∷ []
-    → old ++ spans_from used place end (own ∷ rest) ≡ whole → new ++ spans_from used (place + 1) span.end rest ≡ whole
-span_more used place end own rest old is pushed held =
-    let next : place + 1 ≡ suc place = omega arith in rw (pushed, is, next) (append_assoc old _ _ ∙ held)
+pub span_more : (end : ℕ) (own : Option ListSpan) (rest : List (Option ListSpan)) (old : List Span) {span : Span} {new whole : List Span}
+    → span ≡ span_after end own → new ≡ old ++ span ∷ [] → old ++ spans_from end (own ∷ rest) ≡ whole → new ++ spans_from span.end rest ≡ whole
+span_more end own rest old is pushed held = rw (pushed, is) (append_assoc old _ _ ∙ held)
 
-module _ (numbers : List ℕ) (used : ℕ → Bool) where
-  -- the list of a file, which has a span behind some place
-  list_of : (place from : ℕ) (owns : List (Option ListSpan)) (k at : ℕ) (own : Option ListSpan) → at ≡ place + k → slice_get owns k ≡ Some own
-      → (end : ℕ) × (list_at (lists_at numbers (spans_from used place from owns)) k
-      ≡ part_at numbers (span_after end (used at) own))
-  list_of place from [] k at own is there = absurd (cc there)
-  list_of place from (first ∷ owns) zero at own is there =
-      let same : place ≡ at = omega (arith, is) in (from, rw (same, same_Some first own there))
-  list_of place from (first ∷ owns) (suc k) at own is there =
-      list_of (suc place) (span_after from (used place) first).end owns k at own (omega (arith, is)) there
-
-  -- There is nothing in a list past the end.
-  past_lists : (place from : ℕ) (owns : List (Option ListSpan)) (k : ℕ) → slice_get owns k ≡ None
-      → list_at (lists_at numbers (spans_from used place from owns)) k ≡ []
-  past_lists place from [] k none = refl
-  past_lists place from (own ∷ owns) zero none = absurd (cc none)
-  past_lists place from (own ∷ owns) (suc k) none = past_lists (suc place) (span_after from (used place) own).end owns k none
-
-  -- If the list of a file is not empty, the file is used.
-  pub list_used : (from : ℕ) (owns : List (Option ListSpan)) (k : ℕ)
-      → (list_at (lists_at numbers (spans_from used 0 from owns)) k ≡ [] → ⊥) → used k ≡ true
-  list_used from owns k some = elim (cases_Bool (used k)) [
-    | inl is ↦ is
-    | inr is_not ↦ absurd (some (by_own (slice_get owns k) refl is_not))
-  ]
-    where
-      by_own : (o : Option (Option ListSpan)) → slice_get owns k ≡ o → used k ≡ false
-          → list_at (lists_at numbers (spans_from used 0 from owns)) k ≡ []
-      by_own None none not_used = past_lists 0 from owns k none
-      by_own (Some own) there not_used =
-          let (end, is) = list_of 0 from owns k k own (omega arith) there in
-          is ∙ rw not_used (between_none numbers end)
-
-  -- The list of a file that has its own, and is used, has the numbers of its requirements.
-  pub used_list : (from : ℕ) (owns : List (Option ListSpan)) (k : ℕ) (own : ListSpan) → used k ≡ true
-      → slice_get owns k ≡ Some (Some own)
-      → list_at (lists_at numbers (spans_from used 0 from owns)) k ≡ between own.start own.end numbers
-  used_list from owns k own is there =
-      let (end, list) = list_of 0 from owns k k (Some own) (omega arith) there in
-      list ∙ rw is
-
--- ---- files that vertices have
-
--- A vertex has the file at a place exactly if the place is noted.
-pub has_noted : (places : List (Option ℕ)) (place : ℕ) → is_in_places places place ≡ true
-    → (k : ℕ) × (place_at places k ≡ Some place)
-has_noted [] place e = absurd (false≢true e)
-has_noted (None ∷ places) place e = let (k, there) = has_noted places place e in (suc k, there)
-has_noted (Some other ∷ places) place e = elim (or_cases (place == other) (is_in_places places place) e) [
-  | inl same ↦ (0, ap Some (sym (eqb-true place other same)))
-  | inr rest ↦ (let (k, there) = has_noted places place rest in (suc k, there))
-]
-
-pub noted_has : (places : List (Option ℕ)) (k place : ℕ) → place_at places k ≡ Some place → is_in_places places place ≡ true
-noted_has [] k place e = absurd (cc e)
-noted_has (None ∷ places) zero place e = absurd (cc e)
-noted_has (None ∷ places) (suc k) place e = noted_has places k place e
-noted_has (Some other ∷ places) zero place e =
-    ap (λ (b : Bool). b || is_in_places places place) (eq-eqb place other (sym (same_Some other place e)))
-noted_has (Some other ∷ places) (suc k) place e = later (place == other) (noted_has places k place e)
-  where
-    later : (b : Bool) → is_in_places places place ≡ true → (b || is_in_places places place) ≡ true
-    later true has = refl
-    later false has = has
+-- The list of a file that has its own has the numbers of its requirements.
+pub own_list : (numbers : List ℕ) (from : ℕ) (owns : List (Option ListSpan)) (k : ℕ) (own : ListSpan) → slice_get owns k ≡ Some (Some own)
+    → list_at (lists_at numbers (spans_from from owns)) k ≡ between own.start own.end numbers
+own_list numbers from [] k own there = absurd (cc there)
+own_list numbers from (first ∷ owns) zero own there = rw (same_Some first (Some own) there)
+own_list numbers from (first ∷ owns) (suc k) own there = own_list numbers (span_after from first).end owns k own there
 
 -- ---- a graph of these parts
 
 -- its lists: that of the main file is the first, and those of the files follow
-abbrev pub lists_by : CacheParts → List (Option ℕ) → List (List ℕ)
-lists_by parts places = lists_at parts.numbers.items (spans_of parts.first parts.files.items (is_in_places places))
+abbrev pub lists_by : CacheParts → List (List ℕ)
+lists_by parts = lists_at parts.numbers.items (spans_of parts.first parts.files.items)
 
-module _ (parts : CacheParts) (places : List (Option ℕ)) (are : AreFilePlaces parts places) where
-  abbrev lists : List (List ℕ)
-  lists = lists_by parts places
-
-  pub lists_apart : AreSpansApart 0 (spans_of parts.first parts.files.items (is_in_places places)) (length parts.numbers.items)
-  lists_apart =
-      (omega arith, omega arith, spans_apart (is_in_places places) 0 parts.first (own_spans parts.files.items) (length parts.numbers.items) parts.in_order)
-
-  pub steps_once : IsDistinct (same_step parts.modules.items) (steps_by parts places)
-  steps_once = sources_once parts.modules.items parts.distinct lists places (λ k place e. (are k place e).0)
-
-  pub lists_used : AreUsed lists (gathered_sources places)
-  lists_used zero some = (main_source, (0, omega arith, refl), refl)
-  lists_used (suc place) some =
-      let (k, there) = has_noted places place (list_used parts.numbers.items (is_in_places places) parts.first (own_spans parts.files.items) place some) in
-      (file_source k place, source_there places k place there, omega arith)
-
-  -- ---- numbers
+module _ (parts : CacheParts) where
+  pub lists_apart : AreSpansApart 0 (spans_of parts.first parts.files.items) (length parts.numbers.items)
+  lists_apart = (omega arith, omega arith, spans_apart parts.first (own_spans parts.files.items) (length parts.numbers.items) parts.in_order)
 
   part_below : (span : Span) → AreModuleNumbers parts.modules.items (part_at parts.numbers.items span)
   part_below span = All-take (λ (n : ℕ). n < length parts.modules.items) (span.end - span.start) _
       (All-drop (λ (n : ℕ). n < length parts.modules.items) span.start parts.numbers.items parts.below)
 
-  list_below : (spans : List Span) (place : ℕ)
-      → AreModuleNumbers parts.modules.items (list_at (lists_at parts.numbers.items spans) place)
-  list_below [] place = λ k d below. absurd (omega (arith, below))
-  list_below (span ∷ spans) zero = part_below span
-  list_below (span ∷ spans) (suc place) = list_below spans place
+  pub lists_below : All (AreModuleNumbers parts.modules.items) (lists_by parts)
+  lists_below =
+      let spans = spans_of parts.first parts.files.items in
+      All-map (AreModuleNumbers parts.modules.items) (part_at parts.numbers.items) spans (λ k d inside. part_below (get_or spans k d))
 
-  from_below : (one : Source) → Contains (gathered_sources places) one → IsBelow (length parts.modules.items) one.from
-  from_below = each_source (λ one. IsBelow (length parts.modules.items) one.from) places tt (λ k place e. (are k place e).0)
+  module _ (places : List (Option ℕ)) (are : AreFilePlaces parts places) where
+    pub steps_once : IsDistinct (same_step parts.modules.items) (steps_by parts places)
+    steps_once = sources_once parts.modules.items parts.distinct (lists_by parts) places (λ k place e. (are k place e).0)
 
-  pub steps_numbered : HaveNumbers (length parts.modules.items) (steps_by parts places)
-  steps_numbered = each (gathered_sources places) (λ one h. from_below one h)
-    where
-      each : (sources : List Source) → ((one : Source) → Contains sources one → IsBelow (length parts.modules.items) one.from)
-          → HaveNumbers (length parts.modules.items) (by_step lists sources)
-      each sources below = All-map (IsNumbered (length parts.modules.items)) (step_edges lists) sources
-          (λ k d within. record {
-            from = below (get_or sources k d) (k, within, get_or_default sources k (get_or sources k d) d within);
-            to = list_below (spans_of parts.first parts.files.items (is_in_places places)) (get_or sources k d).list;
-          })
+    pub sources_below : All (λ (one : Source). IsBelow (length parts.modules.items) one.from) (gathered_sources places)
+    sources_below k d below =
+        each_source (λ one. IsBelow (length parts.modules.items) one.from) places tt (λ n place e. (are n place e).0) _
+        (Contains-get_or (gathered_sources places) k d below)

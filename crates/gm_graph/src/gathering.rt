@@ -3,11 +3,11 @@
 //! The requirements of the main file are the first list, and those of the files follow in the order in which they were
 //! read. Each is a part of the cache's list of numbers, which the graph takes over as it is.
 
-ghost use Rattle.std.specs.Prelude.{◌≡◌, ◌↔◌, ◌⊎◌, ◌<◌, ◌++◌, ◌∷◌, [], ℕ, All, Contains, IfOk, IsSome, OnOk, Some, length, map, slice_index_or, false};
+ghost use Rattle.std.specs.Prelude.{◌≡◌, ◌↔◌, ◌⊎◌, ◌<◌, ◌++◌, ◌∷◌, [], ℕ, All, Contains, IfOk, IsSome, OnOk, Some, length, map};
 ghost use Rattle.std.specs.BTreeMap as tree;
 ghost use Rattle.gm_name.specs.ModuleVersion.{ModuleVersion, module_at, pair_cmp};
 ghost use Rattle.gm_graph.specs.Private.Findings.{place_at};
-ghost use Rattle.gm_graph.specs.Private.Gathering.{AreFaultsOf, AreFilePlaces, HasFaultOf, fault, is_in_places, source_at, gathered_sources, span_after, spans_of, steps_by};
+ghost use Rattle.gm_graph.specs.Private.Gathering.{AreFaultsOf, AreFilePlaces, HasFaultOf, fault, source_at, gathered_sources, span_after, spans_of, steps_by};
 ghost use Rattle.gm_graph_cache.specs.Places.{place_limit};
 ghost use Rattle.gm_graph_cache.specs.Private.Summaries.{AreListsInOrder, AreSpansInOrder};
 ghost use Rattle.gm_graph_select.specs.Adjacency.{edges_of, sources_of as steps_left};
@@ -60,58 +60,33 @@ fn source_list(alloc: Global, places: &[Option<u32>]) -> Result<Vec<Source>, All
     Ok(sources)
 }
 
-/// For each of so many files, by its place, whether a vertex has its list.
-fn used_files(alloc: Global, count: usize, places: &[Option<u32>]) -> Result<Vec<bool>, AllocError>
-    requires { (number place : ℕ) → place_at places.now number ≡ Some place → place < count }
-    ensures count { IfOk result (λ used. length used.items ≡ count) }
-    ensures used { IfOk result (λ used. (place : ℕ)
-        → slice_index_or used.items place false ≡ is_in_places places.now place) }
-{
-    let mut used = vec![in alloc; false; count]?;
-    for place in places {
-        if let Some(file) = place {
-            used[*file as usize] = true;
-        }
-    }
-    Ok(used)
-}
-
-/// Where the list of a file is, if this is its own list and a vertex has that: otherwise an empty span at this place.
-fn span_after(end: u32, is_used: bool, own: Option<ListSpan>) -> Span
+/// Where the own list of a file is: an empty span at this place if it has none.
+fn span_after(end: u32, own: Option<ListSpan>) -> Span
     requires { AreSpansInOrder end (own ∷ []) place_limit }
-    ensures { result ≡ span_after end is_used own }
+    ensures { result ≡ span_after end own }
 {
     match own {
-        Some(span) if is_used => Span {
+        Some(span) => Span {
             start: span.start as u32,
             end: span.end as u32,
         },
-        _ => Span { start: end, end },
+        None => Span { start: end, end },
     }
 }
 
 /// Where the lists are: that of the main file, whose requirements are so many at the front, and the own list of each
-/// file, which is empty if no vertex has it.
-fn span_list(
-    alloc: Global,
-    first: usize,
-    files: &[Kept],
-    used: &[bool],
-) -> Result<Vec<Span>, AllocError>
-    requires order { AreListsInOrder first files.now place_limit }
-    requires used { length used.now ≡ length files.now }
-    ensures { IfOk result (λ spans. spans.items
-        ≡ spans_of first files.now (λ place. slice_index_or used.now place false)) }
+/// file.
+fn span_list(alloc: Global, first: usize, files: &[Kept]) -> Result<Vec<Span>, AllocError>
+    requires { AreListsInOrder first files.now place_limit }
+    ensures { IfOk result (λ spans. spans.items ≡ spans_of first files.now) }
 {
     let mut end = first as u32;
     let mut spans = Vec::new(alloc);
     spans.push(Span { start: 0, end })?;
-    let mut place = 0;
     for kept in files {
-        let span = span_after(end, used[place], kept.own_span());
+        let span = span_after(end, kept.own_span());
         spans.push(span)?;
         end = span.end;
-        place += 1;
     }
     Ok(spans)
 }
@@ -134,14 +109,13 @@ fn lists_of(
 ) -> Result<Lists, AllocError>
     requires { AreFilePlaces parts.now places.items }
     ensures spans { IfOk result (λ lists. lists.spans.items
-        ≡ spans_of parts.now.first parts.now.files.items (is_in_places places.items)) }
+        ≡ spans_of parts.now.first parts.now.files.items) }
     ensures sources { IfOk result (λ lists. lists.sources.items ≡ gathered_sources places.items) }
 {
     if parts.numbers.len() >= MOST_PLACES as usize {
         return Err(AllocError);
     }
-    let used = used_files(alloc, parts.files.len(), &places)?;
-    let spans = span_list(alloc, parts.first, &parts.files, &used)?;
+    let spans = span_list(alloc, parts.first, &parts.files)?;
     let sources = source_list(alloc, &places)?;
     Ok(Lists { spans, sources })
 }

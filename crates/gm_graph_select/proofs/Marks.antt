@@ -1,4 +1,4 @@
--- Marks of the numbers that sources and lists name.
+-- Marks of the numbers that sources and their lists name.
 use Rattle.std.proofs.Common.{◌≡◌, ◌⊎◌, ◌<◌, ◌+◌, ◌∙◌, ℕ, zero, suc, Bool, cond, List, [], ◌∷◌, ◌++◌, Option, Some, None, Contains, length, append-nil, true, false, get_or, replicate, set, take, ap, arith, inl, inr, refl, subst, sym}
 use Rattle.std.specs.List.{flat_map}
 use Rattle.std.specs.Option.{option_to_list}
@@ -8,7 +8,7 @@ use Rattle.std.proofs.lemmas.List.Concat.{flat_map-append}
 use Rattle.std.proofs.lemmas.List.Elements.{Contains-append_cases, Contains-append_left, Contains-append_right}
 use Rattle.std.proofs.lemmas.List.Sums.{sum_by-set}
 use Rattle.gm_graph_select.specs.Adjacency.{StepEdges}
-use Rattle.gm_graph_select.specs.Private.Marking.{AreMarked, HasMark}
+use Rattle.gm_graph_select.specs.Private.Marking.{AreMarked, HasMark, named_by}
 use Rattle.gm_graph_select.specs.Private.Searching.{count_left}
 use Rattle.gm_graph_select.proofs.Ascending.{member_head, no_member, one_member}
 
@@ -119,12 +119,6 @@ module _ {T : Type 0} (names : T → List ℕ) where
   ]
 
 -- ---- numbers that the edges of steps name
-
-abbrev pub named_by : StepEdges → List ℕ
-named_by one = option_to_list one.from ++ one.to
-
-abbrev pub numbers_named : List StepEdges → List ℕ
-numbers_named all = flat_map named_by all
 
 -- Edges name the number of the step that they leave, and those that they lead to.
 pub names_from : (one : StepEdges) (number : ℕ) → one.from ≡ Some number → Contains (named_by one) number

@@ -1,25 +1,23 @@
--- The vertices of a graph: the modules that its sources and lists name.
+-- The vertices of a graph: the modules that its sources and their lists name.
 use Rattle.std.specs.Ordering.{nat_cmp}
 use Rattle.std.specs.List.Sorted.{IsPermutation, IsSortedByKey}
-use Rattle.std.proofs.Common.{◌≡◌, ◌⊎◌, ◌↔◌, ◌∙◌, ◌<◌, ◌++◌, ◌∷◌, [], ℕ, zero, suc, Bool, List, Option, None, Some, Contains, get_or, length, map, ap, arith, inl, inr, refl, subst, sym}
+use Rattle.std.proofs.Common.{◌≡◌, ◌⊎◌, ◌↔◌, ◌∙◌, ◌<◌, ℕ, Bool, List, Option, None, Some, Contains, get_or, length, map, ap, inl, inr, refl, subst, sym}
 use Rattle.std.specs.Prelude.{All}
 use Rattle.std.specs.List.{AllZip, IsDistinct}
-use Rattle.std.specs.Option.{option_to_list, option_cmp}
-use Rattle.std.proofs.lemmas.List.{get_or-map, get_or_default, length-map}
-use Rattle.std.proofs.lemmas.List.Elements.{All-contains, Contains-append_cases, Contains-append_left, Contains-append_right, Contains-get_or}
+use Rattle.std.specs.Option.{option_cmp}
+use Rattle.std.proofs.lemmas.List.Elements.{Contains-get_or}
 use Rattle.gm_name.specs.ModuleVersion.{ModuleVersion, module_at, pair_cmp}
 use Rattle.gm_graph_select.specs.declared.adjacency.Source.{Source}
 use Rattle.gm_graph_select.specs.declared.step.Edge.{Edge}
 use Rattle.gm_graph_select.specs.declared.step.Step.{Step}
 use Rattle.gm_graph_select.specs.declared.step.Step.TheVariants.{Main, Of}
-use Rattle.gm_graph_select.specs.Adjacency.{AreRanked, AreUsed, HaveNumbers, IsBelow, IsNumbered, StepEdges, by_step, edges_of, left_by, list_at, same_step, sources_of, step_edges, step_with}
+use Rattle.gm_graph_select.specs.Adjacency.{AreRanked, StepEdges, by_step, edges_of, left_by, same_step, sources_of, step_with}
 use Rattle.gm_graph_select.specs.Private.Adjacency.{IsByRanks, source_by_ranks}
 use Rattle.gm_graph_select.specs.Graph.{IsEdgeEnd, among, edge}
-use Rattle.gm_graph_select.specs.Private.Marking.{HasMark, numbers_left, numbers_listed}
+use Rattle.gm_graph_select.specs.Private.Marking.{HasMark, named_by, numbers_named}
 use Rattle.gm_graph_select.specs.Order.{HaveSame, IsAscending}
 use Rattle.gm_graph_select.specs.Private.Ranking.{IsMarkedModule}
-use Rattle.gm_graph_select.proofs.Ascending.{no_member}
-use Rattle.gm_graph_select.proofs.Marks.{marked_inside, named_by, named_from, named_only, names_from, names_only, names_to, numbers_named}
+use Rattle.gm_graph_select.proofs.Marks.{marked_inside, named_from, named_only, names_from, names_only, names_to}
 use Rattle.gm_graph_select.proofs.RankedLists.{AreByRanks, IsFromMarked, NamesMarked, edges_each, edges_only, from_mapped, in_mapped, lists_are_ranked, same_edges, steps_by_ranks, AreRanks}
 
 module _ (modules : List ModuleVersion) (marks : List Bool) (all : List StepEdges)
@@ -94,71 +92,6 @@ module _ (modules : List ModuleVersion) (marks : List Bool) (all : List StepEdge
       (λ so. elim so [ inl end ↦ an_end count x end | inr source ↦ a_source count x source ]),
     )
 
--- ---- what sources and lists name
-
-listed_at : (lists : List (List ℕ)) (place number : ℕ) → Contains (list_at lists place) number → Contains (numbers_listed lists) number
-listed_at [] place number h = absurd (omega (arith, h.1))
-listed_at (first ∷ lists) zero number h = Contains-append_left first (numbers_listed lists) number h
-listed_at (first ∷ lists) (suc place) number h = Contains-append_right first (numbers_listed lists) number (listed_at lists place number h)
-
-module _ (lists : List (List ℕ)) (sources : List Source) where
-  -- A list with a number is used.
-  its_source : AreUsed lists sources → (place number : ℕ) → Contains (list_at lists place) number
-      → (one : Source) × Contains sources one × (list_at lists one.list ≡ list_at lists place)
-  its_source used place number h =
-      let (one, found, is) = used place (λ none. no_member number (subst (λ (ns : List ℕ). Contains ns number) none h)) in
-      (one, found, ap (λ (n : ℕ). list_at lists n) is)
-
-  -- If each list is used, they name what the edges of steps name.
-  steps_name : AreUsed lists sources → (number : ℕ) → Contains (numbers_left sources ++ numbers_listed lists) number
-      ↔ Contains (numbers_named (by_step lists sources)) number
-  steps_name used number = (there, back)
-    where
-      named_by_source : (one : Source) → Contains sources one
-          → Contains (option_to_list one.from ++ list_at lists one.list) number
-          → Contains (numbers_named (by_step lists sources)) number
-      named_by_source one found at = named_from named_by (by_step lists sources) (step_edges lists one) number
-          (in_mapped (step_edges lists) sources one found) at
-
-      there : Contains (numbers_left sources ++ numbers_listed lists) number → Contains (numbers_named (by_step lists sources)) number
-      there h = elim (Contains-append_cases (numbers_left sources) (numbers_listed lists) number h) [
-        | inl left ↦
-            (let (one, found, at) = named_only (λ (o : Source). option_to_list o.from) sources number left in
-            named_by_source one found (Contains-append_left (option_to_list one.from) (list_at lists one.list) number at))
-        | inr listed ↦
-            (let (list, (place, below, is), at) = named_only (λ (ns : List ℕ). ns) lists number listed in
-            let here : list ≡ list_at lists place = sym is ∙ get_or_default lists place list [] below in
-            let (one, found, same) = its_source used place number (subst (λ (ns : List ℕ). Contains ns number) here at) in
-            named_by_source one found (Contains-append_right (option_to_list one.from) (list_at lists one.list) number
-            (subst (λ (ns : List ℕ). Contains ns number) (here ∙ sym same) at)))
-      ]
-
-      back : Contains (numbers_named (by_step lists sources)) number → Contains (numbers_left sources ++ numbers_listed lists) number
-      back h =
-          let (edges, found, at) = named_only named_by (by_step lists sources) number h in
-          let (one, there_is, same) = from_mapped (step_edges lists) sources edges found in
-          elim (Contains-append_cases (option_to_list one.from) (list_at lists one.list) number
-          (subst (λ (e : StepEdges). Contains (named_by e) number) (sym same) at)) [
-            | inl left ↦ Contains-append_left (numbers_left sources) (numbers_listed lists) number
-                (named_from (λ (o : Source). option_to_list o.from) sources one number there_is left)
-            | inr listed ↦ Contains-append_right (numbers_left sources) (numbers_listed lists) number (listed_at lists one.list number listed)
-          ]
-
-  module _ (count : ℕ) (numbered : HaveNumbers count (by_step lists sources)) where
-    pub sources_below : All (λ (one : Source). IsBelow count one.from) sources
-    sources_below k d below =
-        let is = numbered k (step_edges lists d) (omega (arith, below, length-map sources (step_edges lists))) in
-        subst (λ (e : StepEdges). IsBelow count e.from) (get_or-map (step_edges lists) sources k d (step_edges lists d) below) is.from
-
-    pub lists_below : AreUsed lists sources → All (All (λ (number : ℕ). number < count)) lists
-    lists_below used place d below k e inside =
-        let list = get_or lists place d in
-        let here : list ≡ list_at lists place = get_or_default lists place d [] below in
-        let (one, found, same) = its_source used place (get_or list k e)
-        (subst (λ (ns : List ℕ). Contains ns (get_or list k e)) here (Contains-get_or list k e inside)) in
-        let is = All-contains (IsNumbered count) (by_step lists sources) (step_edges lists one) numbered (in_mapped (step_edges lists) sources one found) in
-        subst (λ (ns : List ℕ). All (λ n. n < count) ns) (same ∙ sym here) is.to k e inside
-
 -- ---- a graph that was made
 
 -- The vertices are the modules that the old edges name, and the new ones are the same edges.
@@ -190,8 +123,8 @@ from_steps modules marks vertices ranks old new count are contains up ranked by 
 pub is_graph_of : {modules : List ModuleVersion} {marks is_vertex : List Bool} {vertices : List ModuleVersion}
     {ranks places others : List ℕ} {old_lists lists : List (List ℕ)} (new_lists : List (List ℕ))
     {old_sources sources new_sources : List Source}
-    → lists ≡ old_lists → sources ≡ old_sources → is_vertex ≡ marks → places ≡ ranks → others ≡ ranks → AreUsed old_lists old_sources
-    → length marks ≡ length modules → ((number : ℕ) → HasMark marks number ↔ Contains (numbers_left sources ++ numbers_listed lists) number)
+    → lists ≡ old_lists → sources ≡ old_sources → is_vertex ≡ marks → places ≡ ranks → others ≡ ranks
+    → length marks ≡ length modules → ((number : ℕ) → HasMark marks number ↔ Contains (numbers_named (by_step lists sources)) number)
     → ((x : ModuleVersion) → Contains vertices x ↔ IsMarkedModule modules is_vertex x) → IsAscending pair_cmp vertices
     → AreRanks modules is_vertex vertices ranks
     → AllZip (IsByRanks places) lists new_lists → IsPermutation (map (source_by_ranks others) old_sources) new_sources
@@ -199,7 +132,7 @@ pub is_graph_of : {modules : List ModuleVersion} {marks is_vertex : List Bool} {
     → IsDistinct (same_step modules) (by_step old_lists old_sources)
     → IsGraphOf modules (by_step old_lists old_sources) vertices (by_step new_lists new_sources)
 is_graph_of {modules} {marks} {is_vertex} {vertices} {ranks} {places} {others} {old_lists} {lists} new_lists
-    {old_sources} {sources} {new_sources} lists_are sources_are marks_are places_are others_are used count are contains up ranked zip permutation sorted once =
+    {old_sources} {sources} {new_sources} lists_are sources_are marks_are places_are others_are count are contains up ranked zip permutation sorted once =
     from_steps modules marks vertices ranks (by_step old_lists old_sources) (by_step new_lists new_sources) count named
     (subst (λ (bs : List Bool). (x : ModuleVersion) → Contains vertices x ↔ IsMarkedModule modules bs x) marks_are contains)
     up
@@ -210,12 +143,6 @@ is_graph_of {modules} {marks} {is_vertex} {vertices} {ranks} {places} {others} {
     (subst (λ (ns : List ℕ). IsPermutation (map (source_by_ranks ns) old_sources) new_sources) others_are permutation) sorted)
     once
   where
-    given : (number : ℕ) → HasMark marks number ↔ Contains (numbers_left old_sources ++ numbers_listed old_lists) number
-    given = subst (λ (ss : List Source). (number : ℕ) → HasMark marks number ↔ Contains (numbers_left ss ++ numbers_listed old_lists) number) sources_are
-        (subst (λ (ls : List (List ℕ)). (number : ℕ) → HasMark marks number ↔ Contains (numbers_left sources ++ numbers_listed ls) number) lists_are are)
-
     named : (number : ℕ) → HasMark marks number ↔ Contains (numbers_named (by_step old_lists old_sources)) number
-    named number =
-        let first = given number in
-        let second = steps_name old_lists old_sources used number in
-        ((λ h. second.0 (first.0 h)), (λ h. first.1 (second.1 h)))
+    named = subst (λ (ss : List Source). (number : ℕ) → HasMark marks number ↔ Contains (numbers_named (by_step old_lists ss)) number) sources_are
+        (subst (λ (ls : List (List ℕ)). (number : ℕ) → HasMark marks number ↔ Contains (numbers_named (by_step ls sources)) number) lists_are are)

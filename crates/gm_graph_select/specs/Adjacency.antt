@@ -1,5 +1,5 @@
 -- Edges by numbers. The number of a vertex is its place in a list of vertices.
-use Rattle.std.specs.Prelude.{◌≡◌, ◌≢◌, ◌<◌, ◌++◌, ⊤, ℕ, Bool, All, AllPairs, Contains, List, [], ◌∷◌, Option, None, Some, length, map, slice_index_or}
+use Rattle.std.specs.Prelude.{◌≡◌, ◌<◌, ◌++◌, ⊤, ℕ, Bool, All, AllPairs, List, [], ◌∷◌, Option, None, Some, length, map, slice_index_or}
 use Rattle.std.specs.Option.{option_cmp}
 use Rattle.std.specs.Ordering.{nat_cmp}
 use Rattle.std.specs.declared.cmp.Ordering.TheVariants.{Less}
@@ -28,11 +28,6 @@ step_edges lists one = record { from = one.from; to = list_at lists one.list }
 -- the edges that leave the step of each source
 abbrev pub by_step : List (List ℕ) → List Source → List StepEdges
 by_step lists sources = map (step_edges lists) sources
-
--- Each list that isn't empty is that of a source.
-abbrev pub AreUsed : List (List ℕ) → List Source → Type 0
-AreUsed lists sources =
-    (place : ℕ) → list_at lists place ≢ [] → (one : Source) × Contains sources one × (one.list ≡ place)
 
 -- the step with a number: the main module has none
 abbrev pub step_with : List ModuleVersion → Option ℕ → Step

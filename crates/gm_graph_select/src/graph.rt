@@ -3,10 +3,10 @@
 //! The vertices are sorted once. From then on a vertex is its rank, its place in the sorted list, so that edges are in
 //! order if their ranks are.
 
-ghost use Rattle.std.specs.Prelude.{◌≡◌, ◌↔◌, ◌⊎◌, ◌≤◌, Contains, IfOk, List, length};
+ghost use Rattle.std.specs.Prelude.{◌≡◌, ◌↔◌, ◌⊎◌, ◌<◌, ◌≤◌, All, Contains, IfOk, List, length};
 ghost use Rattle.std.specs.List.{IsDistinct};
 ghost use Rattle.gm_name.specs.ModuleVersion.{ModuleVersion, pair_eq};
-ghost use Rattle.gm_graph_select.specs.Adjacency.{AreUsed, HaveNumbers, by_step, edges_of, same_step, sources_of};
+ghost use Rattle.gm_graph_select.specs.Adjacency.{IsBelow, by_step, edges_of, same_step, sources_of};
 ghost use Rattle.gm_graph_select.specs.declared.step.Edge.{Edge};
 ghost use Rattle.gm_graph_select.specs.declared.step.Step.TheVariants.{Of};
 ghost use Rattle.gm_graph_select.specs.BuildList.{AreSelected};
@@ -51,9 +51,9 @@ impl Model for Graph {
 
 impl Graph {
     /// The graph of these edges by the numbers of modules. Each span is that of a list of numbers, and none begins
-    /// before the end of the one before it. At most one source is each step, and each list that isn't empty is that of
-    /// a source; several may share a list. A list may have its numbers in any order, and twice. The modules are
-    /// distinct; those that no edge leads to and that are no sources are left out.
+    /// before the end of the one before it. At most one source is each step; several may share a list, and a list may be
+    /// that of none. A list may have its numbers in any order, and twice. The modules are distinct; those that no edge
+    /// leads to and that are no sources are left out.
     ///
     /// The numbers aren't copied: the graph has ranks in their places.
     ///
@@ -70,11 +70,10 @@ impl Graph {
         requires few { length modules.items ≤ 4294967295 }
         requires distinct { IsDistinct pair_eq modules.items }
         requires apart { AreSpansApart 0 spans.items (length numbers.items) }
-        requires numbered { HaveNumbers (length modules.items)
-            (by_step (lists_at numbers.items spans.items) sources.items) }
+        requires sources { All (λ one. IsBelow (length modules.items) one.from) sources.items }
+        requires lists { All (All (λ number. number < length modules.items)) (lists_at numbers.items spans.items) }
         requires once { IsDistinct (same_step modules.items)
             (by_step (lists_at numbers.items spans.items) sources.items) }
-        requires used { AreUsed (lists_at numbers.items spans.items) sources.items }
         ensures vertices { IfOk result (λ graph. (x : ModuleVersion) → Contains graph.vertices x
             ↔ (IsEdgeEnd (among graph.edges) x ⊎ Contains (sources_of modules.items
             (by_step (lists_at numbers.items spans.items) sources.items)) (Of x))) }

@@ -1,9 +1,9 @@
-//! Which modules are vertices: those that a source or a list names.
+//! Which modules are vertices: those that a source or its list names.
 
-ghost use Rattle.std.specs.Prelude.{◌≡◌, ◌↔◌, ◌<◌, ◌++◌, All, Contains, IfOk, length, ℕ};
+ghost use Rattle.std.specs.Prelude.{◌≡◌, ◌↔◌, ◌<◌, All, Contains, IfOk, length, ℕ};
 ghost use Rattle.std.specs.Option.{option_to_list};
-ghost use Rattle.gm_graph_select.specs.Adjacency.{IsBelow};
-ghost use Rattle.gm_graph_select.specs.Private.Marking.{AreMarked, HasMark, numbers_left, numbers_listed};
+ghost use Rattle.gm_graph_select.specs.Adjacency.{IsBelow, by_step, list_at};
+ghost use Rattle.gm_graph_select.specs.Private.Marking.{AreMarked, ArePassedMarked, HasMark, numbers_named};
 
 use crate::adjacency::Source;
 use crate::number_lists::NumberLists;
@@ -29,27 +29,39 @@ fn mark_each(marks: &mut [bool], numbers: &[u32])
     }
 }
 
-/// Marks the numbers of the steps that are sources.
-fn mark_sources(marks: &mut [bool], sources: &[Source])
-    requires { All (λ one. IsBelow (length marks.old) one.from) sources.now }
-    ensures { AreMarked marks.old (numbers_left sources.now) marks.new }
+/// Marks each number of the list at a place, unless that was passed, and notes that it was. There is nothing at a place
+/// past the end.
+fn mark_list(marks: &mut [bool], is_passed: &mut [bool], lists: &NumberLists, place: usize)
+    requires lists { All (All (λ number. number < length marks.old)) lists.now }
+    requires count { length is_passed.old ≡ length lists.now }
+    requires passed { ArePassedMarked lists.now is_passed.old marks.old }
+    ensures marks { AreMarked marks.old (list_at lists.now place) marks.new }
+    ensures count { length is_passed.new ≡ length is_passed.old }
+    ensures passed { ArePassedMarked lists.now is_passed.new marks.new }
+{
+    if place >= is_passed.len() || is_passed[place] {
+        return;
+    }
+    is_passed[place] = true;
+    mark_each(marks, lists.at(place));
+}
+
+/// Marks the numbers of the steps that are sources, and those of their lists. Several sources may share a list, which is
+/// passed once.
+fn mark_sources(marks: &mut [bool], is_passed: &mut [bool], lists: &NumberLists, sources: &[Source])
+    requires sources { All (λ one. IsBelow (length marks.old) one.from) sources.now }
+    requires lists { All (All (λ number. number < length marks.old)) lists.now }
+    requires count { length is_passed.old ≡ length lists.now }
+    requires passed { ArePassedMarked lists.now is_passed.old marks.old }
+    ensures { AreMarked marks.old (numbers_named (by_step lists.now sources.now)) marks.new }
 {
     for one in sources {
         mark_one(marks, one.from);
+        mark_list(marks, is_passed, lists, one.list);
     }
 }
 
-/// Marks the numbers that any of these lists has.
-fn mark_lists(marks: &mut [bool], lists: &NumberLists)
-    requires { All (All (λ number. number < length marks.old)) lists.now }
-    ensures { AreMarked marks.old (numbers_listed lists.now) marks.new }
-{
-    for place in 0..lists.len() {
-        mark_each(marks, lists.at(place));
-    }
-}
-
-/// For each of so many numbers, whether any of these sources or lists names it.
+/// For each of so many numbers, whether any of these sources or its list names it.
 pub(crate) fn marks_of(
     alloc: Global,
     count: usize,
@@ -60,10 +72,10 @@ pub(crate) fn marks_of(
     requires lists { All (All (λ number. number < count)) lists.now }
     ensures count { IfOk result (λ marks. length marks.items ≡ count) }
     ensures marks { IfOk result (λ marks. (number : ℕ) → HasMark marks.items number
-        ↔ Contains (numbers_left sources.now ++ numbers_listed lists.now) number) }
+        ↔ Contains (numbers_named (by_step lists.now sources.now)) number) }
 {
     let mut marks = vec![in alloc; false; count]?;
-    mark_sources(&mut marks, sources);
-    mark_lists(&mut marks, lists);
+    let mut is_passed = vec![in alloc; false; lists.len()]?;
+    mark_sources(&mut marks, &mut is_passed, lists, sources);
     Ok(marks)
 }

@@ -1,7 +1,5 @@
 -- The graph and the faults that what was found makes: by the numbers of modules, and by the places of files.
-use Rattle.std.specs.Prelude.{◌≡◌, ◌==◌, ◌<◌, ◌+◌, ◌++◌, ◌∷◌, [], ℕ, Bool, true, suc, AllPairs, Contains, List, None, Option, Some, length, map}
-use Rattle.std.specs.List.{list_any}
-use Rattle.std.specs.Option.{option_eq}
+use Rattle.std.specs.Prelude.{◌≡◌, ◌<◌, ◌+◌, ◌++◌, ◌∷◌, [], ℕ, suc, AllPairs, Contains, List, None, Option, Some, length, map}
 use Rattle.std.specs.declared.cmp.Ordering.TheVariants.{Less}
 use Rattle.gm_name.specs.ModuleVersion.{ModuleVersion, module_at, pair_cmp}
 use Rattle.gm_graph_cache.specs.declared.cache.class.Class.{Class}
@@ -33,34 +31,26 @@ sources_from number (place ∷ places) = source_at number place ++ sources_from 
 abbrev pub gathered_sources : List (Option ℕ) → List Source
 gathered_sources places = record { from = None; list = 0 } ∷ sources_from 0 places
 
--- ---- the lists: that of the main file, and the own list of each file, which is empty if no vertex has it
+-- ---- the lists: that of the main file, and the own list of each file
 
--- whether a vertex has the list of the file at a place
-abbrev pub is_in_places : List (Option ℕ) → ℕ → Bool
-is_in_places places place = list_any (option_eq (λ a b. a == b) (Some place)) places
+-- where the own list of a file is: empty behind the one before if it has none
+abbrev pub span_after : ℕ → Option ListSpan → Span
+span_after from None = record { start = from; end = from }
+span_after from (Some own) = record { start = own.start; end = own.end }
 
--- where the list of a file is, if this is where its own list is: empty behind the one before if it has none, or if no
--- vertex has it
-abbrev pub span_after : ℕ → Bool → Option ListSpan → Span
-span_after from true (Some own) = record { start = own.start; end = own.end }
-span_after from _ own = record { start = from; end = from }
+-- where the lists of files are, if these are where their own lists are
+abbrev pub spans_from : ℕ → List (Option ListSpan) → List Span
+spans_from from [] = []
+spans_from from (own ∷ others) = let span = span_after from own in span ∷ spans_from span.end others
 
--- where the lists of the files from a place on are, if these are where their own lists are
-abbrev pub spans_from : (ℕ → Bool) → ℕ → ℕ → List (Option ListSpan) → List Span
-spans_from used place from [] = []
-spans_from used place from (own ∷ others) =
-    let span = span_after from (used place) own in span ∷ spans_from used (suc place) span.end others
-
--- where all lists are: that of the main file, whose requirements are so many, and the own list of each file, which is
--- empty if the file is not used
-abbrev pub spans_of : ℕ → List Kept → (ℕ → Bool) → List Span
-spans_of first files used = record { start = 0; end = first } ∷ spans_from used 0 first (map own_span files)
+-- where all lists are: that of the main file, whose requirements are so many, and the own list of each file
+abbrev pub spans_of : ℕ → List Kept → List Span
+spans_of first files = record { start = 0; end = first } ∷ spans_from first (map own_span files)
 
 -- the edges that leave each source
 abbrev pub steps_by : CacheParts → List (Option ℕ) → List StepEdges
 steps_by parts places =
-    by_step (lists_at parts.numbers.items (spans_of parts.first parts.files.items (is_in_places places)))
-    (gathered_sources places)
+    by_step (lists_at parts.numbers.items (spans_of parts.first parts.files.items)) (gathered_sources places)
 
 -- The numbers at which there is a place are those of modules, and the places are those of files.
 abbrev pub AreFilePlaces : CacheParts → List (Option ℕ) → Type 0

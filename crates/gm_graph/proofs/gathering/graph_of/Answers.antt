@@ -1,4 +1,4 @@
-use Rattle.gm_graph.proofs.Gathered.{lists_apart, lists_used, steps_numbered, steps_once}
+use Rattle.gm_graph.proofs.Gathered.{lists_apart, lists_below, sources_below, steps_once}
 use Rattle.gm_graph.proofs.gathering.graph_of.Goals as goal
 
 pub new-requires : goal.new-requires
@@ -8,10 +8,10 @@ new-requires c =
     rw (c.into_lists-modules.ensures.modules, c.into_lists-modules.ensures.numbers, c.in_ok-lists.ensures.spans, c.in_ok-lists.ensures.sources) (record {
       few = parts.few;
       distinct = parts.distinct;
-      apart = lists_apart parts places c.requires;
-      numbered = steps_numbered parts places c.requires;
+      apart = lists_apart parts;
+      sources = sources_below parts places c.requires;
+      lists = lists_below parts;
       once = steps_once parts places c.requires;
-      used = lists_used parts places c.requires;
     })
 
 pub returns-clause-edges : goal.returns-clause-edges

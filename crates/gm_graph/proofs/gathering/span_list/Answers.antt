@@ -1,5 +1,4 @@
-use Rattle.std.proofs.Common.{◌+◌, ℕ, Bool, arith, drop, false}
-use Rattle.std.specs.Prelude.{slice_index_or}
+use Rattle.std.proofs.Common.{◌+◌, arith, drop}
 use Rattle.gm_graph_cache.specs.Summaries.{own_span}
 use Rattle.gm_graph.proofs.Gathered.{from_place, span_more, order_ends, order_first, order_rest}
 use Rattle.gm_graph_cache.proofs.Ordered.{own_spans}
@@ -7,7 +6,7 @@ use Rattle.gm_graph_cache.specs.Places.{place_limit}
 use Rattle.gm_graph.proofs.gathering.span_list.Goals as goal
 
 pub overflow_cast-end : goal.overflow_cast-end
-overflow_cast-end c = let ends = order_ends c.args.first (own_spans c.args.files.now) place_limit c.requires.order in omega arith
+overflow_cast-end c = let ends = order_ends c.args.first (own_spans c.args.files.now) place_limit c.requires in omega arith
 
 pub span_after-span-requires : goal.span_after-span-requires
 span_after-span-requires c =
@@ -26,11 +25,8 @@ loop-kept-preserved c =
     let held = c.loop-kept.invariant in
     let rest = own_spans (drop (k + 1) files) in
     let front = from_place files k kept c.loop-kept-test.true c.kept-item.is in
-    let used : ℕ → Bool = λ place. slice_index_or c.args.used.now place false in
     let is = rw c.own_span.ensures at c.span_after-span.ensures in
     record {
-      at = omega (arith, held.at);
-      order = rw is (order_rest c.loop-kept.end _ (own_span kept) rest place_limit (rw front at held.order));
-      spans = span_more used c.loop-kept.place c.loop-kept.end (own_span kept) rest c.loop-kept.spans.items is c.in_ok-push-2.ensures.items
-          (rw front at held.spans);
+      order = rw is (order_rest c.loop-kept.end (own_span kept) rest place_limit (rw front at held.order));
+      spans = span_more c.loop-kept.end (own_span kept) rest c.loop-kept.spans.items is c.in_ok-push-2.ensures.items (rw front at held.spans);
     }

@@ -1,15 +1,27 @@
-use Rattle.std.proofs.Common.{None, get_or}
+use Rattle.std.proofs.Common.{◌<◌, ◌∙◌, None, arith, get_or, length, sym}
 use Rattle.std.specs.Option.{option_to_list}
-use Rattle.std.proofs.lemmas.List.{get_or_default}
+use Rattle.std.proofs.lemmas.List.{get_or-map, length-map}
 use Rattle.gm_graph_select.specs.declared.adjacency.Source.{Source}
-use Rattle.gm_graph_select.proofs.Marks.{next_named}
+use Rattle.gm_graph_select.specs.Adjacency.{StepEdges, by_step, list_at, step_edges}
+use Rattle.gm_graph_select.specs.Private.Marking.{named_by}
+use Rattle.gm_graph_select.proofs.Marks.{both_marked, next_named}
 use Rattle.gm_graph_select.proofs.marking.mark_sources.Goals as goal
 
 pub loop-one-preserved : goal.loop-one-preserved
 loop-one-preserved c =
+    let lists = c.args.lists.now in
     let sources = c.args.sources.now in
-    let i = c.loop-one.one-index in
+    let at = c.loop-one in
+    let i = at.one-index in
     let none : Source = record { from = None; list = 0 } in
     let one = get_or sources i none in
-    next_named (λ (o : Source). option_to_list o.from) c.args.marks.now c.loop-one.marks c.mark_one.new.marks sources i one c.loop-one-test.true
-    (get_or_default sources i none one c.loop-one-test.true) c.loop-one.invariant c.mark_one.ensures
+    let named : StepEdges = step_edges lists one in
+    let inside : i < length (by_step lists sources) = omega (arith, c.loop-one-test.true, length-map sources (step_edges lists)) in
+    record {
+      marks = next_named named_by c.args.marks.now at.marks c.mark_list.new.marks (by_step lists sources) i named inside
+          (sym (get_or-map (step_edges lists) sources i none named c.loop-one-test.true)) at.invariant.marks
+          (both_marked at.marks c.mark_one.new.marks c.mark_list.new.marks (option_to_list one.from) (list_at lists one.list)
+          c.mark_one.ensures c.mark_list.ensures.marks);
+      count = c.mark_list.ensures.count ∙ at.invariant.count;
+      passed = c.mark_list.ensures.passed;
+    }
