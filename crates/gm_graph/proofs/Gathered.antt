@@ -13,7 +13,7 @@ use Rattle.gm_graph_cache.specs.declared.cache.summary.Kept.{Kept}
 use Rattle.gm_graph_cache.specs.declared.cache.summary.ListSpan.{ListSpan}
 use Rattle.gm_graph.specs.Private.Findings.{place_at}
 use Rattle.gm_graph.specs.Private.Gathering.{AreFilePlaces, sources_from, gathered_sources, span_after, spans_from, spans_of, steps_by}
-use Rattle.gm_graph_cache.specs.Private.Summaries.{AreSpansInOrder}
+use Rattle.gm_graph_cache.specs.Private.KeptFiles.{AreSpansInOrder}
 use Rattle.gm_graph_select.specs.declared.adjacency.Source.{Source}
 use Rattle.gm_graph_select.specs.declared.number_lists.Span.{Span}
 use Rattle.gm_graph_select.specs.Adjacency.{IsBelow, StepEdges, by_step, left_by, list_at, same_step}

@@ -9,7 +9,7 @@ ghost use Rattle.gm_name.specs.ModuleVersion.{ModuleVersion, module_at, pair_cmp
 ghost use Rattle.gm_graph.specs.Private.Findings.{place_at};
 ghost use Rattle.gm_graph.specs.Private.Gathering.{AreFaultsOf, AreFilePlaces, HasFaultOf, fault, source_at, gathered_sources, span_after, spans_of, steps_by};
 ghost use Rattle.gm_graph_cache.specs.Places.{place_limit};
-ghost use Rattle.gm_graph_cache.specs.Private.Summaries.{AreListsInOrder, AreSpansInOrder};
+ghost use Rattle.gm_graph_cache.specs.Private.KeptFiles.{AreListsInOrder, AreSpansInOrder};
 ghost use Rattle.gm_graph_select.specs.Adjacency.{edges_of, sources_of as steps_left};
 ghost use Rattle.gm_graph_select.specs.declared.step.Step.TheVariants.{Of};
 ghost use Rattle.gm_graph_select.specs.Graph.{IsEdgeEnd, among, edge_cmp};

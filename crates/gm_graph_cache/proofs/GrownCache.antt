@@ -7,9 +7,9 @@ use Rattle.gm_name_table.specs.Listed.{NumberedList, modules_of}
 use Rattle.gm_graph_cache.specs.declared.cache.Cache.{Cache}
 use Rattle.gm_graph_cache.specs.Cached.{main_in, sums_in, table_in}
 use Rattle.gm_graph_cache.specs.Private.Held.{IsConsistent}
-use Rattle.gm_graph_cache.specs.Private.KeptLists.{NotesAll}
+use Rattle.gm_graph_cache.specs.Private.NotedLists.{NotesAll}
 use Rattle.gm_graph_cache.specs.KeptLists.{own_lists}
-use Rattle.gm_graph_cache.specs.Private.Summaries.{Grows}
+use Rattle.gm_graph_cache.specs.Private.KeptFiles.{Grows}
 use Rattle.gm_graph_cache.proofs.HeldFiles.{grown_holds}
 use Rattle.gm_graph_cache.proofs.KeptLists.{lists_still}
 use Rattle.gm_graph_cache.proofs.Ordered.{order_longer, own_spans}

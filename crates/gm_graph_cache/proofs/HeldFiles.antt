@@ -1,6 +1,7 @@
 -- What is held of files stays if the list of modules grows, and when one more file is kept.
-use Rattle.std.proofs.Common.{◌≡◌, ◌∙◌, cond, List, [], ◌∷◌, Option, Some, None, Result, Ok, Err, append-nil, refl, sym, inl, inr}
-use Rattle.std.specs.Prelude.{OnErr, OnOk}
+use Rattle.std.proofs.Common.{◌≡◌, ◌∙◌, cond, ℕ, List, [], ◌∷◌, Option, Some, None, Result, Ok, Err, append-nil, refl, sym, inl, inr}
+use Rattle.std.specs.Prelude.{OnErr, OnOk, slice_get}
+use Rattle.std.specs.Option.{option_and_then}
 use Rattle.std.proofs.lemmas.Bool.{cases_Bool}
 use Rattle.std.proofs.lemmas.Option.{same_Some}
 use Rattle.std.proofs.Math.Logic.{∥∥₁_map}
@@ -14,14 +15,14 @@ use Rattle.gm_store_parts.specs.Asked.{Name, Reply, answer_in, same_name}
 use Rattle.gm_store_sums.specs.Sums.{Sums}
 use Rattle.gm_graph_cache.specs.declared.cache.file_table.FileTable.{FileTable}
 use Rattle.gm_graph_cache.specs.declared.cache.summary.Kept.{Kept}
-use Rattle.gm_graph_cache.specs.FileTable.{kept_at}
+use Rattle.gm_graph_cache.specs.FileTable.{kept_at, place_of}
 use Rattle.gm_graph_cache.specs.Private.FileTable.{KeepsFiles, PutsFile}
 use Rattle.gm_graph_cache.specs.Held.{HoldsAnswers, IsKeptReading, held_under}
 use Rattle.gm_graph_cache.specs.Sayings.{run_of}
 use Rattle.gm_graph_cache.specs.Summaries.{summary_reading}
-use Rattle.gm_graph_cache.specs.Private.Summaries.{AreKeptIn, Grows}
-use Rattle.gm_graph_cache.proofs.SharedLists.{kept_named}
-use Rattle.gm_graph_cache.proofs.Spans.{readings_still}
+use Rattle.gm_graph_cache.specs.Private.KeptFiles.{AreKeptIn, Grows}
+use Rattle.gm_graph_cache.proofs.SharedLists.{kept_listed}
+use Rattle.gm_graph_cache.proofs.Spans.{IsKept, readings_still}
 
 -- If nothing is kept, no answers say so.
 pub none_holds : {main : Main} {sums : Option Sums} {list : NumberedList} {files : FileTable} → ((name : Name) → kept_at files name ≡ None)
@@ -41,6 +42,15 @@ numbered_more {old} {new} pair only numbers list = (
     listed = list ∙ sym (append-nil (modules_of old));
   },
 )
+
+-- The requirements of a file that is found by its name are in the list.
+kept_named : (modules : List ModuleVersion) (files : FileTable) (name : Name) (one : Kept) → AreKeptIn modules files.files.items → kept_at files name ≡ Some one
+    → IsKept modules one
+kept_named modules files name one are = by (place_of files name)
+  where
+    by : (o : Option ℕ) → option_and_then (slice_get files.files.items) o ≡ Some one → IsKept modules one
+    by None e = absurd (cc e)
+    by (Some place) e = kept_listed modules files.files.items place one are e
 
 module _ (main : Main) (old new : NumberedList) (files : FileTable) (grows : Grows old new)
     (are : AreKeptIn (modules_of old) files.files.items) where

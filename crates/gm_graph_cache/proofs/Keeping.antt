@@ -18,7 +18,7 @@ use Rattle.gm_graph_cache.specs.Reading.{file_of}
 use Rattle.gm_graph_cache.specs.FileTable.{kept_at}
 use Rattle.gm_graph_cache.specs.Private.FileTable.{KeepsFiles, KeepsOthers}
 use Rattle.gm_graph_cache.specs.Summaries.{listed_span}
-use Rattle.gm_graph_cache.specs.Private.Summaries.{Grows}
+use Rattle.gm_graph_cache.specs.Private.KeptFiles.{Grows}
 use Rattle.gm_graph_cache.specs.Cached.{HoldsSame, KeepsSound, Knows, LentSame, main_in, run_in, summary_at, sums_in, table_in, Follows}
 use Rattle.gm_graph_cache.specs.Sayings.{KeepsSayings, Run}
 use Rattle.gm_graph_cache.specs.Asking.{AsksFor, IsLoadFaultOf}

@@ -10,8 +10,9 @@ use Rattle.gm_graph_cache.specs.declared.cache.summary.Kept.{Kept}
 use Rattle.gm_graph_cache.specs.declared.cache.summary.Kept.TheVariants.{Valid, Faulty}
 use Rattle.gm_graph_cache.specs.declared.cache.summary.Summary.{Summary}
 use Rattle.gm_graph_cache.specs.KeptLists.{AreKeptOnce, own_list, own_lists}
-use Rattle.gm_graph_cache.specs.Private.KeptLists.{NotesAll, place_for}
-use Rattle.gm_graph_cache.specs.Private.Summaries.{AreKeptIn, Grows, IsWithinList, cut}
+use Rattle.gm_graph_cache.specs.Private.NotedLists.{NotesAll, place_for}
+use Rattle.gm_graph_cache.specs.Private.KeptFiles.{AreKeptIn, Grows, IsWithinList}
+use Rattle.gm_graph_cache.specs.Private.Summaries.{cut}
 use Rattle.gm_graph_cache.proofs.SharedLists.{cut_appends, cut_listed, push_cases}
 use Rattle.gm_graph_cache.proofs.Spans.{part_still}
 

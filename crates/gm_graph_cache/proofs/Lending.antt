@@ -26,7 +26,7 @@ use Rattle.gm_file.specs.Main.{Main, without_excluded}
 use Rattle.gm_graph_cache.specs.Reading.{file_of}
 use Rattle.gm_graph_cache.specs.declared.cache.summary.ListSpan.{ListSpan}
 use Rattle.gm_graph_cache.specs.Summaries.{at_span, kept_reading, listed_span, summary_reading}
-use Rattle.gm_graph_cache.specs.Private.Summaries.{IsWithinList, span_found}
+use Rattle.gm_graph_cache.specs.Private.KeptFiles.{IsWithinList, span_found}
 use Rattle.gm_graph_cache.proofs.Spans.{span_within}
 use Rattle.gm_graph_cache.specs.Cached.{AreRequirements, IsSound, Knows, file_count, its_requirements, main_in, no_requirements, run_in, summary_at, table_in, Follows, module_numbered}
 use Rattle.gm_graph_cache.specs.Private.Cached.{IsLender}

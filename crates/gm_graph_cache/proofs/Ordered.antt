@@ -5,7 +5,7 @@ use Rattle.gm_name_table.specs.Listed.{BeginsWith}
 use Rattle.gm_graph_cache.specs.declared.cache.summary.Kept.{Kept}
 use Rattle.gm_graph_cache.specs.declared.cache.summary.ListSpan.{ListSpan}
 use Rattle.gm_graph_cache.specs.Summaries.{own_span}
-use Rattle.gm_graph_cache.specs.Private.Summaries.{AreListsInOrder, AreSpansInOrder}
+use Rattle.gm_graph_cache.specs.Private.KeptFiles.{AreListsInOrder, AreSpansInOrder}
 
 -- where the own list of each file is
 abbrev pub own_spans : List Kept → List (Option ListSpan)

@@ -8,16 +8,14 @@ use Rattle.std.proofs.lemmas.Option.{same_Some, slice_get_within}
 use Rattle.gm_name.specs.ModuleVersion.{ModuleVersion, module_at}
 use Rattle.gm_name_table.specs.Listed.{Appends, BeginsWith, NumberedList, modules_at, modules_of, part}
 use Rattle.gm_name_table.proofs.Listed.{appends_after, part_as}
-use Rattle.gm_store_parts.specs.Asked.{Name}
-use Rattle.gm_graph_cache.specs.FileTable.{kept_at, place_of}
-use Rattle.gm_graph_cache.specs.declared.cache.file_table.FileTable.{FileTable}
 use Rattle.gm_graph_cache.specs.declared.cache.summary.Kept.{Kept}
 use Rattle.gm_graph_cache.specs.declared.cache.summary.Kept.TheVariants.{Valid, Faulty}
 use Rattle.gm_graph_cache.specs.declared.cache.summary.KeptList.{KeptList}
 use Rattle.gm_graph_cache.specs.declared.cache.summary.ListSpan.{ListSpan}
 use Rattle.gm_graph_cache.specs.declared.cache.summary.Summary.{Summary}
 use Rattle.gm_graph_cache.specs.Summaries.{at_span, own_span, own_span_at, span_unless}
-use Rattle.gm_graph_cache.specs.Private.Summaries.{AreKeptIn, AreWithinList, Grows, GrowsFrom, IsKeptIn, IsListIn, IsSameList, IsWithinList, cut, list_place, span_found}
+use Rattle.gm_graph_cache.specs.Private.KeptFiles.{AreKeptIn, Grows, GrowsFrom, IsKeptIn, IsListIn, IsWithinList, span_found}
+use Rattle.gm_graph_cache.specs.Private.Summaries.{AreWithinList, IsSameList, cut, list_place}
 use Rattle.gm_graph_cache.proofs.Ordered.{own_spans}
 use Rattle.gm_graph_cache.proofs.Spans.{IsKept, span_still, within_still}
 
@@ -79,15 +77,6 @@ module _ (modules : List ModuleVersion) where
       → IsKept modules one
   kept_listed files place (Valid summary) are there = (are place summary there).0
   kept_listed files place (Faulty class) are there = tt
-
-  -- So it is with a file that is found by its name.
-  pub kept_named : (files : FileTable) (name : Name) (one : Kept) → AreKeptIn modules files.files.items → kept_at files name ≡ Some one
-      → IsKept modules one
-  kept_named files name one are = by (place_of files name)
-    where
-      by : (o : Option ℕ) → option_and_then (slice_get files.files.items) o ≡ Some one → IsKept modules one
-      by None e = absurd (cc e)
-      by (Some place) e = kept_listed files.files.items place one are e
 
   pub listed_grown : (more : List ModuleVersion) (files : List Kept) → BeginsWith modules more → AreKeptIn modules files
       → AreKeptIn more files

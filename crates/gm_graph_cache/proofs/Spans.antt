@@ -9,7 +9,7 @@ use Rattle.gm_graph_cache.specs.declared.cache.summary.Kept.{Kept}
 use Rattle.gm_graph_cache.specs.declared.cache.summary.Kept.TheVariants.{Valid, Faulty}
 use Rattle.gm_graph_cache.specs.declared.cache.summary.ListSpan.{ListSpan}
 use Rattle.gm_graph_cache.specs.Summaries.{at_span, summary_reading}
-use Rattle.gm_graph_cache.specs.Private.Summaries.{IsWithinList, span_found}
+use Rattle.gm_graph_cache.specs.Private.KeptFiles.{IsWithinList, span_found}
 
 longer : {T : Type 0} (old new : List T) → BeginsWith old new → length old ≤ length new
 longer old new begins = omega (arith, ap length begins.1, length-append old begins.0)

@@ -16,6 +16,7 @@ pub(crate) mod by_name;
 pub(crate) mod class;
 pub(crate) mod depth;
 pub(crate) mod file_table;
+pub(crate) mod keeping;
 pub(crate) mod lent;
 pub(crate) mod list_index;
 pub(crate) mod load_fault;
@@ -28,15 +29,14 @@ pub(crate) mod summary;
 pub(crate) mod turn_history;
 pub(crate) mod visit;
 
-ghost use Rattle.std.specs.Prelude.{◌≡◌, ◌≤◌, ◌<◌, ◌+◌, ◌++◌, ◌∷◌, [], List, IfOk, IfSome, OnErr, OnOk, IsSome, MatchResult, None, Err, Ok, drop, length, slice_get, take};
+ghost use Rattle.std.specs.Prelude.{◌≡◌, ◌≤◌, ◌<◌, ◌+◌, ◌++◌, ◌∷◌, [], List, IfOk, IfSome, OnErr, OnOk, IsSome, MatchResult, None, Err, Ok, length, slice_get};
 ghost use Rattle.std.proofs.Props.{props};
 ghost use Rattle.std.specs.Option.{option_and_then, option_copied};
 ghost use Rattle.gm_name_table.specs.Listed.{modules_of};
-ghost use Rattle.gm_store_parts.specs.Asked.{Name, Reply, answer_in, name_of};
-ghost use Rattle.gm_store_parts.specs.Requests.{refused_for};
-ghost use Rattle.gm_store_parts.specs.States.{AddsAnswer};
 ghost use Rattle.gm_store_parts.specs.declared.files.FileName.{FileName};
-ghost use Rattle.gm_file.specs.Listed.{Head};
+ghost use Rattle.gm_store_parts.specs.States.{AddsAnswer};
+ghost use Rattle.gm_store_parts.specs.Requests.{refused_for};
+ghost use Rattle.gm_store_parts.specs.Asked.{Name, Reply, answer_in, name_of};
 ghost use Rattle.gm_file.specs.Main.{without_excluded};
 ghost use Rattle.gm_graph_cache.specs.Asking.{AsksOne, IsAskableFile, IsLoadFaultOf};
 ghost use Rattle.gm_graph_cache.specs.Held.{IsKeptReading};
@@ -44,25 +44,27 @@ ghost use Rattle.gm_graph_cache.specs.Reading.{file_of};
 ghost use Rattle.gm_graph_cache.specs.Places.{place_limit};
 ghost use Rattle.gm_graph_cache.specs.Private.Held.{IsConsistent};
 ghost use Rattle.gm_graph_cache.specs.KeptLists.{AreKeptOnce, own_lists};
-ghost use Rattle.gm_graph_cache.specs.Private.KeptLists.{NotesAll};
+ghost use Rattle.gm_graph_cache.specs.Private.NotedLists.{NotesAll};
 ghost use Rattle.gm_graph_cache.specs.Lent.{lent_modules};
-ghost use Rattle.gm_graph_cache.specs.Summaries.{at_span, kept_reading, span_unless, summary_reading};
-ghost use Rattle.gm_graph_cache.specs.Private.Summaries.{AreKeptIn, AreListsInOrder, AreSpansInOrder, GrowsFrom, IsKeptIn, IsListIn, kept_with, listed_reading, order_is_fact, span_found};
+ghost use Rattle.gm_graph_cache.specs.Summaries.{at_span, summary_reading};
+ghost use Rattle.gm_graph_cache.specs.Private.KeptFiles.{AreListsInOrder, IsKeptIn, span_found};
+ghost use Rattle.gm_graph_cache.specs.Private.Summaries.{order_is_fact};
 
 use crate::cache::class::Class;
 use crate::cache::depth::Depth;
 use crate::cache::file_table::FileTable;
+use crate::cache::keeping::kept_of;
 use crate::cache::lent::Lent;
 use crate::cache::list_index::ListIndex;
 use crate::cache::load_fault::LoadFault;
 use crate::cache::naming::{file_name, is_askable};
 use crate::cache::parts::CacheParts;
 use crate::cache::paths::is_right_path;
-use crate::cache::reading::{ListedReading, read_answer};
-use crate::cache::summary::{Kept, KeptList, ListSpan, Summary, leave_out};
+use crate::cache::reading::read_answer;
+use crate::cache::summary::{Kept, ListSpan};
 use crate::cache::turn_history::TurnHistory;
 use crate::cache::visit::{Verdict, Visit};
-use gm_file::{ListedFile, MainModule};
+use gm_file::MainModule;
 use gm_name::NoMemory;
 use gm_name_table::{KnownNames, ModuleList};
 use gm_store::{Answer, AskFault, Asks, FileName};
@@ -114,74 +116,6 @@ fn add_first(
         }
     }
     Ok(())
-}
-
-/// Where the list of the next file is, whose requirements are those of the list of modules from this place on. The
-/// excluded ones are taken out. If an earlier file has the same list, these are cut off again.
-fn kept_list(
-    alloc: Global,
-    lists: &mut ListIndex,
-    modules: &mut ModuleList,
-    main: &MainModule,
-    files: &[Kept],
-    start: usize,
-) -> Result<KeptList, NoMemory>
-    requires few { length files.now < place_limit }
-    requires start { start ≤ length modules.old.numbers }
-    requires listed { AreKeptIn (take start (modules_of modules.old)) files.now }
-    requires notes { NotesAll lists.old (own_lists modules.old.numbers files.now) }
-    ensures has { IfOk result (λ list. at_span (modules_of modules.new) list.span
-        ≡ without_excluded main.now (drop start (modules_of modules.old))) }
-    ensures listed { IfOk result (IsListIn (modules_of modules.new) files.now) }
-    ensures order { IfOk result (λ list.
-        AreSpansInOrder start (span_unless list.same_as list.span ∷ []) (length modules.new.numbers)) }
-    ensures cut { IfOk result (λ list. IsSome list.same_as → length modules.new.numbers ≤ start) }
-    ensures notes { NotesAll lists.new (own_lists modules.new.numbers files.now) }
-    ensures next { IfOk result (λ list. (file : Head)
-        → NotesAll lists.new (own_lists modules.new.numbers (files.now ++ kept_with file list ∷ []))) }
-    ensures grows { GrowsFrom start modules.old modules.new }
-{
-    leave_out(alloc, modules, main, start)?;
-    if let Some(same) = lists.find(modules, files, start)? {
-        modules.truncate(start);
-        return Ok(same);
-    }
-    let end = modules.len();
-    Ok(KeptList {
-        span: ListSpan { start, end },
-        same_as: None,
-    })
-}
-
-/// What is kept of a file that was read. The requirements of a valid one are those of the list from this place on.
-fn kept_of(
-    alloc: Global,
-    lists: &mut ListIndex,
-    modules: &mut ModuleList,
-    main: &MainModule,
-    files: &[Kept],
-    read: ListedReading,
-    start: usize,
-) -> Result<Kept, NoMemory>
-    requires few { length files.now < place_limit }
-    requires start { start ≤ length modules.old.numbers }
-    requires listed { AreKeptIn (take start (modules_of modules.old)) files.now }
-    requires notes { NotesAll lists.old (own_lists modules.old.numbers files.now) }
-    ensures reading { IfOk result (λ kept. summary_reading (modules_of modules.new) kept
-        ≡ kept_reading main.now (listed_reading (drop start (modules_of modules.old)) read)) }
-    ensures listed { IfOk result (IsKeptIn (modules_of modules.new) files.now) }
-    ensures order { IfOk result (λ kept. AreListsInOrder start (kept ∷ []) (length modules.new.numbers)) }
-    ensures notes { NotesAll lists.new (own_lists modules.new.numbers files.now) }
-    ensures next { IfOk result (λ kept. NotesAll lists.new (own_lists modules.new.numbers (files.now ++ kept ∷ []))) }
-    ensures grows { GrowsFrom start modules.old modules.new }
-{
-    match read {
-        ListedReading::Valid(file) => {
-            let list = kept_list(alloc, lists, modules, main, files, start)?;
-            Ok(Kept::Valid(Summary { file, list }))
-        }
-        ListedReading::Faulty(class) => Ok(Kept::Faulty(class)),
-    }
 }
 
 impl<'a> Cache<'a> {

@@ -43,7 +43,8 @@ impl FileTable {
     ghost use Rattle.gm_name.specs.ModuleVersion.{ModuleVersion};
     ghost use Rattle.gm_name_table.specs.OptionalPlaces.{place_in};
     ghost use Rattle.gm_name_table.specs.declared.place.OptionalPlace.{OptionalPlace};
-    ghost use Rattle.gm_graph_cache.specs.Private.Summaries.{list_place, span_found};
+    ghost use Rattle.gm_graph_cache.specs.Private.Summaries.{list_place};
+    ghost use Rattle.gm_graph_cache.specs.Private.KeptFiles.{span_found};
 
     /// No files, for a main file with these replacements. The only refusal is `NoMemory`.
     pub(crate) fn new(alloc: Global, main: &MainModule) -> Result<FileTable, NoMemory>

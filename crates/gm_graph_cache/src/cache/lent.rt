@@ -1,7 +1,7 @@
 //! The requirements that a cache returns.
 
 ghost use Rattle.gm_name_table.specs.Listed.{modules_of};
-ghost use Rattle.gm_graph_cache.specs.Private.Summaries.{IsWithinList};
+ghost use Rattle.gm_graph_cache.specs.Private.KeptFiles.{IsWithinList};
 
 use crate::cache::summary::ListSpan;
 use gm_name_table::{ModuleList, Modules};

@@ -10,7 +10,8 @@
 ghost use Rattle.std.specs.Prelude.{◌≡◌, ◌≢◌, ◌≤◌, ◌<◌, ℕ, IfOk, IfSome, List, None, OnOk, Some, length};
 ghost use Rattle.gm_name_table.specs.Listed.{modules_of};
 ghost use Rattle.gm_graph_cache.specs.Places.{place_limit};
-ghost use Rattle.gm_graph_cache.specs.Private.KeptLists.{NotesAll, NotesBesideSame, list_tag, numbers_from, place_for};
+ghost use Rattle.gm_graph_cache.specs.Private.NotedLists.{NotesAll, list_tag, place_for};
+ghost use Rattle.gm_graph_cache.specs.Private.KeptLists.{NotesBesideSame, numbers_from};
 ghost use Rattle.gm_graph_cache.specs.KeptLists.{own_lists};
 ghost use Rattle.gm_graph_cache.specs.Private.Summaries.{AreWithinList, IsSameList};
 

@@ -6,7 +6,8 @@ ghost use Rattle.std.specs.List.{IsDistinct};
 ghost use Rattle.gm_name.specs.ModuleVersion.{pair_eq};
 ghost use Rattle.gm_name_table.specs.Listed.{AreModuleNumbers};
 ghost use Rattle.gm_graph_cache.specs.Places.{place_limit};
-ghost use Rattle.gm_graph_cache.specs.Private.Summaries.{AreListsInOrder, order_is_fact};
+ghost use Rattle.gm_graph_cache.specs.Private.KeptFiles.{AreListsInOrder};
+ghost use Rattle.gm_graph_cache.specs.Private.Summaries.{order_is_fact};
 
 use crate::cache::summary::Kept;
 use gm_name::ModVer;

@@ -9,7 +9,7 @@ ghost use Rattle.std.specs.Option.{option_copied};
 ghost use Rattle.gm_store_parts.specs.Asked.{IsWithinLimit, bytes, name_of, reply_of};
 ghost use Rattle.gm_graph_cache.specs.Reading.{IsContentReading, IsFileReading, class_of_sum, sum_fault};
 ghost use Rattle.gm_graph_cache.specs.Summaries.{RetractsBy, reading_of};
-ghost use Rattle.gm_graph_cache.specs.Private.Summaries.{Grows, listed_reading};
+ghost use Rattle.gm_graph_cache.specs.Private.KeptFiles.{Grows, listed_reading};
 
 use crate::cache::class::Class;
 use gm_file::{BytesFault, DepFile, ListedFile, Misreading};

@@ -11,7 +11,8 @@ ghost use Rattle.gm_file.specs.Listed.{with_requirements};
 ghost use Rattle.gm_file.specs.Main.{is_excluded, without_excluded};
 ghost use Rattle.gm_graph_cache.specs.Turns.{leads_on};
 ghost use Rattle.gm_graph_cache.specs.Summaries.{own_span};
-ghost use Rattle.gm_graph_cache.specs.Private.Summaries.{Grows, cut, nowhere, same_list, span_found};
+ghost use Rattle.gm_graph_cache.specs.Private.KeptFiles.{Grows, nowhere, same_list, span_found};
+ghost use Rattle.gm_graph_cache.specs.Private.Summaries.{cut};
 
 use crate::cache::class::Class;
 use crate::cache::depth::Depth;

@@ -14,9 +14,9 @@ use Rattle.gm_graph_cache.proofs.OwnFiles.{new_file, noted_again, nothing_kept, 
 use Rattle.gm_graph_cache.proofs.PuttingPlaces.{same_files}
 use Rattle.gm_graph_cache.proofs.SharedLists.{listed_push}
 use Rattle.gm_graph_cache.proofs.HeldFiles.{added_some, kept_some}
-use Rattle.gm_graph_cache.specs.Private.KeptLists.{NotesAll}
+use Rattle.gm_graph_cache.specs.Private.NotedLists.{NotesAll}
 use Rattle.gm_graph_cache.specs.KeptLists.{own_lists}
-use Rattle.gm_graph_cache.specs.Private.Summaries.{AreKeptIn, AreListsInOrder}
+use Rattle.gm_graph_cache.specs.Private.KeptFiles.{AreKeptIn, AreListsInOrder}
 use Rattle.gm_name_table.specs.Listed.{modules_of}
 use Rattle.gm_graph_cache.proofs.Ordered.{begins_added, has_added}
 use Rattle.gm_graph_cache.proofs.MoreAnswers.{knows_read, none_still, not_asked, sound_read}

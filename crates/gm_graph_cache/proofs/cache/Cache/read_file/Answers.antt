@@ -1,7 +1,7 @@
 use Rattle.std.proofs.Common.{Ok, Err, drop, refl}
 use Rattle.gm_store_parts.specs.Asked.{name_of}
 use Rattle.gm_name_table.specs.Listed.{modules_of}
-use Rattle.gm_graph_cache.specs.Private.Summaries.{listed_reading}
+use Rattle.gm_graph_cache.specs.Private.KeptFiles.{listed_reading}
 use Rattle.gm_graph_cache.proofs.AskedFile.{asked_one, asks_passed, asks_still}
 use Rattle.gm_graph_cache.proofs.GrownCache.{grown_consistent, grown_notes}
 use Rattle.gm_graph_cache.proofs.Keeping.{holds_grown, holds_itself}

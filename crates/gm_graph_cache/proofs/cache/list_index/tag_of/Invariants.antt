@@ -1,5 +1,5 @@
 use Rattle.std.proofs.Common.{◌≡◌, drop}
-use Rattle.gm_graph_cache.specs.Private.KeptLists.{list_tag}
+use Rattle.gm_graph_cache.specs.Private.NotedLists.{list_tag}
 use Rattle.gm_graph_cache.proofs.cache.list_index.tag_of.Given as goal
 
 abbrev pub invariant-loop-number : goal.invariant-loop-number

@@ -4,7 +4,8 @@ use Rattle.std.specs.Prelude.{OnOk}
 use Rattle.gm_name.specs.ModuleVersion.{ModuleVersion}
 use Rattle.gm_name_table.specs.Listed.{Appends, NumberedList, modules_of, part}
 use Rattle.gm_file.specs.Main.{is_excluded, without_excluded}
-use Rattle.gm_graph_cache.specs.Private.Summaries.{Grows, cut}
+use Rattle.gm_graph_cache.specs.Private.KeptFiles.{Grows}
+use Rattle.gm_graph_cache.specs.Private.Summaries.{cut}
 use Rattle.gm_graph_cache.proofs.Excluding.{all_others}
 use Rattle.gm_graph_cache.proofs.SharedLists.{cut_appends, cut_is, end_part}
 use Rattle.gm_graph_cache.proofs.cache.summary.leave_out.Goals.{After-len-end}

@@ -1,13 +1,14 @@
 use Rattle.std.proofs.Common.{◌≡◌, ◌≤◌, ◌∙◌, arith, ap, length, refl, subst, sym}
 use Rattle.gm_name_table.specs.Listed.{NumberedList, modules_of, part}
 use Rattle.gm_graph_cache.specs.Summaries.{at_span}
-use Rattle.gm_graph_cache.specs.Private.KeptLists.{NotesAll}
+use Rattle.gm_graph_cache.specs.Private.NotedLists.{NotesAll}
 use Rattle.gm_graph_cache.specs.KeptLists.{own_lists}
-use Rattle.gm_graph_cache.specs.Private.Summaries.{Grows, cut, kept_with}
+use Rattle.gm_graph_cache.specs.Private.KeptFiles.{Grows}
+use Rattle.gm_graph_cache.specs.Private.Summaries.{cut, kept_with}
 use Rattle.gm_graph_cache.proofs.KeptLists.{lists_beside, no_list_noted, one_more_noted}
 use Rattle.gm_graph_cache.proofs.SharedLists.{all_within, cut_again, cut_is, cut_length, cut_same, end_part, ends_after, grown_from, list_shared, own_within_list, rest_is}
-use Rattle.gm_graph_cache.proofs.cache.kept_list.Goals.{After-leave_out, After-truncate, In_ok-leave_out}
-use Rattle.gm_graph_cache.proofs.cache.kept_list.Goals as goal
+use Rattle.gm_graph_cache.proofs.cache.keeping.kept_list.Goals.{After-leave_out, After-truncate, In_ok-leave_out}
+use Rattle.gm_graph_cache.proofs.cache.keeping.kept_list.Goals as goal
 
 -- ---- the excluded ones are taken out
 
