@@ -43,7 +43,7 @@ from sources import (
 )
 
 FOLDER = pathlib.Path("docs/proof")
-GRAPH = ("gm_graph_cache", "gm_graph_select", "gm_graph", "gomod_run")  # the crates that know module graphs
+GRAPH = ("gm_graph_files", "gm_graph_cache", "gm_graph_select", "gm_graph", "gomod_run")  # the crates that know module graphs
 RUNNING = CRATES / "gomod_run/src/running.rt"
 LIST = ["gomod_run.specs.ListQuery.ListEnds", "gomod_run.specs.Written.EndsAsStated"]
 # the crates of copies, with the definitions that reach theirs

@@ -38,8 +38,8 @@ MOST = 2.4
 LARGER, RUNS = 16, 5
 # how many seconds a run has
 LIMIT = 120
-# where gm_graph_cache makes tags of lists, and how; from how many numbers the lists of one tag are made
-TAGS = script.TOP / "crates/gm_graph_cache/src/cache/list_index.rt"
+# where gm_graph_files makes tags of lists, and how; from how many numbers the lists of one tag are made
+TAGS = script.TOP / "crates/gm_graph_files/src/list_index.rt"
 TAG_STEP = "tag = (tag.rotate_left(5) ^ *number).wrapping_mul(SPREAD);"
 NUMBERS = 16_384
 # where files are laid: in memory, if a gigabyte is free there, since thousands take long on a disk
@@ -120,7 +120,7 @@ def spread():
 
 
 def lists_of_one_tag(count, base):
-    """So many lists of eight of the numbers from `base` on whose tag is 0, as `tag_of` of gm_graph_cache makes it. Six
+    """So many lists of eight of the numbers from `base` on whose tag is 0, as `tag_of` of gm_graph_files makes it. Six
     are
     chosen; the last two must cancel what these leave, and are looked up by their exclusive or."""
     factor = spread()

@@ -9,9 +9,9 @@ use Rattle.std.proofs.lemmas.Map.Views.{Contains-from_any}
 use Rattle.std.proofs.lemmas.List.Elements.{Contains-append_left, Contains-push, Contains-push_cases}
 use Rattle.gm_name.specs.ModuleVersion.{ModuleVersion}
 use Rattle.gm_name.specs.Private.ModuleVersion.{pair-same, pairs-equivalence}
-use Rattle.gm_graph_cache.specs.declared.cache.depth.Turn.{Turn}
-use Rattle.gm_graph_cache.specs.declared.cache.depth.Depth.{Depth}
-use Rattle.gm_graph_cache.specs.Turns.{turn}
+use Rattle.gm_graph_files.specs.declared.depth.Turn.{Turn}
+use Rattle.gm_graph_files.specs.declared.depth.Depth.{Depth}
+use Rattle.gm_graph_files.specs.Turns.{turn}
 use Rattle.gm_graph.specs.Private.Turns.{AreTurnsOf, AddsAll, OverflowsWith}
 use Rattle.gm_graph.proofs.Sameness.{exact_turn, turns_equivalence}
 

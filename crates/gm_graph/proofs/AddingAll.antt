@@ -4,8 +4,8 @@ use Rattle.std.proofs.lemmas.List.{get_or_default, map-append, map_more, take-ap
 use Rattle.std.proofs.lemmas.List.Elements.{Contains-append_left, Contains-append_right, Contains-append_cases}
 use Rattle.gm_name.specs.ModuleVersion.{ModuleVersion, module_at}
 use Rattle.gm_name_table.proofs.Listed.{begins_after}
-use Rattle.gm_graph_cache.specs.declared.cache.depth.Turn.{Turn}
-use Rattle.gm_graph_cache.specs.declared.cache.depth.Depth.{Depth}
+use Rattle.gm_graph_files.specs.declared.depth.Turn.{Turn}
+use Rattle.gm_graph_files.specs.declared.depth.Depth.{Depth}
 use Rattle.gm_graph.proofs.Adding.{only_one, overflow_later}
 use Rattle.gm_graph_select.proofs.RankedLists.{in_mapped}
 use Rattle.gm_graph.specs.Private.Turns.{AddsAll, OverflowsWith}

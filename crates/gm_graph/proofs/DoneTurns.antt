@@ -7,14 +7,14 @@ use Rattle.std.proofs.lemmas.List.Elements.{Contains-append_left, Contains-appen
 use Rattle.gm_name.specs.ModuleVersion.{ModuleVersion}
 use Rattle.gm_file.specs.Fields.{Dependency}
 use Rattle.gm_file.specs.Main.{is_pruned_by, without_excluded}
-use Rattle.gm_graph_cache.specs.declared.cache.class.Class.{Class}
-use Rattle.gm_graph_cache.specs.declared.cache.depth.Turn.{Turn}
-use Rattle.gm_graph_cache.specs.declared.cache.depth.Depth.{Depth}
-use Rattle.gm_graph_cache.specs.declared.cache.depth.Depth.TheVariants.{Top, Deep}
+use Rattle.gm_graph_files.specs.declared.class.Class.{Class}
+use Rattle.gm_graph_files.specs.declared.depth.Turn.{Turn}
+use Rattle.gm_graph_files.specs.declared.depth.Depth.{Depth}
+use Rattle.gm_graph_files.specs.declared.depth.Depth.TheVariants.{Top, Deep}
 use Rattle.gm_graph.specs.declared.worklist.Worklist.{Worklist}
 use Rattle.gm_graph.specs.Run.{AreTurns, IsDeep, IsOpened, IsTop, TakesTurn, from_deep, from_main, from_top}
 use Rattle.gm_graph_cache.specs.Sayings.{Run, Says}
-use Rattle.gm_graph_cache.specs.Turns.{same_turn, turn, leads_on}
+use Rattle.gm_graph_files.specs.Turns.{same_turn, turn, leads_on}
 use Rattle.gm_graph.specs.Private.Turns.{AddsAll, HasTurn, depth_by, led_to}
 use Rattle.gm_graph.specs.Private.Worklists.{IsWorklist, turn_of, turns_of}
 use Rattle.gm_name_table.specs.Listed.{BeginsWith}

@@ -15,10 +15,10 @@ use Rattle.gm_file.specs.Main.{Main}
 use Rattle.gm_store_parts.specs.Asked.{Name, Reply, names_in, same_name}
 use Rattle.gm_store_parts.proofs.NameOrder.{names_equal}
 use Rattle.gm_store_sums.specs.Sums.{Sums}
-use Rattle.gm_graph_cache.specs.declared.cache.class.Class.{Class}
-use Rattle.gm_graph_cache.specs.declared.cache.depth.Turn.{Turn}
-use Rattle.gm_graph_cache.specs.declared.cache.depth.Depth.TheVariants.{Deep}
-use Rattle.gm_graph_cache.specs.Reading.{file_of, is_askable}
+use Rattle.gm_graph_files.specs.declared.class.Class.{Class}
+use Rattle.gm_graph_files.specs.declared.depth.Turn.{Turn}
+use Rattle.gm_graph_files.specs.declared.depth.Depth.TheVariants.{Deep}
+use Rattle.gm_graph_files.specs.Reading.{file_of, is_askable}
 use Rattle.gm_graph.specs.Run.{AreOpened, AreTurns, AskedInTurn, IsNeeded, IsOpened, IsRead, IsSettled, LoadingNeeds, more, nothing}
 use Rattle.gm_graph_cache.specs.Sayings.{FileSays, Run, Says, answered, faulty, run_of, sound, unaskable, wrong_path}
 use Rattle.gm_graph.specs.Private.Turns.{AreTurnsOf}

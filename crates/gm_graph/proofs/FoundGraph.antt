@@ -7,9 +7,9 @@ use Rattle.gm_name_table.specs.Listed.{modules_at, modules_of}
 use Rattle.gm_name_table.proofs.Listed.{part_as}
 use Rattle.gm_file.specs.Fields.{Dependency}
 use Rattle.gm_file.specs.Main.{without_excluded}
-use Rattle.gm_graph_cache.proofs.Ordered.{own_spans}
+use Rattle.gm_graph_files.proofs.Ordered.{own_spans}
 use Rattle.gm_graph_cache.specs.declared.cache.Cache.{Cache}
-use Rattle.gm_graph_cache.specs.declared.cache.class.Class.{Class}
+use Rattle.gm_graph_files.specs.declared.class.Class.{Class}
 use Rattle.gm_graph_cache.specs.declared.cache.parts.CacheParts.{CacheParts}
 use Rattle.gm_graph.specs.declared.fault.Fault.{Fault}
 use Rattle.gm_graph.specs.declared.findings.Findings.{Findings}
@@ -28,7 +28,7 @@ use Rattle.gm_graph_select.specs.Adjacency.{StepEdges, edges_of, left_by, list_a
 use Rattle.gm_graph_select.specs.Graph.{edge}
 use Rattle.gm_graph.proofs.Gathered.{each_source, file_source, lists_by, main_source, own_list, source_there}
 use Rattle.gm_graph.proofs.RunLemmas.{value_of}
-use Rattle.gm_graph_cache.proofs.SharedLists.{own_there}
+use Rattle.gm_graph_files.proofs.SharedLists.{own_there}
 use Rattle.gm_graph_select.proofs.RankedLists.{edges_each, edges_only, from_mapped, in_mapped}
 use Rattle.gm_graph_cache.proofs.Sayings.{class_same, file_same, not_both}
 

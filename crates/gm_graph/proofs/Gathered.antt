@@ -9,18 +9,18 @@ use Rattle.std.proofs.lemmas.Option.{same_Some}
 use Rattle.gm_name.specs.ModuleVersion.{ModuleVersion, module_at, pair_eq, pair_ties}
 use Rattle.gm_name_table.specs.Listed.{AreModuleNumbers}
 use Rattle.gm_graph_cache.specs.declared.cache.parts.CacheParts.{CacheParts}
-use Rattle.gm_graph_cache.specs.declared.cache.summary.Kept.{Kept}
-use Rattle.gm_graph_cache.specs.declared.cache.summary.ListSpan.{ListSpan}
 use Rattle.gm_graph.specs.Private.Findings.{place_at}
 use Rattle.gm_graph.specs.Private.Gathering.{AreFilePlaces, sources_from, gathered_sources, span_after, spans_from, spans_of, steps_by}
-use Rattle.gm_graph_cache.specs.Private.KeptFiles.{AreSpansInOrder}
 use Rattle.gm_graph_select.specs.declared.adjacency.Source.{Source}
 use Rattle.gm_graph_select.specs.declared.number_lists.Span.{Span}
 use Rattle.gm_graph_select.specs.Adjacency.{IsBelow, StepEdges, by_step, left_by, list_at, same_step}
 use Rattle.gm_graph_select.specs.Spans.{AreSpansApart, lists_at, part_at}
 use Rattle.gm_graph_select.specs.declared.step.Step.TheVariants.{Main, Of}
 use Rattle.gm_graph_select.specs.StepOrder.{step_eq}
-use Rattle.gm_graph_cache.proofs.Ordered.{own_spans}
+use Rattle.gm_graph_files.proofs.Ordered.{own_spans}
+use Rattle.gm_graph_files.specs.KeptFiles.{AreSpansInOrder}
+use Rattle.gm_graph_files.specs.declared.summary.ListSpan.{ListSpan}
+use Rattle.gm_graph_files.specs.declared.summary.Kept.{Kept}
 
 -- ---- the sources
 

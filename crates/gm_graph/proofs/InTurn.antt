@@ -9,7 +9,7 @@ use Rattle.gm_store_parts.proofs.Serving.{nothing_served, served_both}
 use Rattle.gm_store_sums.specs.Sums.{Sums}
 use Rattle.gm_file.specs.Main.{Main}
 use Rattle.gm_graph_cache.specs.declared.cache.Cache.{Cache}
-use Rattle.gm_graph_cache.specs.declared.cache.depth.Turn.{Turn}
+use Rattle.gm_graph_files.specs.declared.depth.Turn.{Turn}
 use Rattle.gm_graph.specs.declared.findings.Findings.{Findings}
 use Rattle.gm_graph.specs.declared.followed.Followed.{Followed}
 use Rattle.gm_graph.specs.declared.worklist.Worklist.{Worklist}
@@ -18,11 +18,11 @@ use Rattle.gm_graph.specs.Private.Asking.{AsksInTurn}
 use Rattle.gm_graph_cache.specs.Asking.{AsksFor, AsksOne, IsAskableFile}
 use Rattle.gm_graph.specs.Private.Worklists.{turn_of, turns_of}
 use Rattle.gm_graph_cache.specs.Cached.{main_in, module_numbered, run_in, sums_in, table_in, turns_in}
-use Rattle.gm_graph_cache.specs.Reading.{file_of, is_askable}
+use Rattle.gm_graph_files.specs.Reading.{file_of, is_askable}
 use Rattle.gm_graph.specs.Run.{AreTooMany, AskedInTurn, CallsFor, IsDue, IsOpened, IsRead, LoadingNeeds, TakesTurn, more, nothing}
 use Rattle.gm_graph_cache.specs.Sayings.{KeepsSayings, Run, run_of}
 use Rattle.gm_graph.specs.Private.TurnVisits.{IsTurnVisited}
-use Rattle.gm_graph_cache.specs.Turns.{turn}
+use Rattle.gm_graph_files.specs.Turns.{turn}
 use Rattle.gm_graph.specs.Private.Turns.{Visits}
 use Rattle.gm_graph.specs.Private.Visiting.{OverflowsAt}
 use Rattle.gm_graph_cache.proofs.AskedFile.{asks_for, lacks_still}

@@ -15,7 +15,7 @@ use Rattle.gm_name.specs.ModuleVersion.{ModuleVersion, module_at, pair_cmp, pair
 use Rattle.gm_name.specs.Private.ModuleVersion.{pair-anti, pair-same, pair-self}
 use Rattle.gm_graph_select.proofs.RankedLists.{from_mapped, in_mapped}
 use Rattle.gm_graph.proofs.RunLemmas.{value_of}
-use Rattle.gm_graph_cache.specs.declared.cache.class.Class.{Class}
+use Rattle.gm_graph_files.specs.declared.class.Class.{Class}
 use Rattle.gm_graph.specs.declared.fault.Fault.{Fault}
 use Rattle.gm_graph.specs.declared.findings.NumberedFault.{NumberedFault}
 use Rattle.gm_graph.specs.Private.Findings.{numbered}

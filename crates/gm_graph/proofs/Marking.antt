@@ -6,10 +6,10 @@ use Rattle.std.proofs.lemmas.List.Elements.{All-contains, All-nil, All-push, Con
 use Rattle.std.proofs.lemmas.List.{map-append}
 use Rattle.gm_name.specs.ModuleVersion.{ModuleVersion, module_at, pair_eq}
 use Rattle.gm_graph_select.proofs.RankedLists.{from_mapped, in_mapped}
-use Rattle.gm_graph_cache.specs.declared.cache.depth.Depth.{Depth}
-use Rattle.gm_graph_cache.specs.declared.cache.depth.Depth.TheVariants.{Deep, Top}
-use Rattle.gm_graph_cache.specs.declared.cache.depth.Turn.{Turn}
-use Rattle.gm_graph_cache.specs.Turns.{turn, same_depth}
+use Rattle.gm_graph_files.specs.declared.depth.Depth.{Depth}
+use Rattle.gm_graph_files.specs.declared.depth.Depth.TheVariants.{Deep, Top}
+use Rattle.gm_graph_files.specs.declared.depth.Turn.{Turn}
+use Rattle.gm_graph_files.specs.Turns.{turn, same_depth}
 use Rattle.gm_graph.specs.Private.Turns.{AddsAll, AreTurnsOf, OverflowsWith}
 use Rattle.gm_graph.specs.declared.worklist.Worklist.{Worklist}
 use Rattle.gm_graph.specs.declared.worklist.NumberedTurn.{NumberedTurn}

@@ -6,13 +6,13 @@ use Rattle.gm_file.specs.Fields.{Dependency}
 use Rattle.gm_file.specs.Main.{Main, is_pruned_by, without_excluded}
 use Rattle.gm_store_parts.specs.Asked.{Name, Reply}
 use Rattle.gm_store_sums.specs.Sums.{Sums}
-use Rattle.gm_graph_cache.specs.declared.cache.class.Class.{Class}
-use Rattle.gm_graph_cache.specs.declared.cache.depth.Turn.{Turn}
-use Rattle.gm_graph_cache.specs.declared.cache.depth.Depth.{Depth}
-use Rattle.gm_graph_cache.specs.declared.cache.depth.Depth.TheVariants.{Deep, Top}
+use Rattle.gm_graph_files.specs.declared.class.Class.{Class}
+use Rattle.gm_graph_files.specs.declared.depth.Turn.{Turn}
+use Rattle.gm_graph_files.specs.declared.depth.Depth.{Depth}
+use Rattle.gm_graph_files.specs.declared.depth.Depth.TheVariants.{Deep, Top}
 use Rattle.gm_graph.specs.Run.{AreTooMany, IsDeep, IsOpened, TakesTurn, from_deep, from_top}
 use Rattle.gm_graph_cache.specs.Sayings.{KeepsSayings, Run, Says, run_of}
-use Rattle.gm_graph_cache.specs.Turns.{turn}
+use Rattle.gm_graph_files.specs.Turns.{turn}
 use Rattle.gm_graph.specs.Private.Turns.{OverflowsWith, Visits, led_to}
 use Rattle.gm_graph.proofs.DoneTurns.{AllTake, AreVisited, along, opened_from}
 use Rattle.gm_graph.proofs.RunLemmas.{deep as deep_too, keeps_agree, opened as opened_too}

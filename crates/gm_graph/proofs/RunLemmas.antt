@@ -12,9 +12,9 @@ use Rattle.gm_file.specs.Main.{Main, is_pruned_by, replacement_in, without_exclu
 use Rattle.gm_store_parts.specs.Asked.{Name, Reply, answer_in, names_in, same_name}
 use Rattle.gm_store_parts.proofs.NameOrder.{names_equal, same_from_equal}
 use Rattle.gm_store_sums.specs.Sums.{Sums}
-use Rattle.gm_graph_cache.specs.declared.cache.class.Class.{Class}
+use Rattle.gm_graph_files.specs.declared.class.Class.{Class}
 use Rattle.gm_graph.specs.declared.fault.Fault.{Fault}
-use Rattle.gm_graph_cache.specs.Reading.{IsFileReading, file_named, file_of}
+use Rattle.gm_graph_files.specs.Reading.{IsFileReading, file_named, file_of}
 use Rattle.gm_graph.specs.Run.{AreTooMany, IsDeep, IsEdge, IsFault, IsNeeded, IsOpened, IsSettled, IsTop, from_deep, from_main, from_top}
 use Rattle.gm_graph_cache.specs.Sayings.{FileSays, KeepsSayings, Run, Says, answered, run_of, unaskable}
 use Rattle.gm_graph_cache.proofs.Sayings.{says_if}

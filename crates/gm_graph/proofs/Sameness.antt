@@ -6,10 +6,10 @@ use Rattle.std.proofs.lemmas.Bool.{and_parts}
 use Rattle.std.specs.Cmp.Derive.{both_true}
 use Rattle.gm_name.specs.ModuleVersion.{ModuleVersion, pair_eq}
 use Rattle.gm_name.specs.Private.ModuleVersion.{pair-same, pair-self}
-use Rattle.gm_graph_cache.specs.declared.cache.depth.Turn.{Turn}
-use Rattle.gm_graph_cache.specs.declared.cache.depth.Depth.{Depth}
-use Rattle.gm_graph_cache.specs.declared.cache.depth.Depth.TheVariants.{Top, Deep}
-use Rattle.gm_graph_cache.specs.Turns.{same_turn, same_depth, turn}
+use Rattle.gm_graph_files.specs.declared.depth.Turn.{Turn}
+use Rattle.gm_graph_files.specs.declared.depth.Depth.{Depth}
+use Rattle.gm_graph_files.specs.declared.depth.Depth.TheVariants.{Top, Deep}
+use Rattle.gm_graph_files.specs.Turns.{same_turn, same_depth, turn}
 
 pub exact_depth : (a b : Depth) → same_depth a b ≡ true → a ≡ b
 exact_depth Top Top h = refl

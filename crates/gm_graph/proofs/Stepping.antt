@@ -7,7 +7,7 @@ use Rattle.gm_store_parts.specs.Asked.{Name, Reply}
 use Rattle.gm_store_sums.specs.Sums.{Sums}
 use Rattle.gm_file.specs.Main.{Main}
 use Rattle.gm_graph_cache.specs.declared.cache.Cache.{Cache}
-use Rattle.gm_graph_cache.specs.declared.cache.depth.Turn.{Turn}
+use Rattle.gm_graph_files.specs.declared.depth.Turn.{Turn}
 use Rattle.gm_graph.specs.declared.findings.Findings.{Findings}
 use Rattle.gm_graph.specs.declared.worklist.Worklist.{Worklist}
 use Rattle.gm_graph.specs.declared.worklist.NumberedTurn.{NumberedTurn}
@@ -15,7 +15,7 @@ use Rattle.gm_graph.specs.Private.Worklists.{IsWorklist, turns_of}
 use Rattle.gm_graph_cache.specs.Cached.{Knows, main_in, run_in, sums_in, table_in, turns_in, module_numbered}
 use Rattle.gm_graph.specs.Run.{IsOpened, IsRead}
 use Rattle.gm_graph_cache.specs.Sayings.{Run, run_of}
-use Rattle.gm_graph_cache.specs.Turns.{turn}
+use Rattle.gm_graph_files.specs.Turns.{turn}
 use Rattle.gm_graph.specs.Private.Findings.{AreFindings, WasVisited}
 use Rattle.gm_graph.specs.Private.Visiting.{IsFirstWorklist, IsOpenedIn}
 use Rattle.gm_graph.proofs.Growing.{IsOneBelow}

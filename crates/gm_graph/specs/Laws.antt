@@ -7,9 +7,9 @@ use Rattle.gm_file.specs.Directives.{Right}
 use Rattle.gm_file.specs.Fields.{Dependency}
 use Rattle.gm_store_parts.specs.Asked.{Name, Reply}
 use Rattle.gm_store_sums.specs.Sums.{Sums}
-use Rattle.gm_graph_cache.specs.declared.cache.class.Class.{Class}
+use Rattle.gm_graph_files.specs.declared.class.Class.{Class}
 use Rattle.gm_file.specs.Main.{Main, is_pruned_by}
-use Rattle.gm_graph_cache.specs.Reading.{IsFileReading}
+use Rattle.gm_graph_files.specs.Reading.{IsFileReading}
 use Rattle.gm_graph_select.specs.declared.step.Step.{Step}
 use Rattle.gm_graph_select.specs.declared.step.Step.TheVariants.{Of}
 use Rattle.gm_graph.specs.Run.{IsEdge, IsOpened, IsRead, IsTop, IsVertex}

@@ -1,7 +1,7 @@
 -- The result of loading, as lists.
 use Rattle.std.specs.Prelude.{◌≡◌, ℕ, List, Contains}
 use Rattle.gm_store_parts.specs.Asked.{Name}
-use Rattle.gm_graph_cache.specs.declared.cache.depth.Turn.{Turn}
+use Rattle.gm_graph_files.specs.declared.depth.Turn.{Turn}
 use Rattle.gm_graph_select.specs.declared.step.Edge.{Edge}
 use Rattle.gm_graph.specs.Entries.{Entry}
 use Rattle.gm_graph_select.specs.Chains.{IsReached}

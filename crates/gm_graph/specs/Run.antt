@@ -7,14 +7,14 @@ use Rattle.gm_name.specs.ModuleVersion.{ModuleVersion, pair_cmp, pair_eq}
 use Rattle.gm_file.specs.Fields.{Dependency}
 use Rattle.gm_store_parts.specs.Asked.{Reply, Name, answer_in, same_name}
 use Rattle.gm_store_sums.specs.Sums.{Sums}
-use Rattle.gm_graph_cache.specs.declared.cache.class.Class.{Class}
-use Rattle.gm_graph_cache.specs.declared.cache.depth.Depth.{Depth}
-use Rattle.gm_graph_cache.specs.declared.cache.depth.Depth.TheVariants.{Top, Deep}
-use Rattle.gm_graph_cache.specs.declared.cache.depth.Turn.{Turn}
+use Rattle.gm_graph_files.specs.declared.class.Class.{Class}
+use Rattle.gm_graph_files.specs.declared.depth.Depth.{Depth}
+use Rattle.gm_graph_files.specs.declared.depth.Depth.TheVariants.{Top, Deep}
+use Rattle.gm_graph_files.specs.declared.depth.Turn.{Turn}
 use Rattle.gm_graph.specs.declared.fault.Fault.{Fault}
 use Rattle.gm_file.specs.Main.{Main, is_pruned_by, replacement_in, without_excluded}
-use Rattle.gm_graph_cache.specs.Reading.{IsFileReading, file_of, is_askable}
-use Rattle.gm_graph_cache.specs.Turns.{same_turn, turn}
+use Rattle.gm_graph_files.specs.Reading.{IsFileReading, file_of, is_askable}
+use Rattle.gm_graph_files.specs.Turns.{same_turn, turn}
 use Rattle.gm_graph_select.specs.declared.step.Edge.{Edge}
 use Rattle.gm_graph_select.specs.declared.step.Step.{Step}
 use Rattle.gm_graph_select.specs.declared.step.Step.TheVariants.{Main as FromMain, Of}

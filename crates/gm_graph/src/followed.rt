@@ -6,9 +6,9 @@
 ghost use Rattle.std.specs.Prelude.{◌≡◌, ◌⊎◌, ℕ, Contains, Err, OnOk, true};
 ghost use Rattle.gm_name.specs.ModuleVersion.{ModuleVersion};
 ghost use Rattle.gm_graph_cache.specs.Lent.{lent_modules, lent_table};
-ghost use Rattle.gm_graph_cache.specs.Turns.{turn};
+ghost use Rattle.gm_graph_files.specs.Turns.{turn};
 ghost use Rattle.gm_graph.specs.Private.Turns.{AddsAll, OverflowsWith};
-ghost use Rattle.gm_graph_cache.specs.declared.cache.depth.Depth.TheVariants.{Deep};
+ghost use Rattle.gm_graph_files.specs.declared.depth.Depth.TheVariants.{Deep};
 ghost use Rattle.gm_graph.specs.Private.Worklists.{IsWorklist, turns_of};
 
 use crate::places::put_at;

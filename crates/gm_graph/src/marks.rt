@@ -2,8 +2,8 @@
 
 ghost use Rattle.std.specs.Prelude.{◌≡◌, ◌||◌};
 ghost use Rattle.gm_graph.specs.Private.Marks.{is_marked, no_marks};
-ghost use Rattle.gm_graph_cache.specs.Turns.{same_depth};
-ghost use Rattle.gm_graph_cache.specs.declared.cache.depth.Depth.{Depth};
+ghost use Rattle.gm_graph_files.specs.Turns.{same_depth};
+ghost use Rattle.gm_graph_files.specs.declared.depth.Depth.{Depth};
 
 use gm_graph_cache::Depth;
 

@@ -9,13 +9,13 @@ ghost use Rattle.gm_graph_cache.specs.Visits.{IsVisit};
 ghost use Rattle.gm_graph_cache.specs.Refusals.{refused_in};
 ghost use Rattle.gm_graph.specs.Private.Worklists.{IsWorklist, turns_of};
 ghost use Rattle.gm_graph.specs.Private.Followed.{followed_at};
-ghost use Rattle.gm_graph_cache.specs.Places.{place_limit};
+ghost use Rattle.gm_graph_files.specs.Places.{place_limit};
 ghost use Rattle.gm_graph_cache.specs.Sayings.{Run, Says};
-ghost use Rattle.gm_graph_cache.specs.Turns.{turn};
+ghost use Rattle.gm_graph_files.specs.Turns.{turn};
 ghost use Rattle.gm_graph.specs.Private.Turns.{OverflowsWith};
 ghost use Rattle.gm_graph.specs.Private.TurnVisits.{AddsTurn, IsReady, IsTurnVisited};
 ghost use Rattle.gm_graph.specs.Private.Visiting.{OverflowsAt};
-ghost use Rattle.gm_graph_cache.specs.declared.cache.depth.Depth.TheVariants.{Deep};
+ghost use Rattle.gm_graph_files.specs.declared.depth.Depth.TheVariants.{Deep};
 ghost use Rattle.gm_graph.specs.declared.followed.Followed.{Followed};
 ghost use Rattle.gm_graph.specs.declared.worklist.Worklist.{Worklist};
 

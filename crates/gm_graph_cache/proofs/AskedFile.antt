@@ -13,7 +13,7 @@ use Rattle.gm_graph_cache.specs.Asking.{AsksFor, StillLacks, AsksOne, IsAskableF
 use Rattle.gm_graph_cache.specs.Refusals.{refused_names}
 use Rattle.gm_graph_cache.specs.declared.cache.load_fault.LoadFault.{LoadFault}
 use Rattle.gm_file.specs.Main.{Main}
-use Rattle.gm_graph_cache.specs.Reading.{file_of}
+use Rattle.gm_graph_files.specs.Reading.{file_of}
 
 -- ---- a call that asks for a name
 

@@ -4,12 +4,12 @@ use Rattle.std.specs.List.{IsDistinct}
 use Rattle.gm_name.specs.ModuleVersion.{ModuleVersion, pair_eq}
 use Rattle.gm_store_parts.specs.Asked.{Name, Reply}
 use Rattle.gm_graph_cache.specs.declared.cache.Cache.{Cache}
-use Rattle.gm_graph_cache.specs.declared.cache.depth.Depth.{Depth}
+use Rattle.gm_graph_files.specs.declared.depth.Depth.{Depth}
 use Rattle.gm_graph_cache.specs.declared.cache.visit.Visit.{Visit}
 use Rattle.gm_graph_cache.specs.declared.cache.visit.Visit.TheVariants as visit
 use Rattle.gm_graph_cache.specs.Cached.{HoldsSame, file_count, run_in, table_in, turns_in, Follows, module_numbered}
 use Rattle.gm_graph_cache.specs.Visits.{HasVisited, IsVisit}
-use Rattle.gm_graph_cache.specs.Turns.{turn}
+use Rattle.gm_graph_files.specs.Turns.{turn}
 use Rattle.gm_graph_cache.proofs.NumberedModules.{number_stays}
 use Rattle.gm_graph_cache.proofs.Keeping.{knows_still, same_run}
 

@@ -12,7 +12,7 @@ use Rattle.gm_store_parts.specs.Asked.{Name, mod_file}
 use Rattle.gm_graph_cache.specs.declared.cache.file_table.FileTable.{FileTable}
 use Rattle.gm_graph_cache.specs.FileTable.{place_of}
 use Rattle.gm_graph_cache.specs.Private.FileTable.{IsUnnoted, NotesFiles, place_noted, replacing_place}
-use Rattle.gm_graph_cache.specs.Reading.{file_named, file_of}
+use Rattle.gm_graph_files.specs.Reading.{file_named, file_of}
 
 -- ---- a file that is not one of a replacement is that of one module
 

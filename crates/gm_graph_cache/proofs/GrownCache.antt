@@ -7,14 +7,14 @@ use Rattle.gm_name_table.specs.Listed.{NumberedList, modules_of}
 use Rattle.gm_graph_cache.specs.declared.cache.Cache.{Cache}
 use Rattle.gm_graph_cache.specs.Cached.{main_in, sums_in, table_in}
 use Rattle.gm_graph_cache.specs.Private.Held.{IsConsistent}
-use Rattle.gm_graph_cache.specs.Private.NotedLists.{NotesAll}
-use Rattle.gm_graph_cache.specs.KeptLists.{own_lists}
-use Rattle.gm_graph_cache.specs.Private.KeptFiles.{Grows}
+use Rattle.gm_graph_files.specs.NotedLists.{NotesAll}
+use Rattle.gm_graph_files.specs.KeptLists.{own_lists}
+use Rattle.gm_graph_files.specs.KeptFiles.{Grows}
 use Rattle.gm_graph_cache.proofs.HeldFiles.{grown_holds}
-use Rattle.gm_graph_cache.proofs.KeptLists.{lists_still}
-use Rattle.gm_graph_cache.proofs.Ordered.{order_longer, own_spans}
+use Rattle.gm_graph_files.proofs.KeptLists.{lists_still}
+use Rattle.gm_graph_files.proofs.Ordered.{order_longer, own_spans}
 use Rattle.gm_graph_cache.proofs.PuttingPlaces.{notes_if_more}
-use Rattle.gm_graph_cache.proofs.SharedLists.{listed_grown}
+use Rattle.gm_graph_files.proofs.SharedLists.{listed_grown}
 
 module _ (cache : Cache) (new : NumberedList) (grows : Grows cache.modules new) where
   more_numbers : length cache.modules.numbers ≤ length new.numbers

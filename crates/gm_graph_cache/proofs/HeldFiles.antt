@@ -14,15 +14,15 @@ use Rattle.gm_store_parts.proofs.NameOrder.{names_equal}
 use Rattle.gm_store_parts.specs.Asked.{Name, Reply, answer_in, same_name}
 use Rattle.gm_store_sums.specs.Sums.{Sums}
 use Rattle.gm_graph_cache.specs.declared.cache.file_table.FileTable.{FileTable}
-use Rattle.gm_graph_cache.specs.declared.cache.summary.Kept.{Kept}
+use Rattle.gm_graph_files.specs.declared.summary.Kept.{Kept}
 use Rattle.gm_graph_cache.specs.FileTable.{kept_at, place_of}
 use Rattle.gm_graph_cache.specs.Private.FileTable.{KeepsFiles, PutsFile}
 use Rattle.gm_graph_cache.specs.Held.{HoldsAnswers, IsKeptReading, held_under}
 use Rattle.gm_graph_cache.specs.Sayings.{run_of}
-use Rattle.gm_graph_cache.specs.Summaries.{summary_reading}
-use Rattle.gm_graph_cache.specs.Private.KeptFiles.{AreKeptIn, Grows}
-use Rattle.gm_graph_cache.proofs.SharedLists.{kept_listed}
-use Rattle.gm_graph_cache.proofs.Spans.{IsKept, readings_still}
+use Rattle.gm_graph_files.specs.Summaries.{summary_reading}
+use Rattle.gm_graph_files.specs.KeptFiles.{AreKeptIn, Grows}
+use Rattle.gm_graph_files.proofs.SharedLists.{kept_listed}
+use Rattle.gm_graph_files.proofs.Spans.{IsKept, readings_still}
 
 -- If nothing is kept, no answers say so.
 pub none_holds : {main : Main} {sums : Option Sums} {list : NumberedList} {files : FileTable} → ((name : Name) → kept_at files name ≡ None)

@@ -4,13 +4,13 @@ use Rattle.std.proofs.lemmas.Bool.{false≢true}
 use Rattle.gm_name.specs.ModuleVersion.{ModuleVersion}
 use Rattle.gm_file.specs.Fields.{Dependency}
 use Rattle.gm_store_parts.specs.Asked.{Name, Reply, answer_in}
-use Rattle.gm_graph_cache.specs.declared.cache.class.Class.{Class}
 use Rattle.gm_graph_cache.specs.declared.cache.Cache.{Cache}
-use Rattle.gm_graph_cache.specs.Reading.{file_of, is_askable}
 use Rattle.gm_graph_cache.specs.Cached.{Knows, held_of, main_in, run_in, sums_in}
 use Rattle.gm_graph_cache.specs.Sayings.{FileSays, Run, Says, answered, faulty, sound, unaskable, wrong_path}
-use Rattle.gm_graph_cache.specs.Summaries.{kept_reading}
-use Rattle.gm_graph_cache.proofs.OneReading.{one_reading}
+use Rattle.gm_graph_files.proofs.OneReading.{one_reading}
+use Rattle.gm_graph_files.specs.Summaries.{kept_reading}
+use Rattle.gm_graph_files.specs.Reading.{file_of, is_askable}
+use Rattle.gm_graph_files.specs.declared.class.Class.{Class}
 
 -- A file without a fault may be asked for.
 sound_askable : {run : Run} {name : Name} {said : Result Dependency Class} → FileSays run name said → (file : Dependency)

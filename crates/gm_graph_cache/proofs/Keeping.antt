@@ -11,14 +11,14 @@ use Rattle.gm_name.specs.ModuleVersion.{ModuleVersion}
 use Rattle.gm_name_table.specs.Listed.{BeginsWith}
 use Rattle.gm_name_table.proofs.Listed.{begins_after}
 use Rattle.gm_graph_cache.specs.declared.cache.Cache.{Cache}
-use Rattle.gm_graph_cache.specs.declared.cache.summary.Kept.{Kept}
-use Rattle.gm_graph_cache.specs.declared.cache.summary.ListSpan.{ListSpan}
+use Rattle.gm_graph_files.specs.declared.summary.Kept.{Kept}
+use Rattle.gm_graph_files.specs.declared.summary.ListSpan.{ListSpan}
 use Rattle.gm_file.specs.Main.{Main}
-use Rattle.gm_graph_cache.specs.Reading.{file_of}
+use Rattle.gm_graph_files.specs.Reading.{file_of}
 use Rattle.gm_graph_cache.specs.FileTable.{kept_at}
 use Rattle.gm_graph_cache.specs.Private.FileTable.{KeepsFiles, KeepsOthers}
-use Rattle.gm_graph_cache.specs.Summaries.{listed_span}
-use Rattle.gm_graph_cache.specs.Private.KeptFiles.{Grows}
+use Rattle.gm_graph_files.specs.Summaries.{listed_span}
+use Rattle.gm_graph_files.specs.KeptFiles.{Grows}
 use Rattle.gm_graph_cache.specs.Cached.{HoldsSame, KeepsSound, Knows, LentSame, main_in, run_in, summary_at, sums_in, table_in, Follows}
 use Rattle.gm_graph_cache.specs.Sayings.{KeepsSayings, Run}
 use Rattle.gm_graph_cache.specs.Asking.{AsksFor, IsLoadFaultOf}
@@ -27,7 +27,7 @@ use Rattle.gm_graph_cache.specs.declared.cache.load_fault.LoadFault.{LoadFault}
 use Rattle.gm_graph_cache.specs.declared.cache.load_fault.LoadFault.TheVariants as load
 use Rattle.gm_graph_cache.proofs.PuttingPlaces.{same_files}
 use Rattle.gm_graph_cache.proofs.Sayings.{says_asked, says_more}
-use Rattle.gm_graph_cache.proofs.SharedLists.{own_still}
+use Rattle.gm_graph_files.proofs.SharedLists.{own_still}
 use Rattle.gm_graph_cache.proofs.HeldFiles.{grown_held}
 
 -- ---- the runs of a cache

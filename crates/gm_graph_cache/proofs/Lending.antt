@@ -11,11 +11,6 @@ use Rattle.gm_name_table.specs.Listed.{BeginsWith, modules_of}
 use Rattle.gm_file.specs.Fields.{Dependency}
 use Rattle.gm_file.specs.Listed.{Head, with_requirements}
 use Rattle.gm_store_parts.specs.Asked.{Name, Reply}
-use Rattle.gm_graph_cache.specs.declared.cache.depth.Depth.{Depth}
-use Rattle.gm_graph_cache.specs.declared.cache.summary.Kept.{Kept}
-use Rattle.gm_graph_cache.specs.declared.cache.summary.Kept.TheVariants.{Valid, Faulty}
-use Rattle.gm_graph_cache.specs.declared.cache.summary.Summary.{Summary}
-use Rattle.gm_graph_cache.specs.declared.cache.class.Class.{Class}
 use Rattle.gm_graph_cache.specs.declared.cache.lent.Lent.{Lent}
 use Rattle.gm_graph_cache.specs.declared.cache.visit.Verdict.{Verdict}
 use Rattle.gm_graph_cache.specs.declared.cache.visit.Verdict.TheVariants as verdict
@@ -23,11 +18,6 @@ use Rattle.gm_graph_cache.specs.declared.cache.visit.Required.{Required}
 use Rattle.gm_graph_cache.specs.declared.cache.visit.Visit.TheVariants as visit
 use Rattle.gm_graph_cache.specs.declared.cache.Cache.{Cache}
 use Rattle.gm_file.specs.Main.{Main, without_excluded}
-use Rattle.gm_graph_cache.specs.Reading.{file_of}
-use Rattle.gm_graph_cache.specs.declared.cache.summary.ListSpan.{ListSpan}
-use Rattle.gm_graph_cache.specs.Summaries.{at_span, kept_reading, listed_span, summary_reading}
-use Rattle.gm_graph_cache.specs.Private.KeptFiles.{IsWithinList, span_found}
-use Rattle.gm_graph_cache.proofs.Spans.{span_within}
 use Rattle.gm_graph_cache.specs.Cached.{AreRequirements, IsSound, Knows, file_count, its_requirements, main_in, no_requirements, run_in, summary_at, table_in, Follows, module_numbered}
 use Rattle.gm_graph_cache.specs.Private.Cached.{IsLender}
 use Rattle.gm_graph_cache.specs.Private.FileTable.{IsPlacedAt}
@@ -36,7 +26,17 @@ use Rattle.gm_graph_cache.specs.Visits.{IsVisit}
 use Rattle.gm_graph_cache.specs.Lent.{lent_modules, lent_table}
 use Rattle.gm_graph_cache.specs.Sayings.{FileSays, Run, Says}
 use Rattle.gm_graph_cache.proofs.Holding.{held_says, held_sound}
-use Rattle.gm_graph_cache.proofs.SharedLists.{found_own, kept_listed}
+use Rattle.gm_graph_files.proofs.SharedLists.{found_own, kept_listed}
+use Rattle.gm_graph_files.proofs.Spans.{span_within}
+use Rattle.gm_graph_files.specs.KeptFiles.{IsWithinList, span_found}
+use Rattle.gm_graph_files.specs.Summaries.{at_span, kept_reading, listed_span, summary_reading}
+use Rattle.gm_graph_files.specs.declared.summary.ListSpan.{ListSpan}
+use Rattle.gm_graph_files.specs.Reading.{file_of}
+use Rattle.gm_graph_files.specs.declared.class.Class.{Class}
+use Rattle.gm_graph_files.specs.declared.summary.Summary.{Summary}
+use Rattle.gm_graph_files.specs.declared.summary.Kept.TheVariants.{Valid, Faulty}
+use Rattle.gm_graph_files.specs.declared.summary.Kept.{Kept}
+use Rattle.gm_graph_files.specs.declared.depth.Depth.{Depth}
 
 -- ---- what a file says of which this is kept
 

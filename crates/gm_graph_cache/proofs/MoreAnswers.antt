@@ -6,7 +6,7 @@ use Rattle.gm_name.specs.ModuleVersion.{ModuleVersion}
 use Rattle.gm_store_parts.specs.Asked.{Name, Reply, answer_in, same_name}
 use Rattle.gm_store_parts.proofs.NameOrder.{names_equal}
 use Rattle.gm_name_table.specs.Listed.{BeginsWith, modules_of}
-use Rattle.gm_graph_cache.specs.declared.cache.summary.Kept.{Kept}
+use Rattle.gm_graph_files.specs.declared.summary.Kept.{Kept}
 use Rattle.gm_graph_cache.specs.declared.cache.Cache.{Cache}
 use Rattle.gm_graph_cache.specs.declared.cache.file_table.FileTable.{FileTable}
 use Rattle.gm_graph_cache.specs.Held.{HoldsAnswers, IsKeptReading}
@@ -14,7 +14,7 @@ use Rattle.gm_graph_cache.specs.Private.FileTable.{PutsFile}
 use Rattle.gm_graph_cache.proofs.HeldFiles.{put_holds}
 use Rattle.gm_graph_cache.proofs.Keeping.{knows_still, says_later, sound_still}
 use Rattle.gm_graph_cache.proofs.Sayings.{answer_append}
-use Rattle.gm_graph_cache.specs.Summaries.{summary_reading}
+use Rattle.gm_graph_files.specs.Summaries.{summary_reading}
 use Rattle.gm_graph_cache.specs.Cached.{HoldsSame, KeepsSound, Knows, LentSame, main_in, run_in, summary_at, sums_in}
 
 -- A name without an entry was not asked for.

@@ -8,15 +8,15 @@ use Rattle.gm_store_parts.specs.Asked.{Name, Reply}
 use Rattle.gm_graph_cache.specs.declared.cache.Cache.{Cache}
 use Rattle.gm_graph_cache.specs.declared.cache.by_name.Known.{Known}
 use Rattle.gm_graph_cache.specs.declared.cache.by_name.Known.TheVariants as known
-use Rattle.gm_graph_cache.specs.declared.cache.depth.Turn.{Turn}
+use Rattle.gm_graph_files.specs.declared.depth.Turn.{Turn}
 use Rattle.gm_graph_cache.specs.Cached.{HasMoreTurns, HasTurns, HasSoundFile, IsKnownAs, IsLenderNamed, IsSound, Knows, KnowsLender, file_known, held_of, main_in, run_in, summary_at}
-use Rattle.gm_graph_cache.specs.declared.cache.summary.Kept.{Kept}
-use Rattle.gm_graph_cache.specs.declared.cache.summary.Kept.TheVariants.{Valid, Faulty}
+use Rattle.gm_graph_files.specs.declared.summary.Kept.{Kept}
+use Rattle.gm_graph_files.specs.declared.summary.Kept.TheVariants.{Valid, Faulty}
 use Rattle.gm_graph_cache.specs.FileTable.{place_of}
 use Rattle.gm_graph_cache.specs.Sayings.{Run}
-use Rattle.gm_graph_cache.specs.Summaries.{kept_reading, listed_span, summary_reading}
-use Rattle.gm_graph_cache.specs.Private.Summaries.{list_place}
-use Rattle.gm_graph_cache.proofs.SharedLists.{list_owned}
+use Rattle.gm_graph_files.specs.Summaries.{kept_reading, listed_span, summary_reading}
+use Rattle.gm_graph_files.specs.Private.Summaries.{list_place}
+use Rattle.gm_graph_files.proofs.SharedLists.{list_owned}
 use Rattle.gm_graph_cache.proofs.Holding.{held_sound}
 use Rattle.gm_graph_cache.proofs.Keeping.{same_run}
 

@@ -9,13 +9,13 @@ use Rattle.gm_name_table.specs.OptionalPlaces.{place_in}
 use Rattle.gm_name_table.specs.declared.place.OptionalPlace.{OptionalPlace}
 use Rattle.gm_store_parts.specs.Asked.{Name}
 use Rattle.gm_graph_cache.specs.declared.cache.file_table.FileTable.{FileTable}
-use Rattle.gm_graph_cache.specs.declared.cache.summary.Kept.{Kept}
+use Rattle.gm_graph_files.specs.declared.summary.Kept.{Kept}
 use Rattle.gm_graph_cache.specs.declared.cache.Cache.{Cache}
 use Rattle.gm_file.specs.Main.{Main}
 use Rattle.gm_graph_cache.specs.Cached.{main_in, summary_at, table_in, module_numbered}
 use Rattle.gm_graph_cache.specs.FileTable.{place_of}
 use Rattle.gm_graph_cache.specs.Private.FileTable.{IsNewFile, IsPlacedAt, KeepsOthers, NotesFiles, NotesFor, place_noted, replacing_place}
-use Rattle.gm_graph_cache.specs.Reading.{file_of, is_askable}
+use Rattle.gm_graph_files.specs.Reading.{file_of, is_askable}
 use Rattle.gm_graph_cache.proofs.FilePlaces.{place_by}
 use Rattle.gm_graph_cache.proofs.NumberedModules.{number_same}
 use Rattle.gm_graph_cache.proofs.PuttingPlaces.{notes_again, notes_kept}

@@ -18,12 +18,12 @@ use Rattle.gm_store_parts.specs.contracts.files.FileNameOrd.TheImpl.{cmp-value}
 use Rattle.gm_store_parts.specs.declared.files.FileName.{FileName}
 use Rattle.gm_graph_cache.proofs.NumberedModules.{number_below, number_stays}
 use Rattle.gm_graph_cache.specs.declared.cache.file_table.FileTable.{FileTable}
-use Rattle.gm_graph_cache.specs.declared.cache.summary.Kept.{Kept}
+use Rattle.gm_graph_files.specs.declared.summary.Kept.{Kept}
 use Rattle.gm_graph_cache.specs.FileTable.{place_of}
 use Rattle.gm_graph_cache.specs.Private.FileTable.{IsNewFile, IsPlacedAt, KeepsFiles, KeepsOthers, NotesFiles, NotesFor, PutsFile, place_noted, replacing_place}
-use Rattle.gm_graph_cache.specs.Places.{place_among}
+use Rattle.gm_graph_files.specs.Places.{place_among}
 use Rattle.gm_file.specs.Main.{Main}
-use Rattle.gm_graph_cache.specs.Reading.{file_of}
+use Rattle.gm_graph_files.specs.Reading.{file_of}
 
 -- ---- a place is noted for one number
 

@@ -17,7 +17,7 @@ use Rattle.gm_store_parts.specs.Asked.{Name, name_of, same_name}
 use Rattle.gm_store_parts.specs.contracts.files.FileNameOrd.TheImpl.{cmp-value}
 use Rattle.gm_store_parts.specs.declared.files.FileName.{FileName}
 use Rattle.gm_file.specs.Main.{Main, replacement_in}
-use Rattle.gm_graph_cache.specs.Reading.{file_named, file_of}
+use Rattle.gm_graph_files.specs.Reading.{file_named, file_of}
 
 -- A place is noted for the file of a name.
 abbrev pub HasName : List (FileName × OptionalPlace) → Name → Type 0

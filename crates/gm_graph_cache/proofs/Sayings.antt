@@ -10,12 +10,12 @@ use Rattle.gm_file.specs.Main.{Main, replacement_in, without_excluded}
 use Rattle.gm_store_parts.specs.Asked.{Name, Reply, answer_in, same_name}
 use Rattle.gm_store_parts.specs.States.{StoreState}
 use Rattle.gm_store_sums.specs.Sums.{Sums}
-use Rattle.gm_graph_cache.specs.declared.cache.class.Class.{Class}
-use Rattle.gm_graph_cache.specs.declared.cache.class.Class.TheVariants.{WrongPath}
+use Rattle.gm_graph_files.specs.declared.class.Class.{Class}
+use Rattle.gm_graph_files.specs.declared.class.Class.TheVariants.{WrongPath}
 use Rattle.gm_graph_cache.specs.Asking.{AsksFor}
-use Rattle.gm_graph_cache.specs.Reading.{file_of, is_right_path}
+use Rattle.gm_graph_files.specs.Reading.{file_of, is_right_path}
 use Rattle.gm_graph_cache.specs.Sayings.{FileSays, KeepsSayings, Requires, Run, Says, answered, faulty, run_of, sound, unaskable, wrong_path}
-use Rattle.gm_graph_cache.proofs.OneReading.{one_reading}
+use Rattle.gm_graph_files.proofs.OneReading.{one_reading}
 
 -- ---- one thing
 

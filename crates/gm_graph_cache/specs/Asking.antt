@@ -4,7 +4,7 @@ use Rattle.gm_name.specs.ModuleVersion.{ModuleVersion}
 use Rattle.gm_store_parts.specs.Asked.{Name, Reply, answer_in}
 use Rattle.gm_store_parts.specs.States.{AddsAnswer, StoreState, HasServed}
 use Rattle.gm_file.specs.Main.{Main}
-use Rattle.gm_graph_cache.specs.Reading.{file_of, is_askable}
+use Rattle.gm_graph_files.specs.Reading.{file_of, is_askable}
 use Rattle.gm_store_parts.specs.declared.files.FileName.{FileName}
 use Rattle.gm_store_parts.specs.declared.files.AskFault.{AskFault}
 use Rattle.gm_store_parts.specs.declared.files.AskFault.TheVariants as ask

@@ -10,17 +10,17 @@ use Rattle.gm_store_parts.specs.Asked.{Name, Reply, name_of}
 use Rattle.gm_store_sums.specs.Sums.{Sums}
 use Rattle.gm_graph_cache.specs.declared.cache.by_name.Known.{Known}
 use Rattle.gm_graph_cache.specs.declared.cache.by_name.Known.TheVariants as known
-use Rattle.gm_graph_cache.specs.declared.cache.class.Class.{Class}
-use Rattle.gm_graph_cache.specs.declared.cache.depth.Turn.{Turn}
-use Rattle.gm_graph_cache.specs.declared.cache.summary.Kept.{Kept}
-use Rattle.gm_graph_cache.specs.declared.cache.summary.ListSpan.{ListSpan}
+use Rattle.gm_graph_files.specs.declared.class.Class.{Class}
+use Rattle.gm_graph_files.specs.declared.depth.Turn.{Turn}
+use Rattle.gm_graph_files.specs.declared.summary.Kept.{Kept}
+use Rattle.gm_graph_files.specs.declared.summary.ListSpan.{ListSpan}
 use Rattle.gm_graph_cache.specs.declared.cache.Cache.{Cache}
 use Rattle.gm_file.specs.Main.{Main, without_excluded}
 use Rattle.gm_graph_cache.specs.FileTable.{kept_at}
 use Rattle.gm_graph_cache.specs.Held.{HoldsAnswers, held_under}
-use Rattle.gm_graph_cache.specs.Reading.{file_of}
+use Rattle.gm_graph_files.specs.Reading.{file_of}
 use Rattle.gm_graph_cache.specs.Sayings.{Run, Says, run_of, KeepsSayings}
-use Rattle.gm_graph_cache.specs.Summaries.{listed_span, own_span_at}
+use Rattle.gm_graph_files.specs.Summaries.{listed_span, own_span_at}
 use mir.Syntax.{named}
 use Rattle.gm_graph_cache.specs.contracts.cache.Cache.{the_row}
 use Rattle.gm_graph_cache.specs.declared.cache.parts.CacheParts.{CacheParts}

@@ -6,12 +6,12 @@ use Rattle.gm_file.specs.Fields.{Dependency}
 use Rattle.gm_file.specs.Main.{Main}
 use Rattle.gm_store_parts.specs.Asked.{Name, Reply}
 use Rattle.gm_store_sums.specs.Sums.{Sums}
-use Rattle.gm_graph_cache.specs.declared.cache.class.Class.{Class}
+use Rattle.gm_graph_files.specs.declared.class.Class.{Class}
 use Rattle.gm_graph_cache.specs.declared.cache.file_table.FileTable.{FileTable}
 use Rattle.gm_graph_cache.specs.FileTable.{kept_at}
-use Rattle.gm_graph_cache.specs.Reading.{IsFileReading}
+use Rattle.gm_graph_files.specs.Reading.{IsFileReading}
 use Rattle.gm_graph_cache.specs.Sayings.{Run}
-use Rattle.gm_graph_cache.specs.Summaries.{kept_reading, summary_reading}
+use Rattle.gm_graph_files.specs.Summaries.{kept_reading, summary_reading}
 
 -- This is what a reply to a name says, without the requirements that the main file excludes.
 pub record IsKeptReading (main : Main) (sums : Option Sums) (name : Name) (reply : Reply)

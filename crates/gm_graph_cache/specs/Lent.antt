@@ -3,7 +3,7 @@ use Rattle.std.specs.Prelude.{List}
 use Rattle.gm_name.specs.ModuleVersion.{ModuleVersion}
 use Rattle.gm_name_table.specs.Listed.{modules_of}
 use Rattle.gm_graph_cache.specs.declared.cache.lent.Lent.{Lent}
-use Rattle.gm_graph_cache.specs.Summaries.{at_span}
+use Rattle.gm_graph_files.specs.Summaries.{at_span}
 
 -- the requirements, in order
 abbrev pub lent_modules : Lent → List ModuleVersion

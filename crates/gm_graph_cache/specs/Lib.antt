@@ -1,15 +1,9 @@
 pub mod Private
-pub mod Turns
 pub mod Sayings
-pub mod Reading
 pub mod Asking
-pub mod Summaries
 pub mod Lent
 pub mod Cached
 pub mod Held
 pub mod Visits
-pub mod KeptLists
 pub mod Refusals
-pub mod ClassWords
 pub mod FileTable
-pub mod Places

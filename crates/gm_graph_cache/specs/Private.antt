@@ -3,7 +3,3 @@ pub mod CacheVisits
 pub mod Cached
 pub mod FileTable
 pub mod Held
-pub mod KeptFiles
-pub mod KeptLists
-pub mod NotedLists
-pub mod Summaries

@@ -5,10 +5,10 @@ use Rattle.gm_name.specs.ModuleVersion.{ModuleVersion}
 use Rattle.gm_file.specs.Fields.{Dependency}
 use Rattle.gm_store_parts.specs.Asked.{Name, Reply, answer_in}
 use Rattle.gm_store_sums.specs.Sums.{Sums}
-use Rattle.gm_graph_cache.specs.declared.cache.class.Class.{Class}
-use Rattle.gm_graph_cache.specs.declared.cache.class.Class.TheVariants.{NotFetchable, WrongPath}
+use Rattle.gm_graph_files.specs.declared.class.Class.{Class}
+use Rattle.gm_graph_files.specs.declared.class.Class.TheVariants.{NotFetchable, WrongPath}
 use Rattle.gm_file.specs.Main.{Main, replacement_in, without_excluded}
-use Rattle.gm_graph_cache.specs.Reading.{IsFileReading, file_of, is_askable, is_right_path}
+use Rattle.gm_graph_files.specs.Reading.{IsFileReading, file_of, is_askable, is_right_path}
 
 -- A run: what the main file says, what the go.sum says if there is one, and the answer to each name that the store was
 -- asked for.

@@ -6,12 +6,12 @@ use Rattle.gm_file.specs.Fields.{Dependency}
 use Rattle.gm_file.specs.Main.{without_excluded}
 use Rattle.gm_store_parts.specs.Asked.{Name, Reply}
 use Rattle.gm_graph_cache.specs.declared.cache.Cache.{Cache}
-use Rattle.gm_graph_cache.specs.declared.cache.depth.Depth.{Depth}
+use Rattle.gm_graph_files.specs.declared.depth.Depth.{Depth}
 use Rattle.gm_graph_cache.specs.declared.cache.visit.Visit.{Visit}
 use Rattle.gm_graph_cache.specs.declared.cache.visit.Visit.TheVariants as visit
 use Rattle.gm_graph_cache.specs.Cached.{IsSound, file_count, run_in, table_in, turns_in, Follows, module_numbered}
 use Rattle.gm_graph_cache.specs.Lent.{lent_modules, lent_table}
-use Rattle.gm_graph_cache.specs.Turns.{leads_on, turn}
+use Rattle.gm_graph_files.specs.Turns.{leads_on, turn}
 use Rattle.gm_graph_cache.specs.Sayings.{Run, Says}
 
 -- What a visit to this depth gets of a vertex: its fault, or the place of the file that has its list, whether the visit

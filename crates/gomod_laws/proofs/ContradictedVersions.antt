@@ -9,7 +9,7 @@ use Rattle.gm_file.specs.Directives.{VersionInterval, pair}
 use Rattle.gm_file.specs.Shown.{is_at_most, is_retracted, shown_of}
 use Rattle.gm_store_parts.specs.Asked.{Name, Reply, bytes}
 use Rattle.gm_store.specs.Listed.{IsListed}
-use Rattle.gm_graph_cache.proofs.OneReading.{one_retracted}
+use Rattle.gm_graph_files.proofs.OneReading.{one_retracted}
 use Rattle.gm_graph_select.proofs.Ascending.{member_head, no_member, one_member}
 use Rattle.gomod_run.specs.Outcome.{Outcome, text_outcome}
 use Rattle.gomod_run.specs.Versions.{versions_line}

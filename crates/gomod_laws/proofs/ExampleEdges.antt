@@ -7,8 +7,8 @@ use Rattle.gm_name.specs.ModuleVersion.{ModuleVersion}
 use Rattle.gm_file.specs.Fields.{Dependency}
 use Rattle.gm_store_parts.specs.Asked.{Name, folder_file, list_file, mod_file}
 use Rattle.gm_store_parts.proofs.NameOrder.{names_equal}
-use Rattle.gm_graph_cache.specs.declared.cache.class.Class.{Class}
-use Rattle.gm_graph_cache.specs.Reading.{file_of}
+use Rattle.gm_graph_files.specs.Reading.{file_of}
+use Rattle.gm_graph_files.specs.declared.class.Class.{Class}
 use Rattle.gm_graph.specs.Run.{AreEdges, IsEdge, IsOpened, IsTop, IsVertex, from_deep, from_main, from_top}
 use Rattle.gm_graph_cache.specs.Sayings.{FileSays, Requires, Run, Says, answered, faulty, sound, unaskable, wrong_path}
 use Rattle.gm_graph_cache.proofs.Sayings.{file_same}

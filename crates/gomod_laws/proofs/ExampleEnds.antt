@@ -16,9 +16,9 @@ use Rattle.gm_file.specs.Fields.{Dependency}
 use Rattle.gm_store_parts.specs.Asked.{Name, Reply, mod_file, folder_file, list_file, absent, names_in, same_name}
 use Rattle.gm_store_sums.specs.Sums.{Sums}
 use Rattle.gm_file.specs.Main.{Main}
-use Rattle.gm_graph_cache.specs.Reading.{file_of}
-use Rattle.gm_graph_cache.specs.declared.cache.class.Class.{Class}
-use Rattle.gm_graph_cache.specs.declared.cache.class.Class.TheVariants.{Missing}
+use Rattle.gm_graph_files.specs.Reading.{file_of}
+use Rattle.gm_graph_files.specs.declared.class.Class.{Class}
+use Rattle.gm_graph_files.specs.declared.class.Class.TheVariants.{Missing}
 use Rattle.gm_file.specs.declared.misreading.Misreading.TheVariants as misreading
 use Rattle.gm_graph_select.specs.BuildList.{main_entry, path_cmp}
 use Rattle.gm_graph_select.proofs.Ascending.{member_head, no_member, one_member}

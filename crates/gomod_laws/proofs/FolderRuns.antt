@@ -4,9 +4,9 @@ use Rattle.std.proofs.lemmas.List.Elements.{Contains-push_cases}
 use Rattle.gm_file.specs.Fields.{Dependency}
 use Rattle.gm_store_parts.specs.Asked.{Name, Reply, absent, answer_in, bytes, list_file, mod_file, names_in, too_long}
 use Rattle.gm_store_sums.specs.Sums.{Sums}
-use Rattle.gm_graph_cache.specs.declared.cache.class.Class.{Class}
+use Rattle.gm_graph_files.specs.declared.class.Class.{Class}
 use Rattle.gm_file.specs.Main.{Main}
-use Rattle.gm_graph_cache.specs.Reading.{IsFileReading}
+use Rattle.gm_graph_files.specs.Reading.{IsFileReading}
 use Rattle.gm_graph_cache.proofs.Sayings.{answer_stays}
 use Rattle.gm_graph_select.proofs.Ascending.{no_member}
 use Rattle.gm_graph_select.proofs.RankedLists.{in_mapped}

@@ -4,7 +4,7 @@ use mathlib.Core.Path.{fun_ext}
 use Rattle.gm_name.specs.ModuleVersion.{ModuleVersion}
 use Rattle.gm_name.proofs.NameTests.{same-bool}
 use Rattle.gm_file.specs.Main.{Main, is_excluded, is_pruned_by, replacement_in, without_excluded}
-use Rattle.gm_graph_cache.specs.Reading.{file_named, file_of}
+use Rattle.gm_graph_files.specs.Reading.{file_named, file_of}
 use Rattle.gomod_laws.proofs.AdditionsKept.{excluded_more}
 
 -- Two main files say the same, wherever and however often.

@@ -7,9 +7,9 @@ use Rattle.gm_file.specs.Fields.{Dependency}
 use Rattle.gm_file.specs.Main.{Main, is_pruned_by, replacement_in}
 use Rattle.gm_store_parts.specs.Asked.{Name, Reply, names_in}
 use Rattle.gm_store_sums.specs.Sums.{Sums}
-use Rattle.gm_graph_cache.specs.declared.cache.class.Class.{Class}
+use Rattle.gm_graph_files.specs.declared.class.Class.{Class}
 use Rattle.gm_graph.specs.declared.fault.Fault.{Fault}
-use Rattle.gm_graph_cache.specs.Reading.{IsFileReading, file_of}
+use Rattle.gm_graph_files.specs.Reading.{IsFileReading, file_of}
 use Rattle.gm_graph.specs.Run.{AreEdges, AreFaults, AreRows, AreTooMany, IsDue, IsEdge, IsFault, IsNeeded, IsOpened, IsRead, IsSettled, IsTop}
 use Rattle.gm_graph_cache.specs.Sayings.{FileSays, Run, Says, answered, run_of, unaskable}
 use Rattle.gm_graph.proofs.RunLemmas.{RequiresToo, edge_too, many_too, opened_too}

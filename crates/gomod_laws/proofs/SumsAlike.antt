@@ -9,9 +9,9 @@ use Rattle.gm_store_sums.specs.Sums.{HasValidLines, IsSum, SaysOfHash as SaysOfH
 use Rattle.gm_store_sums.specs.declared.sum_table.Sum.{Sum}
 use Rattle.gm_store_sums.specs.declared.sum_table.Sum.TheVariants.{Differs, Good, Unlisted}
 use Rattle.gm_file.specs.Main.{Main, IsMainFile}
-use Rattle.gm_graph_cache.specs.declared.cache.class.Class.{Class}
+use Rattle.gm_graph_files.specs.declared.class.Class.{Class}
 use Rattle.gm_graph.specs.declared.fault.Fault.{Fault}
-use Rattle.gm_graph_cache.specs.Reading.{IsFileReading, class_of_sum, file_of, is_askable, sum_fault}
+use Rattle.gm_graph_files.specs.Reading.{IsFileReading, class_of_sum, file_of, is_askable, sum_fault}
 use Rattle.gm_graph.specs.Run.{AreTooMany, IsNeeded, IsRead, IsSettled}
 use Rattle.gm_graph_cache.specs.Sayings.{FileSays, Run, answered, run_of, unaskable}
 use Rattle.gm_graph.proofs.RunLemmas.{RequiresToo, asked_answered, many_too}

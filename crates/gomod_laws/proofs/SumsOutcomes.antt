@@ -4,9 +4,9 @@ use Rattle.gm_store_parts.specs.Asked.{Name, Reply, answer_in, bytes, folder_fil
 use Rattle.gm_store_sums.specs.Hash.{file_hash}
 use Rattle.gm_store_sums.specs.Sums.{Sums, check_in}
 use Rattle.gm_store_sums.specs.declared.sum_table.Sum.TheVariants.{Good}
-use Rattle.gm_graph_cache.specs.declared.cache.class.Class.{Class}
+use Rattle.gm_graph_files.specs.declared.class.Class.{Class}
 use Rattle.gm_file.specs.Main.{Main}
-use Rattle.gm_graph_cache.specs.Reading.{class_of_sum, sum_fault}
+use Rattle.gm_graph_files.specs.Reading.{class_of_sum, sum_fault}
 use Rattle.gomod_run.specs.Queries.{AreFound, AreSums}
 use Rattle.gomod_run.specs.Needs.{GraphNeeds}
 use Rattle.gomod_run.specs.Outcome.{Outcome}

@@ -5,9 +5,9 @@ use Rattle.gm_name.specs.Path.{is_fetchable}
 use Rattle.gm_file.specs.Directives.{VersionInterval}
 use Rattle.gm_file.specs.Fields.{Dependency}
 use Rattle.gm_file.specs.Shown.{shown_of}
-use Rattle.gm_graph_cache.specs.declared.cache.class.Class.{Class}
-use Rattle.gm_graph_cache.specs.Reading.{AreRetractedBy}
-use Rattle.gm_graph_cache.proofs.OneReading.{one_reading, one_retracted}
+use Rattle.gm_graph_files.proofs.OneReading.{one_reading, one_retracted}
+use Rattle.gm_graph_files.specs.Reading.{AreRetractedBy}
+use Rattle.gm_graph_files.specs.declared.class.Class.{Class}
 use Rattle.gm_store_parts.specs.Asked.{Name, Reply, bytes, list_file, mod_file}
 use Rattle.gomod_run.specs.Outcome.{Outcome, failure_outcome, refusal_outcome, text_outcome}
 use Rattle.gomod_run.specs.Needs.{AnswersByName}

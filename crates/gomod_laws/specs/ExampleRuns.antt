@@ -6,7 +6,7 @@ use Rattle.gm_version.specs.Version.{version_cmp}
 use Rattle.gm_store_parts.specs.Asked.{Name, Reply, mod_file, absent, bytes}
 use Rattle.gm_file.specs.Fields.{Dependency}
 use Rattle.gm_file.specs.Main.{Main, IsMainFile}
-use Rattle.gm_graph_cache.specs.Reading.{IsFileReading}
+use Rattle.gm_graph_files.specs.Reading.{IsFileReading}
 use Rattle.gm_graph.specs.Run.{AreEdges, IsEdge}
 use Rattle.gm_graph_cache.specs.Sayings.{Requires, Run, run_of}
 use Rattle.gm_graph_select.specs.declared.step.Edge.{Edge}

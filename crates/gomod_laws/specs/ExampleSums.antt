@@ -3,8 +3,8 @@ use Rattle.std.specs.Prelude.{◌≡◌, ◌↔◌, ℕ, List, None, Some, codes
 use Rattle.gm_store_sums.specs.Sums.{SaysOfHash}
 use Rattle.gm_store_sums.specs.declared.sum_table.Sum.{Sum}
 use Rattle.gm_store_sums.specs.declared.sum_table.Sum.TheVariants.{Good, Unlisted, Differs}
-use Rattle.gm_graph_cache.specs.Reading.{class_of_sum}
-use Rattle.gm_graph_cache.specs.declared.cache.class.Class.TheVariants.{NoSum, SumDiffers}
+use Rattle.gm_graph_files.specs.Reading.{class_of_sum}
+use Rattle.gm_graph_files.specs.declared.class.Class.TheVariants.{NoSum, SumDiffers}
 
 -- a go.sum with a hash of one go.mod, and one with a second hash of it
 abbrev pub one_sum : List ℕ

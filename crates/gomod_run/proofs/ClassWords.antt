@@ -9,8 +9,8 @@ use Rattle.std.proofs.lemmas.Fmt.{decimal_injective}
 use Rattle.gm_version.proofs.Numbers.{decimal-digits}
 use Rattle.gm_syntax_words.specs.declared.fault.SyntaxKind.TheVariants as syntax
 use Rattle.gm_file.specs.declared.fault.DirectiveKind.TheVariants as directive
-use Rattle.gm_graph_cache.specs.declared.cache.class.Class.{Class}
-use Rattle.gm_graph_cache.specs.declared.cache.class.Class.TheVariants.{NotFetchable, Missing, TooLong, NoSum, SumDiffers, Malformed, WrongPath}
+use Rattle.gm_graph_files.specs.declared.class.Class.{Class}
+use Rattle.gm_graph_files.specs.declared.class.Class.TheVariants.{NotFetchable, Missing, TooLong, NoSum, SumDiffers, Malformed, WrongPath}
 use Rattle.gm_file.specs.declared.misreading.Misreading.{Misreading}
 use Rattle.gm_file.specs.declared.misreading.Misreading.TheVariants as misreading
 use Rattle.gm_file.specs.Misreading.{misreading_word}

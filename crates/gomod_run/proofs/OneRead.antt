@@ -11,8 +11,8 @@ use Rattle.gm_store_sums.specs.Sums.{ReadsAs, SaysOfHash, Sums, check_in}
 use Rattle.gm_store_sums.specs.declared.sum_table.Sum.{Sum}
 use Rattle.gm_store_sums.specs.declared.sum_table.Sum.TheVariants.{Good, Unlisted, Differs}
 use Rattle.gm_file.specs.Main.{Main, IsMainFile, main_of}
-use Rattle.gm_graph_cache.specs.Reading.{IsFileReading, IsReadUnless, class_of_sum, sum_fault}
-use Rattle.gm_graph_cache.specs.declared.cache.class.Class.{Class}
+use Rattle.gm_graph_files.specs.Reading.{IsFileReading, IsReadUnless, class_of_sum, sum_fault}
+use Rattle.gm_graph_files.specs.declared.class.Class.{Class}
 use Rattle.gomod_run.specs.Queries.{AreSums}
 
 -- ---- the main module's file

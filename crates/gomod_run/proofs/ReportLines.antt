@@ -1,8 +1,8 @@
 -- Lines as their pieces.
 use Rattle.std.proofs.Common.{◌≡◌, ◌++◌, ℕ, List, [], append_assoc, append-nil, codes, refl}
-use Rattle.gm_graph_cache.specs.ClassWords.{class_word}
-use Rattle.gm_graph_cache.specs.declared.cache.class.Class.{Class}
-use Rattle.gm_graph_cache.specs.declared.cache.class.Class.TheVariants.{Malformed}
+use Rattle.gm_graph_files.specs.ClassWords.{class_word}
+use Rattle.gm_graph_files.specs.declared.class.Class.{Class}
+use Rattle.gm_graph_files.specs.declared.class.Class.TheVariants.{Malformed}
 use Rattle.gm_file.specs.declared.misreading.Misreading.{Misreading}
 use Rattle.gomod_run.specs.Reports.{class_text}
 use Rattle.gomod_run.specs.LineParts.{line, vertex_text}

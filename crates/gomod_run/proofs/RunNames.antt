@@ -14,9 +14,9 @@ use Rattle.gm_store_sums.specs.Hash.{file_hash}
 use Rattle.gm_store_sums.specs.Sums.{Sums, check_in}
 use Rattle.gm_store_sums.specs.declared.sum_table.Sum.{Sum}
 use Rattle.gm_store_sums.specs.declared.sum_table.Sum.TheVariants.{Good, Unlisted, Differs}
-use Rattle.gm_graph_cache.specs.declared.cache.class.Class.{Class}
-use Rattle.gm_graph_cache.specs.declared.cache.class.Class.TheVariants.{Malformed}
-use Rattle.gm_graph_cache.specs.Reading.{IsContentReading, IsFileReading, IsReadUnless, class_of_sum, sum_fault}
+use Rattle.gm_graph_files.specs.declared.class.Class.{Class}
+use Rattle.gm_graph_files.specs.declared.class.Class.TheVariants.{Malformed}
+use Rattle.gm_graph_files.specs.Reading.{IsContentReading, IsFileReading, IsReadUnless, class_of_sum, sum_fault}
 use Rattle.gm_graph_cache.specs.Sayings.{FileSays, Requires, Run, Says, answered, faulty, run_of, sound, unaskable, wrong_path}
 use Rattle.gm_graph.specs.Run.{IsDeep, IsEdge, IsOpened, IsTop, from_deep, from_main, from_top}
 use Rattle.gm_file.proofs.Pairwise.{faultless-apart}

@@ -3,7 +3,7 @@ use Rattle.std.proofs.Common.{◌≡◌, ◌∙◌, ℕ, List, Option, Some, ref
 use Rattle.gm_file.specs.Main.{IsMainFile, Main}
 use Rattle.gm_store_parts.specs.Asked.{Name, Reply, names_in}
 use Rattle.gm_store_sums.specs.Sums.{Sums}
-use Rattle.gm_graph_cache.specs.Reading.{IsFileReading}
+use Rattle.gm_graph_files.specs.Reading.{IsFileReading}
 use Rattle.gm_graph.specs.Run.{IsSettled}
 use Rattle.gm_graph_cache.specs.Sayings.{run_of}
 use Rattle.gm_graph.proofs.RunLemmas.{Agrees, agree, settled_answers}

@@ -7,8 +7,8 @@ use Rattle.gm_store.specs.Latest.{IsLatest}
 use Rattle.gm_file.specs.Directives.{VersionInterval}
 use Rattle.gm_file.specs.Fields.{Dependency}
 use Rattle.gm_file.specs.Shown.{shown_of}
-use Rattle.gm_graph_cache.specs.declared.cache.class.Class.{Class}
-use Rattle.gm_graph_cache.specs.Reading.{AreRetractedBy, IsFileReading}
+use Rattle.gm_graph_files.specs.declared.class.Class.{Class}
+use Rattle.gm_graph_files.specs.Reading.{AreRetractedBy, IsFileReading}
 use Rattle.gm_graph.specs.Run.{AskedInTurn, more, nothing}
 use Rattle.gm_graph.proofs.Dues.{none_in_turn}
 use Rattle.gomod_run.specs.Private.Asking.{IsAnsweredAsk, IsRefusedAt, IsUnanswered}

@@ -1,7 +1,7 @@
 -- What a command ends with: what is printed, what is reported, and the exit status.
 use Rattle.std.specs.Prelude.{◌≡◌, ◌⊎◌, ℕ, List, [], Result, Ok, Err}
 use Rattle.gm_store_parts.specs.Asked.{name_of}
-use Rattle.gm_graph_cache.specs.ClassWords.{class_word}
+use Rattle.gm_graph_files.specs.ClassWords.{class_word}
 use Rattle.gomod_run.specs.declared.reports.report.Report.{Report}
 use Rattle.gomod_run.specs.declared.reports.report.Report.TheVariants as report
 use Rattle.gomod_run.specs.declared.reports.status.Status.{Status}

@@ -6,11 +6,11 @@ use Rattle.gm_name.specs.ModuleVersion.{ModuleVersion}
 use Rattle.gm_syntax_words.specs.declared.fault.SyntaxFault.{SyntaxFault}
 use Rattle.gm_syntax_words.specs.declared.fault.SyntaxFault.TheVariants as syntax
 use Rattle.gm_store_parts.specs.Asked.{Name, mod_file, folder_file, list_file}
-use Rattle.gm_graph_cache.specs.declared.cache.class.Class.{Class}
-use Rattle.gm_graph_cache.specs.declared.cache.class.Class.TheVariants.{Malformed}
 use Rattle.gm_file.specs.declared.misreading.Misreading.{Misreading}
 use Rattle.gm_file.specs.declared.misreading.Misreading.TheVariants as misreading
-use Rattle.gm_graph_cache.specs.ClassWords.{class_word}
+use Rattle.gm_graph_files.specs.ClassWords.{class_word}
+use Rattle.gm_graph_files.specs.declared.class.Class.TheVariants.{Malformed}
+use Rattle.gm_graph_files.specs.declared.class.Class.{Class}
 use Rattle.gm_file.specs.Misreading.{misreading_word}
 use Rattle.gm_graph.specs.declared.fault.Fault.{Fault}
 use Rattle.gomod_run.specs.declared.reports.report.Refusal.{Refusal}

@@ -1,4 +1,4 @@
--- A copy from crates/gm_graph_cache/specs/Reading.antt, which tools/check/headline.py writes.
+-- A copy from crates/gm_graph_files/specs/Reading.antt, which tools/check/headline.py writes.
 use Rattle.std.specs.Prelude.{◌≡◌, ◌||◌, ℕ, Bool, true, false, List, Option, Some, None, Result, Ok, Err}
 use Rattle.std.specs.Str.{bytes_eq}
 use Rattle.page.specs.Path.{is_fetchable}

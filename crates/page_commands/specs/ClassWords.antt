@@ -1,4 +1,4 @@
--- A copy from crates/gm_graph_cache/specs/ClassWords.antt, which tools/check/headline.py writes.
+-- A copy from crates/gm_graph_files/specs/ClassWords.antt, which tools/check/headline.py writes.
 use Rattle.std.specs.Prelude.{ℕ, List, codes}
 use Rattle.page_commands.specs.Types.Class.{Class, NotFetchable, Missing, TooLong, NoSum, SumDiffers, Malformed, WrongPath}
 

@@ -1,4 +1,4 @@
--- A copy from crates/gm_graph_cache/specs/Reading.antt, which tools/check/headline.py writes.
+-- A copy from crates/gm_graph_files/specs/Reading.antt, which tools/check/headline.py writes.
 use Rattle.std.specs.Prelude.{◌≡◌, ℕ, List, Option, Some, None, Result, Ok, Err}
 use Rattle.page_commands.specs.Directives.{Lax, VersionInterval}
 use Rattle.page_commands.specs.DepLines.{AreRetractedIn, IsDependencyIn}

@@ -1,7 +1,7 @@
 -- What visits found of vertices, by the numbers of modules.
 use Rattle.std.specs.Prelude.{◌≡◌, ◌⊎◌, ◌<◌, ℕ, Contains, Err, IsSome, List, None, Option, Some, length, slice_index_or}
 use Rattle.gm_graph_cache.specs.declared.cache.Cache.{Cache}
-use Rattle.gm_graph_cache.specs.declared.cache.class.Class.{Class}
+use Rattle.gm_graph_files.specs.declared.class.Class.{Class}
 use Rattle.gm_graph.specs.declared.findings.Findings.{Findings}
 use Rattle.gm_graph.specs.declared.findings.NumberedFault.{NumberedFault}
 use Rattle.gm_graph_cache.specs.Cached.{IsSound, table_in, module_numbered}

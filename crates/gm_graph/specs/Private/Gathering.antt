@@ -2,14 +2,14 @@
 use Rattle.std.specs.Prelude.{◌≡◌, ◌<◌, ◌+◌, ◌++◌, ◌∷◌, [], ℕ, suc, AllPairs, Contains, List, None, Option, Some, length, map}
 use Rattle.std.specs.declared.cmp.Ordering.TheVariants.{Less}
 use Rattle.gm_name.specs.ModuleVersion.{ModuleVersion, module_at, pair_cmp}
-use Rattle.gm_graph_cache.specs.declared.cache.class.Class.{Class}
+use Rattle.gm_graph_files.specs.declared.class.Class.{Class}
 use Rattle.gm_graph_cache.specs.declared.cache.parts.CacheParts.{CacheParts}
-use Rattle.gm_graph_cache.specs.declared.cache.summary.Kept.{Kept}
-use Rattle.gm_graph_cache.specs.declared.cache.summary.ListSpan.{ListSpan}
+use Rattle.gm_graph_files.specs.declared.summary.Kept.{Kept}
+use Rattle.gm_graph_files.specs.declared.summary.ListSpan.{ListSpan}
 use Rattle.gm_graph.specs.declared.fault.Fault.{Fault}
 use Rattle.gm_graph.specs.declared.findings.NumberedFault.{NumberedFault}
 use Rattle.gm_graph.specs.Private.Findings.{numbered, place_at}
-use Rattle.gm_graph_cache.specs.Summaries.{own_span}
+use Rattle.gm_graph_files.specs.Summaries.{own_span}
 use Rattle.gm_graph_select.specs.declared.adjacency.Source.{Source}
 use Rattle.gm_graph_select.specs.declared.number_lists.Span.{Span}
 use Rattle.gm_graph_select.specs.Adjacency.{StepEdges, by_step}

@@ -1,7 +1,7 @@
 -- The marks of a vertex: the depths at which it has turns.
 use Rattle.std.specs.Prelude.{Bool, false}
-use Rattle.gm_graph_cache.specs.declared.cache.depth.Depth.{Depth}
-use Rattle.gm_graph_cache.specs.declared.cache.depth.Depth.TheVariants.{Top, Deep}
+use Rattle.gm_graph_files.specs.declared.depth.Depth.{Depth}
+use Rattle.gm_graph_files.specs.declared.depth.Depth.TheVariants.{Top, Deep}
 use Rattle.gm_graph.specs.declared.marks.Marks.{Marks}
 
 -- the marks of a vertex without turns

@@ -3,7 +3,7 @@ use Rattle.std.specs.Prelude.{◌≡◌, ◌↔◌, ◌⊎◌, ℕ, Contains, Li
 use Rattle.gm_name.specs.ModuleVersion.{ModuleVersion}
 use Rattle.gm_store_parts.specs.Asked.{Name, Reply}
 use Rattle.gm_graph_cache.specs.declared.cache.Cache.{Cache}
-use Rattle.gm_graph_cache.specs.declared.cache.depth.Depth.TheVariants.{Deep}
+use Rattle.gm_graph_files.specs.declared.depth.Depth.TheVariants.{Deep}
 use Rattle.gm_graph_cache.specs.declared.cache.visit.Visit.{Visit}
 use Rattle.gm_graph.specs.declared.findings.Findings.{Findings}
 use Rattle.gm_graph.specs.declared.followed.Followed.{Followed}
@@ -14,7 +14,7 @@ use Rattle.gm_graph_cache.specs.Visits.{HasVisited}
 use Rattle.gm_graph.specs.Private.Findings.{AreFindings, WasVisited}
 use Rattle.gm_graph.specs.Private.Followed.{followed_at}
 use Rattle.gm_graph_cache.specs.Sayings.{Requires, Run}
-use Rattle.gm_graph_cache.specs.Turns.{turn}
+use Rattle.gm_graph_files.specs.Turns.{turn}
 use Rattle.gm_graph.specs.Private.Turns.{Visits}
 use Rattle.gm_graph.specs.Private.Worklists.{IsWorklist, turns_of}
 

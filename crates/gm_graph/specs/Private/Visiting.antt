@@ -5,16 +5,16 @@ use Rattle.gm_name_table.specs.Listed.{modules_of}
 use Rattle.gm_file.specs.Fields.{Dependency}
 use Rattle.gm_file.specs.Main.{is_pruned_by, without_excluded}
 use Rattle.gm_graph_cache.specs.declared.cache.Cache.{Cache}
-use Rattle.gm_graph_cache.specs.declared.cache.class.Class.{Class}
-use Rattle.gm_graph_cache.specs.declared.cache.depth.Depth.{Depth}
-use Rattle.gm_graph_cache.specs.declared.cache.depth.Turn.{Turn}
+use Rattle.gm_graph_files.specs.declared.class.Class.{Class}
+use Rattle.gm_graph_files.specs.declared.depth.Depth.{Depth}
+use Rattle.gm_graph_files.specs.declared.depth.Turn.{Turn}
 use Rattle.gm_graph.specs.declared.findings.Findings.{Findings}
 use Rattle.gm_graph.specs.declared.worklist.Worklist.{Worklist}
 use Rattle.gm_graph_cache.specs.Cached.{IsSound, main_in, table_in, module_numbered}
 use Rattle.gm_graph.specs.Private.Findings.{AreFindings, WasVisited}
 use Rattle.gm_graph.specs.Run.{AreTurns, IsOpened, IsRead}
 use Rattle.gm_graph_cache.specs.Sayings.{Run, Says}
-use Rattle.gm_graph_cache.specs.Summaries.{at_span}
+use Rattle.gm_graph_files.specs.Summaries.{at_span}
 use Rattle.gm_graph.specs.Private.Turns.{AddsAll, OverflowsWith, depth_by, led_to}
 use Rattle.gm_graph.specs.Private.Worklists.{IsWorklist, turns_of}
 

@@ -2,8 +2,8 @@
 use Rattle.std.specs.Prelude.{◌≡◌, ◌<◌, ◌↔◌, All, Contains, List, get_or, length, map, true}
 use Rattle.std.specs.List.{IsDistinct}
 use Rattle.gm_name.specs.ModuleVersion.{ModuleVersion, module_at, pair_eq}
-use Rattle.gm_graph_cache.specs.declared.cache.depth.Turn.{Turn}
-use Rattle.gm_graph_cache.specs.Turns.{turn}
+use Rattle.gm_graph_files.specs.declared.depth.Turn.{Turn}
+use Rattle.gm_graph_files.specs.Turns.{turn}
 use Rattle.gm_graph.specs.Private.Turns.{AreTurnsOf}
 use Rattle.gm_graph.specs.Private.Marks.{is_marked, no_marks}
 use Rattle.gm_graph.specs.declared.worklist.NumberedTurn.{NumberedTurn}

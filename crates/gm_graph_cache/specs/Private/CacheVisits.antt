@@ -2,14 +2,14 @@
 use Rattle.std.specs.Prelude.{◌≡◌, ℕ, Option, Some, None, Err}
 use Rattle.gm_name.specs.ModuleVersion.{ModuleVersion}
 use Rattle.gm_graph_cache.specs.declared.cache.Cache.{Cache}
-use Rattle.gm_graph_cache.specs.declared.cache.depth.Depth.{Depth}
+use Rattle.gm_graph_files.specs.declared.depth.Depth.{Depth}
 use Rattle.gm_graph_cache.specs.declared.cache.lent.Lent.{Lent}
 use Rattle.gm_graph_cache.specs.declared.cache.visit.Verdict.{Verdict}
 use Rattle.gm_graph_cache.specs.declared.cache.visit.Verdict.TheVariants as verdict
 use Rattle.gm_graph_cache.specs.declared.cache.visit.Visit.{Visit}
 use Rattle.gm_graph_cache.specs.declared.cache.visit.Visit.TheVariants as visit
 use Rattle.gm_graph_cache.specs.Cached.{IsSound}
-use Rattle.gm_graph_cache.specs.Turns.{leads_on}
+use Rattle.gm_graph_files.specs.Turns.{leads_on}
 use Rattle.gm_graph_cache.specs.Sayings.{Run, Says}
 
 -- What a cache says of a vertex: its fault, or the place of the file that has its list, and whether a visit to this

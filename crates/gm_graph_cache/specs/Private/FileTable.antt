@@ -6,9 +6,9 @@ use Rattle.gm_name_table.specs.OptionalPlaces.{no_place, place_in}
 use Rattle.gm_name_table.specs.declared.place.OptionalPlace.{OptionalPlace}
 use Rattle.gm_store_parts.specs.Asked.{Name, name_of, same_name}
 use Rattle.gm_graph_cache.specs.declared.cache.file_table.FileTable.{FileTable}
-use Rattle.gm_graph_cache.specs.declared.cache.summary.Kept.{Kept}
+use Rattle.gm_graph_files.specs.declared.summary.Kept.{Kept}
 use Rattle.gm_file.specs.Main.{Main, replacement_in}
-use Rattle.gm_graph_cache.specs.Reading.{file_of, is_askable}
+use Rattle.gm_graph_files.specs.Reading.{file_of, is_askable}
 use Rattle.gm_graph_cache.specs.FileTable.{kept_at, place_of}
 
 -- the place that is noted for the module with a number, if any

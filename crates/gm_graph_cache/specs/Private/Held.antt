@@ -7,7 +7,7 @@ use Rattle.gm_store_sums.specs.Sums.{Sums}
 use Rattle.gm_graph_cache.specs.declared.cache.file_table.FileTable.{FileTable}
 use Rattle.gm_graph_cache.specs.Held.{HoldsAnswers}
 use Rattle.gm_graph_cache.specs.Private.FileTable.{NotesFiles}
-use Rattle.gm_graph_cache.specs.Private.KeptFiles.{AreKeptIn, AreListsInOrder}
+use Rattle.gm_graph_files.specs.KeptFiles.{AreKeptIn, AreListsInOrder}
 use Rattle.gm_graph_cache.specs.Sayings.{run_of}
 
 -- What a cache holds is consistent: some answers say it, the requirements of the main file without the excluded ones

@@ -9,18 +9,17 @@ ghost use Rattle.gm_store_parts.specs.Asked.{Name, Reply, name_of};
 ghost use Rattle.gm_store_parts.specs.States.{HasServed};
 ghost use Rattle.gm_graph_cache.specs.Asking.{AsksFor, StillLacks};
 ghost use Rattle.gm_graph_cache.specs.Lent.{lent_modules};
-ghost use Rattle.gm_graph_cache.specs.Places.{place_limit};
-ghost use Rattle.gm_graph_cache.specs.Reading.{file_of};
+ghost use Rattle.gm_graph_files.specs.Places.{place_limit};
+ghost use Rattle.gm_graph_files.specs.Reading.{file_of};
 ghost use Rattle.gm_graph_cache.specs.Refusals.{refused_in};
-ghost use Rattle.gm_graph_cache.specs.Turns.{turn};
+ghost use Rattle.gm_graph_files.specs.Turns.{turn};
 
 use crate::cache::Cache;
-use crate::cache::class::Class;
-use crate::cache::depth::Depth;
 use crate::cache::lent::Lent;
 use crate::cache::load_fault::LoadFault;
 use crate::cache::naming::file_name;
 use crate::cache::visit::Verdict;
+use gm_graph_files::{Class, Depth};
 use gm_name::{ModVer, NoMemory};
 use gm_store::{Asks, FileName};
 

@@ -4,12 +4,12 @@
 //! that a replacement names is found by its name: a folder is no module, and two modules may have one replacement.
 
 ghost use Rattle.std.specs.Prelude.{◌≡◌, ◌<◌, ◌≤◌, ℕ, Some, length};
-ghost use Rattle.gm_graph_cache.specs.Places.{place_among, place_limit};
+ghost use Rattle.gm_graph_files.specs.Places.{place_among, place_limit};
 ghost use Rattle.gm_store_parts.specs.Asked.{Name};
 
 use crate::cache::naming::right_name;
 use crate::cache::place_history::PlaceHistory;
-use crate::cache::summary::{Kept, ListSpan};
+use gm_graph_files::{Kept, ListSpan};
 use gm_file::MainModule;
 use gm_name::NoMemory;
 use gm_name_table::OptionalPlace;
@@ -43,8 +43,8 @@ impl FileTable {
     ghost use Rattle.gm_name.specs.ModuleVersion.{ModuleVersion};
     ghost use Rattle.gm_name_table.specs.OptionalPlaces.{place_in};
     ghost use Rattle.gm_name_table.specs.declared.place.OptionalPlace.{OptionalPlace};
-    ghost use Rattle.gm_graph_cache.specs.Private.Summaries.{list_place};
-    ghost use Rattle.gm_graph_cache.specs.Private.KeptFiles.{span_found};
+    ghost use Rattle.gm_graph_files.specs.KeptFiles.{span_found};
+    ghost use Rattle.gm_graph_files.specs.Private.Summaries.{list_place};
 
     /// No files, for a main file with these replacements. The only refusal is `NoMemory`.
     pub(crate) fn new(alloc: Global, main: &MainModule) -> Result<FileTable, NoMemory>

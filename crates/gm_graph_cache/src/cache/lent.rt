@@ -1,9 +1,9 @@
 //! The requirements that a cache returns.
 
 ghost use Rattle.gm_name_table.specs.Listed.{modules_of};
-ghost use Rattle.gm_graph_cache.specs.Private.KeptFiles.{IsWithinList};
+ghost use Rattle.gm_graph_files.specs.KeptFiles.{IsWithinList};
 
-use crate::cache::summary::ListSpan;
+use gm_graph_files::ListSpan;
 use gm_name_table::{ModuleList, Modules};
 
 /// Requirements that a cache returned: a part of its list of modules.
@@ -22,7 +22,7 @@ impl<'a> Lent<'a> {
     ghost use Rattle.gm_name.specs.ModuleVersion.{pair_eq};
     ghost use Rattle.gm_name_table.specs.Listed.{AreModuleNumbers, modules_at};
     ghost use Rattle.gm_graph_cache.specs.Lent.{lent_modules, lent_table};
-    ghost use Rattle.gm_graph_cache.specs.Summaries.{at_span};
+    ghost use Rattle.gm_graph_files.specs.Summaries.{at_span};
 
     /// The part of a list of modules at a span.
     pub(crate) fn at(modules: &'a ModuleList, span: ListSpan) -> Lent<'a>

@@ -3,7 +3,7 @@
 ghost use Rattle.std.specs.Prelude.{◌≡◌, ℕ, List, IfOk, Some};
 ghost use Rattle.gm_file.specs.Views.{right_view};
 ghost use Rattle.gm_store_parts.specs.Asked.{name_of};
-ghost use Rattle.gm_graph_cache.specs.Reading.{file_named, file_of, is_askable as may_be_asked};
+ghost use Rattle.gm_graph_files.specs.Reading.{file_named, file_of, is_askable as may_be_asked};
 
 use gm_file::{MainModule, Right};
 use gm_name::{ModVer, NoMemory};

@@ -5,11 +5,11 @@ ghost use Rattle.std.proofs.Props.{props};
 ghost use Rattle.std.specs.List.{IsDistinct};
 ghost use Rattle.gm_name.specs.ModuleVersion.{pair_eq};
 ghost use Rattle.gm_name_table.specs.Listed.{AreModuleNumbers};
-ghost use Rattle.gm_graph_cache.specs.Places.{place_limit};
-ghost use Rattle.gm_graph_cache.specs.Private.KeptFiles.{AreListsInOrder};
-ghost use Rattle.gm_graph_cache.specs.Private.Summaries.{order_is_fact};
+ghost use Rattle.gm_graph_files.specs.Places.{place_limit};
+ghost use Rattle.gm_graph_files.specs.KeptFiles.{AreListsInOrder};
+ghost use Rattle.gm_graph_files.specs.Private.Summaries.{order_is_fact};
 
-use crate::cache::summary::Kept;
+use gm_graph_files::Kept;
 use gm_name::ModVer;
 
 /// The modules that have numbers, and the lists of requirements as parts of one list of numbers.

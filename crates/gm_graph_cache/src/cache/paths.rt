@@ -6,7 +6,7 @@ ghost use Rattle.std.specs.Prelude.{◌≡◌, Some, false};
 ghost use Rattle.gm_name.specs.ModuleVersion.{ModuleVersion};
 ghost use Rattle.gm_file.specs.Views.{right_view};
 ghost use Rattle.gm_file.specs.Main.{replacement_in};
-ghost use Rattle.gm_graph_cache.specs.Reading.{declares, is_right_path};
+ghost use Rattle.gm_graph_files.specs.Reading.{declares, is_right_path};
 
 use gm_file::{ListedFile, MainModule, Right};
 use gm_name::{ModPath, ModVer};

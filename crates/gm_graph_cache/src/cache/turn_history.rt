@@ -2,10 +2,10 @@
 
 ghost use Rattle.std.specs.Prelude.{◌≡◌, List, [], ◌∷◌, ◌++◌};
 ghost use Rattle.std.specs.Borrow.{ftrue};
-ghost use Rattle.gm_graph_cache.specs.Turns.{turn};
-ghost use Rattle.gm_graph_cache.specs.declared.cache.depth.Turn.{Turn};
+ghost use Rattle.gm_graph_files.specs.Turns.{turn};
+ghost use Rattle.gm_graph_files.specs.declared.depth.Turn.{Turn};
 
-use crate::cache::depth::Depth;
+use gm_graph_files::Depth;
 use gm_name::ModVer;
 use std::marker::Model;
 

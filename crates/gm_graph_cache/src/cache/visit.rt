@@ -2,8 +2,8 @@
 
 ghost use Rattle.std.specs.Prelude.{◌≡◌};
 
-use crate::cache::class::Class;
 use crate::cache::lent::Lent;
+use gm_graph_files::Class;
 
 /// What a cache says of a vertex.
 #[derive(Clone, Copy)]

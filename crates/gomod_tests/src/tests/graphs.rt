@@ -6,7 +6,7 @@ ghost use Rattle.std.specs.Prelude.{◌<◌};
 ghost use Rattle.gm_store_parts.specs.Asked.{name_of};
 ghost use Rattle.gm_store_parts.specs.Memory.{pairs_of};
 ghost use Rattle.gm_graph_cache.specs.Cached.{Knows, KnowsLender, file_count};
-ghost use Rattle.gm_graph_cache.specs.Places.{place_limit};
+ghost use Rattle.gm_graph_files.specs.Places.{place_limit};
 
 use super::{File, OUT_OF_MEMORY, assert_same, path, store_of, version};
 use gm_file::{MainFile, MainModule};

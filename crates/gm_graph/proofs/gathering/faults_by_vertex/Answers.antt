@@ -3,7 +3,7 @@ use Rattle.std.specs.Ordering.{is_eq}
 use Rattle.std.specs.BTreeMap as tree
 use Rattle.std.proofs.lemmas.List.{get_or_default, get_or_read, take_all, take_more}
 use Rattle.gm_name.specs.ModuleVersion.{ModuleVersion, module_at, pair_cmp}
-use Rattle.gm_graph_cache.specs.declared.cache.class.Class.TheVariants.{Missing}
+use Rattle.gm_graph_files.specs.declared.class.Class.TheVariants.{Missing}
 use Rattle.gm_graph.specs.declared.findings.NumberedFault.{NumberedFault}
 use Rattle.gm_graph.specs.Private.Findings.{numbered}
 use Rattle.gm_graph.proofs.Mapped.{each_more, only_more}

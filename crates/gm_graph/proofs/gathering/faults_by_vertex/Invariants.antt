@@ -3,7 +3,7 @@ use Rattle.std.specs.Prelude.{IsSome}
 use Rattle.std.specs.BTreeMap as tree
 use Rattle.std.specs.List.{All}
 use Rattle.gm_name.specs.ModuleVersion.{ModuleVersion, module_at, pair_cmp}
-use Rattle.gm_graph_cache.specs.declared.cache.class.Class.{Class}
+use Rattle.gm_graph_files.specs.declared.class.Class.{Class}
 use Rattle.gm_graph.specs.Private.Gathering.{HasFaultOf}
 use Rattle.gm_graph.proofs.gathering.faults_by_vertex.Given as goal
 

@@ -1,6 +1,6 @@
 use Rattle.std.proofs.Common.{arith, length}
-use Rattle.gm_graph_cache.proofs.Ordered.{order_longer, own_spans}
-use Rattle.gm_graph_cache.specs.Places.{place_limit}
+use Rattle.gm_graph_files.specs.Places.{place_limit}
+use Rattle.gm_graph_files.proofs.Ordered.{order_longer, own_spans}
 use Rattle.gm_graph.proofs.gathering.lists_of.Goals as goal
 
 pub span_list-requires : goal.span_list-requires

@@ -1,8 +1,8 @@
 use Rattle.std.proofs.Common.{◌+◌, arith, drop}
-use Rattle.gm_graph_cache.specs.Summaries.{own_span}
 use Rattle.gm_graph.proofs.Gathered.{from_place, span_more, order_ends, order_first, order_rest}
-use Rattle.gm_graph_cache.proofs.Ordered.{own_spans}
-use Rattle.gm_graph_cache.specs.Places.{place_limit}
+use Rattle.gm_graph_files.specs.Places.{place_limit}
+use Rattle.gm_graph_files.proofs.Ordered.{own_spans}
+use Rattle.gm_graph_files.specs.Summaries.{own_span}
 use Rattle.gm_graph.proofs.gathering.span_list.Goals as goal
 
 pub overflow_cast-end : goal.overflow_cast-end

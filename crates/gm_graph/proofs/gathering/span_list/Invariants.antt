@@ -1,8 +1,8 @@
 use Rattle.std.proofs.Common.{◌≡◌, ◌++◌, drop}
-use Rattle.gm_graph_cache.proofs.Ordered.{own_spans}
 use Rattle.gm_graph.specs.Private.Gathering.{spans_from, spans_of}
-use Rattle.gm_graph_cache.specs.Private.KeptFiles.{AreListsInOrder}
-use Rattle.gm_graph_cache.specs.Places.{place_limit}
+use Rattle.gm_graph_files.specs.Places.{place_limit}
+use Rattle.gm_graph_files.specs.KeptFiles.{AreListsInOrder}
+use Rattle.gm_graph_files.proofs.Ordered.{own_spans}
 use Rattle.gm_graph.proofs.gathering.span_list.Given as goal
 
 abbrev pub invariant-loop-kept : goal.invariant-loop-kept

@@ -1,4 +1,4 @@
-use Rattle.gm_graph_cache.proofs.OneReading.{one_reading}
+use Rattle.gm_graph_files.proofs.OneReading.{one_reading}
 use Rattle.gm_graph.proofs.laws.replies_say_one_thing.Goals as goal
 
 pub returns : goal.returns

@@ -1,5 +1,5 @@
 use Rattle.std.proofs.Common.{refl}
-use Rattle.gm_graph_cache.proofs.KeptLists.{kept_once}
+use Rattle.gm_graph_files.proofs.KeptLists.{kept_once}
 use Rattle.gm_graph_cache.proofs.cache.Cache.into_parts.Goals as goal
 
 pub invariant_of-result : goal.invariant_of-result

@@ -6,7 +6,7 @@ use Rattle.gm_graph_cache.specs.Asking.{AsksOne, IsAskableFile}
 use Rattle.gm_graph_cache.specs.Refusals.{refused_names}
 use Rattle.gm_graph_cache.proofs.AskedFile.{asks_for, asks_same, lacks_still, refused_failed}
 use Rattle.gm_graph_cache.specs.Cached.{main_in, run_in, sums_in, table_in, module_numbered}
-use Rattle.gm_graph_cache.specs.Reading.{file_of}
+use Rattle.gm_graph_files.specs.Reading.{file_of}
 use Rattle.gm_name.specs.ModuleVersion.{module_at}
 use Rattle.gm_graph_cache.proofs.GrownCache.{grown_consistent, grown_notes}
 use Rattle.gm_graph_cache.proofs.NumberedModules.{number_below, number_stays}

@@ -2,23 +2,23 @@ use Rattle.std.proofs.Common.{◌≡◌, ◌∙◌, ◌∷◌, [], ℕ, Err, Non
 use Rattle.gm_store_parts.specs.Asked.{Name, name_of}
 use Rattle.gm_store_parts.specs.Requests.{refused_for}
 use Rattle.gm_graph_cache.specs.declared.cache.file_table.FileTable.{FileTable}
-use Rattle.gm_graph_cache.specs.declared.cache.summary.Kept.{Kept}
+use Rattle.gm_graph_files.specs.declared.summary.Kept.{Kept}
 use Rattle.gm_graph_cache.specs.Asking.{IsAskableFile}
 use Rattle.gm_graph_cache.specs.Private.FileTable.{IsNewFile, IsPlacedAt}
 use Rattle.gm_graph_cache.specs.Cached.{main_in, summary_at, sums_in, table_in, module_numbered}
-use Rattle.gm_graph_cache.specs.Reading.{file_of, is_askable}
+use Rattle.gm_graph_files.specs.Reading.{file_of, is_askable}
 use Rattle.gm_graph_cache.proofs.AskedFile.{asks_by, asks_nothing, asks_passed, asks_still, asks_wider, never_device}
 use Rattle.gm_graph_cache.proofs.NumberedModules.{number_below, number_stays}
 use Rattle.gm_graph_cache.proofs.Keeping.{any_err, follows_same, holds_after, holds_beside, holds_itself, holds_listed, holds_noted, says_later}
 use Rattle.gm_graph_cache.proofs.OwnFiles.{new_file, noted_again, nothing_kept, one_more_file, placed_file, placed_still, replacing_at, same_count}
 use Rattle.gm_graph_cache.proofs.PuttingPlaces.{same_files}
-use Rattle.gm_graph_cache.proofs.SharedLists.{listed_push}
+use Rattle.gm_graph_files.proofs.SharedLists.{listed_push}
 use Rattle.gm_graph_cache.proofs.HeldFiles.{added_some, kept_some}
-use Rattle.gm_graph_cache.specs.Private.NotedLists.{NotesAll}
-use Rattle.gm_graph_cache.specs.KeptLists.{own_lists}
-use Rattle.gm_graph_cache.specs.Private.KeptFiles.{AreKeptIn, AreListsInOrder}
+use Rattle.gm_graph_files.specs.NotedLists.{NotesAll}
+use Rattle.gm_graph_files.specs.KeptLists.{own_lists}
+use Rattle.gm_graph_files.specs.KeptFiles.{AreKeptIn, AreListsInOrder}
 use Rattle.gm_name_table.specs.Listed.{modules_of}
-use Rattle.gm_graph_cache.proofs.Ordered.{begins_added, has_added}
+use Rattle.gm_graph_files.proofs.Ordered.{begins_added, has_added}
 use Rattle.gm_graph_cache.proofs.MoreAnswers.{knows_read, none_still, not_asked, sound_read}
 use Rattle.gm_graph_cache.proofs.cache.Cache.known_at.Given.{Over}
 use Rattle.gm_graph_cache.proofs.cache.Cache.known_at.Goals as goal

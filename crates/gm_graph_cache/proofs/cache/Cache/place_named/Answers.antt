@@ -2,7 +2,7 @@ use Rattle.std.proofs.Common.{◌≡◌, ◌∙◌, [], Some, ap, sym}
 use Rattle.std.proofs.lemmas.Option.{get_or_from_slice_get, slice_get-get_or}
 use Rattle.gm_store_parts.specs.Asked.{name_of}
 use Rattle.gm_graph_cache.specs.Cached.{main_in, table_in, module_numbered}
-use Rattle.gm_graph_cache.specs.Reading.{file_of}
+use Rattle.gm_graph_files.specs.Reading.{file_of}
 use Rattle.gm_graph_cache.proofs.FilePlaces.{place_by, place_by_absent}
 use Rattle.gm_graph_cache.proofs.cache.Cache.place_named.Goals as goal
 

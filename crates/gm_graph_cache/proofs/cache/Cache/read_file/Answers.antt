@@ -1,12 +1,12 @@
 use Rattle.std.proofs.Common.{Ok, Err, drop, refl}
 use Rattle.gm_store_parts.specs.Asked.{name_of}
 use Rattle.gm_name_table.specs.Listed.{modules_of}
-use Rattle.gm_graph_cache.specs.Private.KeptFiles.{listed_reading}
+use Rattle.gm_graph_files.specs.KeptFiles.{listed_reading}
 use Rattle.gm_graph_cache.proofs.AskedFile.{asked_one, asks_passed, asks_still}
 use Rattle.gm_graph_cache.proofs.GrownCache.{grown_consistent, grown_notes}
 use Rattle.gm_graph_cache.proofs.Keeping.{holds_grown, holds_itself}
-use Rattle.gm_graph_cache.proofs.Ordered.{order_push}
-use Rattle.gm_graph_cache.proofs.SharedLists.{listed_front}
+use Rattle.gm_graph_files.proofs.Ordered.{order_push}
+use Rattle.gm_graph_files.proofs.SharedLists.{listed_front}
 use Rattle.gm_graph_cache.proofs.cache.Cache.read_file.Goals as goal
 
 pub kept_of-requires-clause-listed : goal.kept_of-requires-clause-listed

@@ -6,11 +6,11 @@ use Rattle.std.specs.Prelude.{slice_get}
 use Rattle.gm_graph_cache.specs.Cached.{main_in, module_numbered}
 use Rattle.gm_graph_cache.specs.Private.FileTable.{IsPlacedAt}
 use Rattle.gm_file.specs.Main.{replacement_in}
-use Rattle.gm_graph_cache.specs.Reading.{file_of, is_right_path}
+use Rattle.gm_graph_files.specs.Reading.{file_of, is_right_path}
 use Rattle.gm_graph_cache.specs.Sayings.{faulty, sound, unaskable, wrong_path}
-use Rattle.gm_graph_cache.specs.Summaries.{listed_span}
-use Rattle.gm_graph_cache.specs.Turns.{leads_on}
-use Rattle.gm_graph_cache.proofs.SharedLists.{list_owned}
+use Rattle.gm_graph_files.specs.Summaries.{listed_span}
+use Rattle.gm_graph_files.specs.Turns.{leads_on}
+use Rattle.gm_graph_files.proofs.SharedLists.{list_owned}
 use Rattle.gm_graph_cache.proofs.Lending.{fault_said, file_said}
 use Rattle.gm_graph_cache.proofs.cache.Cache.verdict.Goals as goal
 

@@ -4,8 +4,8 @@ use Rattle.gm_name_table.specs.Listed.{NumberedList, modules_of}
 use Rattle.gm_graph_cache.specs.declared.cache.file_table.FileTable.{FileTable}
 use Rattle.gm_graph_cache.specs.Cached.{HoldsSame, module_numbered, run_in}
 use Rattle.gm_graph_cache.specs.Visits.{IsVisit}
-use Rattle.gm_graph_cache.specs.Summaries.{at_span}
-use Rattle.gm_graph_cache.specs.Turns.{turn}
+use Rattle.gm_graph_files.specs.Summaries.{at_span}
+use Rattle.gm_graph_files.specs.Turns.{turn}
 use Rattle.gm_graph_cache.proofs.Caching.{has_visited}
 use Rattle.gm_graph_cache.proofs.Lending.{place_said, span_at, visit_got}
 use Rattle.gm_graph_cache.proofs.cache.Cache.visit.Goals as goal

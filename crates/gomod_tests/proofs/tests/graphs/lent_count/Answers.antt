@@ -1,8 +1,8 @@
 use Rattle.std.specs.Option.{option_map}
 use Rattle.gm_store_parts.specs.Asked.{name_of}
 use Rattle.gm_graph_cache.proofs.Named.{lender_still}
-use Rattle.gm_graph_cache.specs.Turns.{turn}
-use Rattle.gm_graph_cache.specs.declared.cache.depth.Depth.TheVariants.{Deep}
+use Rattle.gm_graph_files.specs.Turns.{turn}
+use Rattle.gm_graph_files.specs.declared.depth.Depth.TheVariants.{Deep}
 use Rattle.gomod_tests.proofs.tests.graphs.lent_count.Goals as goal
 
 pub returns : goal.returns

@@ -15,8 +15,8 @@ use denote.Triple.Entry.{alive}
 use denote.Triple.Walked.{Stays, stay_dropped, Goes-dropped, walk_of, says, ends_at}
 use Rattle.gm_graph_cache.specs.contracts.cache.turn_history.TurnHistory.with as f
 use Rattle.gm_graph_cache.specs.contracts.cache.turn_history.TurnHistory as TurnHistory
-use Rattle.gm_graph_cache.specs.contracts.cache.depth.Depth as Depth
-use Rattle.gm_graph_cache.specs.Turns.{turn}
+use Rattle.gm_graph_files.specs.contracts.depth.Depth as Depth
+use Rattle.gm_graph_files.specs.Turns.{turn}
 use Rattle.gm_name.specs.contracts.fit.ModVer as ModVer
 use Rattle.gm_graph_cache.specs.declared.cache.turn_history.TurnHistory.{TurnHistory as Value}
 use Rattle.gm_name.proofs.Empty.{empty, empty_made}

@@ -1,0 +1,6 @@
+use Rattle.std.proofs.Common.{refl}
+use Rattle.gm_graph_files.proofs.KeptLists.{no_list_noted}
+use Rattle.gm_graph_files.proofs.keeping.kept_of.Goals as goal
+
+pub returns-in-Faulty-clause-next : goal.returns-in-Faulty-clause-next
+returns-in-Faulty-clause-next c = no_list_noted c.args.lists.now c.args.modules.now.numbers c.args.files.now c.requires.notes _ refl

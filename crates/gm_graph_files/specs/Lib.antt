@@ -1,0 +1,9 @@
+pub mod Private
+pub mod Turns
+pub mod Reading
+pub mod Summaries
+pub mod KeptLists
+pub mod ClassWords
+pub mod Places
+pub mod KeptFiles
+pub mod NotedLists

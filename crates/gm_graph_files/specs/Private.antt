@@ -1,0 +1,3 @@
+-- What only the code's own contracts and proofs say: no public contract reaches it.
+pub mod KeptLists
+pub mod Summaries
