@@ -1,5 +1,5 @@
 -- A run that is done has an answer for every file that it needs.
-use Rattle.std.proofs.Common.{◌≡◌, ◌∙◌, ℕ, Bool, List, [], Option, Some, false, true, ap, arith, inl, inr, sym}
+use Rattle.std.proofs.Common.{◌≡◌, ◌∙◌, ℕ, Bool, List, [], Option, Some, false, true, ap, arith, inl, inr}
 use Rattle.gm_name.specs.Path.{is_fetchable}
 use Rattle.gm_store_parts.specs.Asked.{Name, Reply, absent, answer_in, bytes, list_file, mod_file, too_long}
 use Rattle.gm_store_sums.specs.Sums.{Sums}
@@ -10,19 +10,14 @@ use Rattle.gm_graph.proofs.RunLemmas.{Agrees, needed, settled_answers}
 use Rattle.gomod_run.specs.Queries.{AreFound, Given, Prints, QueryEnds}
 use Rattle.gomod_run.specs.Private.ByCommand.{PrintsOf}
 use Rattle.gomod_run.specs.Needs.{AnsweredAll, AnswersByName, GraphNeeds}
-use Rattle.gomod_run.specs.Outcome.{OrNoMemory, Outcome, failure_outcome}
-use Rattle.gomod_run.specs.Reports.{device_line}
+use Rattle.gomod_run.specs.Outcome.{OrNoMemory, Outcome}
 use Rattle.gomod_run.proofs.StoresAgree.{itself, stores_agree}
 use Rattle.gomod_run.proofs.PrintedList.{printed_run}
 use Rattle.gomod_run.proofs.OneVersions.{alike_itself, none_needed, one_latest, one_listed, shown_listed}
-use Rattle.gomod_run.proofs.WrittenTexts.{written_as}
 use Rattle.gomod_words.specs.declared.usage.Command.{Command}
 use Rattle.gomod_words.specs.declared.usage.Command.TheVariants.{Fmt, Edit, Versions}
-use Rattle.gm_store_parts.specs.States.{StoreState}
-use Rattle.gomod_run.specs.Runs.{HoldsAtAnyEnd, Needs, RunEnds}
+use Rattle.gomod_run.specs.Runs.{Needs, RunEnds}
 use Rattle.gomod_run.specs.Versions.{AreShown, VersionsEnds, VersionsNeed, all_listed, bad_file, device, list_refusal, no_list, not_retracted, printed}
-use Rattle.gomod_run.specs.Written.{IsWritten}
-use Rattle.gm_store_parts.specs.Taken.{SinkState}
 
 -- ---- each file that is needed is answered
 
@@ -87,24 +82,3 @@ pub done_if_memory : (command : Command) (run : Given) (outcome : Outcome) → O
     → AnsweredAll (Needs command run.file run.sums) (answer_in run.answers.asked)
 done_if_memory command run outcome (inl is) done = done_answers command run outcome is done
 done_if_memory command run outcome (inr memory) done = let code = ap (λ (o : Outcome). o.status) memory in absurd (omega (arith, code, done))
-
--- an outcome that was written with the status of a done run has that status
-pub written_done : (outcome : Outcome) (out out' report report' : SinkState) (status : ℕ)
-    → IsWritten outcome out out' report report' status → status ≡ 0 → outcome.status ≡ 0
-written_done outcome out out' report report' status (inl whole) done = sym whole.1 ∙ done
-written_done outcome out out' report report' status (inr part) done = absurd (omega (arith, part.1, done))
-
--- what holds of an outcome holds of its writing
-pub held_written : (command : Command) (main : List ℕ) (sums : Option (List ℕ))
-    (before after : Name → Option Reply → Type 0) (old new : StoreState) (outcome : Outcome)
-    (out out' report report' : SinkState) (status : ℕ)
-    → IsWritten outcome out out' report report' status → HoldsAtAnyEnd command main sums before after old new outcome.status (λ reported. outcome ≡ reported)
-    → HoldsAtAnyEnd command main sums before after old new status (λ reported. IsWritten reported out out' report report' status)
-held_written command main sums before after old new outcome out out' report report' status written holds = record {
-  in_turn = holds.in_turn;
-  all_answered = λ done. holds.all_answered (written_done outcome out out' report report' status written done);
-  fails = holds.fails;
-  served = holds.served;
-  device = λ name refused. written_as outcome (failure_outcome (device_line name)) out out' report report' status (holds.device name refused) written;
-  no_list = λ path all other is refusal. written_as outcome other out out' report report' status (holds.no_list path all other is refusal) written;
-}

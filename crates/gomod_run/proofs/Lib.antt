@@ -11,6 +11,7 @@ pub mod VersionsSteps
 pub mod CommandRuns
 pub mod Answered
 pub mod WrittenTexts
+pub mod WrittenRuns
 pub mod Takings
 pub mod Waiting
 pub mod ReportLines

@@ -11,15 +11,20 @@
 
 mod asking;
 mod command;
+mod commands;
+mod edges;
 mod edit;
 mod ending;
+mod fields;
 mod fmt;
 mod inputs;
 pub mod laws;
 mod program;
 pub mod queries;
 mod reports;
+mod rows;
 mod running;
+mod steps;
 mod stores;
 mod text;
 mod versions;

@@ -14,7 +14,6 @@
 
 pub(crate) mod answering;
 pub(crate) mod chain;
-pub(crate) mod fields;
 pub(crate) mod graph;
 pub mod laws;
 pub(crate) mod list;

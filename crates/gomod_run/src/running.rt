@@ -2,68 +2,16 @@
 
 ghost use Rattle.std.specs.Prelude.{◌≡◌, [], None, false};
 ghost use Rattle.std.specs.Option.{option_map};
-ghost use Rattle.std.specs.Str.{IsUtf8};
-ghost use Rattle.gomod_run.specs.Outcome.{code_of, ended_view};
-ghost use Rattle.gomod_run.specs.Private.Ended.{outcome_view};
-ghost use Rattle.gomod_run.specs.Runs.{ComesTo, HoldsAtAnyEnd, RunEnds, is_query, run_between};
+ghost use Rattle.gomod_run.specs.Outcome.{code_of};
+ghost use Rattle.gomod_run.specs.Runs.{HoldsAtAnyEnd, RunEnds, is_query, run_between};
 ghost use Rattle.gomod_run.specs.Written.{EndsAsStated, IsWritten};
 
-use crate::edit::edit_outcome;
-use crate::fmt::fmt_outcome;
-use crate::queries::answering::answer;
-use crate::queries::query::Query;
-use crate::reports::report::Report;
+use crate::commands::outcome;
 use crate::reports::status::Status;
-use crate::text::Text;
-use crate::versions::versions_outcome;
 use crate::writing::write_outcome;
 use gm_store::{Asks, Sink};
 use gomod_words::Command;
 use std::alloc::Global;
-
-/// A text that was made, or a report.
-fn whole<'c>(ended: Result<String, Report<'c>>) -> Result<Text, Report<'c>>
-    ensures same { ended_view result ≡ outcome_view ended.entry }
-    ensures utf8 { IsUtf8 (ended_view result).text }
-{
-    match ended {
-        Ok(text) => Ok(Text::whole(text)),
-        Err(told) => Err(told),
-    }
-}
-
-/// What a command ends with over the main file, a go.sum if one is given, and a store that has not been asked yet:
-/// a text or a report.
-fn outcome<'c, F: Asks>(
-    alloc: Global,
-    command: &'c Command,
-    main: &[u8],
-    sums: Option<&[u8]>,
-    files: &mut F,
-) -> Result<Text, Report<'c>>
-    requires { (F.state files.old).asked ≡ [] }
-    ensures comes { ComesTo command.now main.now (option_map (λ sums. sums.now) sums.entry)
-        (F.may_answer files.old) (F.may_answer files.new) (F.state files.old) (F.state files.new)
-        (ended_view result) }
-    ensures utf8 { IsUtf8 (ended_view result).text }
-{
-    match command {
-        Command::Versions { path, all } => whole(versions_outcome(alloc, path, *all, files)),
-        Command::Fmt => whole(fmt_outcome(alloc, main)),
-        Command::Edit(operations) => whole(edit_outcome(alloc, operations.as_slice(), main)),
-        Command::Graph => answer(alloc, Query::Graph, main, sums, files),
-        Command::List { after, limit } => {
-            answer(
-                alloc,
-                Query::List(after.as_ref(), *limit),
-                main,
-                sums,
-                files,
-            )
-        }
-        Command::Chain(path) => answer(alloc, Query::Chain(path), main, sums, files),
-    }
-}
 
 /// Runs a command over the bytes of a main file, those of a go.sum if one is given, and a store that has not
 /// been asked yet, and writes its outcome: either a text to `out`, with the status `Done`, or a report to `report`,

@@ -8,9 +8,9 @@ ghost use Rattle.gomod_run.specs.GraphQuery.{graph_text};
 ghost use Rattle.gomod_run.specs.ListQuery.{list_text, up_to};
 ghost use Rattle.gomod_run.specs.Taking.{Took};
 
-use crate::queries::chain::write_steps;
-use crate::queries::graph::write_edges;
-use crate::queries::list::{part_of, write_rows};
+use crate::edges::write_edges;
+use crate::rows::{part_of, write_rows};
+use crate::steps::write_steps;
 use gm_graph::Loaded;
 use gm_graph_select::Step;
 use gm_name::ModPath;

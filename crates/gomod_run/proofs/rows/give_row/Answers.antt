@@ -1,5 +1,5 @@
 use Rattle.gomod_run.proofs.WrittenLines.{row_in_pieces}
-use Rattle.gomod_run.proofs.queries.list.give_row.Goals as goal
+use Rattle.gomod_run.proofs.rows.give_row.Goals as goal
 
 pub returns : goal.returns
 returns g c =

@@ -2,7 +2,7 @@ use Rattle.std.proofs.Common.{◌∙◌, ◌++◌, [], Err, Ok, append-nil, drop
 use Rattle.std.specs.List.{flat_map}
 use Rattle.gomod_run.proofs.Waiting.{around, gives_more, no_more, one_more, took_given, took_part}
 use Rattle.gomod_run.proofs.WrittenLines.{row_line, rows_text}
-use Rattle.gomod_run.proofs.queries.list.write_rows.Goals as goal
+use Rattle.gomod_run.proofs.rows.write_rows.Goals as goal
 
 pub returns-in_err-give_row : goal.returns-in_err-give_row
 returns-in_err-give_row g c =

@@ -1,5 +1,5 @@
 use Rattle.gomod_run.proofs.WrittenLines.{step_in_pieces}
-use Rattle.gomod_run.proofs.queries.chain.give_step.Goals as goal
+use Rattle.gomod_run.proofs.steps.give_step.Goals as goal
 
 pub returns : goal.returns
 returns g c =

@@ -2,7 +2,7 @@ use Rattle.std.proofs.Common.{◌≡◌, ◌++◌, [], List, Ok, ℕ}
 use Rattle.gm_store_parts.specs.declared.sinks.WriteFault.{WriteFault}
 use Rattle.gomod_run.specs.GraphQuery.{graph_text}
 use Rattle.gomod_run.specs.Private.Giving.{IsGiven}
-use Rattle.gomod_run.proofs.queries.graph.write_edges.Given as goal
+use Rattle.gomod_run.proofs.edges.write_edges.Given as goal
 
 -- lines were given, and those of the remaining edges are the rest of the text
 abbrev pub invariant-edges : goal.invariant-edges

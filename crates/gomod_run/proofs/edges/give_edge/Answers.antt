@@ -1,5 +1,5 @@
 use Rattle.gomod_run.proofs.WrittenLines.{edge_in_pieces}
-use Rattle.gomod_run.proofs.queries.graph.give_edge.Goals as goal
+use Rattle.gomod_run.proofs.edges.give_edge.Goals as goal
 
 pub returns : goal.returns
 returns g c =

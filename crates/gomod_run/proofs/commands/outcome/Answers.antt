@@ -2,7 +2,7 @@ use Rattle.std.specs.Option.{option_map}
 use Rattle.gomod_run.specs.Private.Ended.{outcome_view}
 use Rattle.gomod_run.proofs.CommandOutcomes.{unasked_comes}
 use Rattle.gomod_run.proofs.VersionsSteps.{versions_come}
-use Rattle.gomod_run.proofs.running.outcome.Goals as goal
+use Rattle.gomod_run.proofs.commands.outcome.Goals as goal
 
 pub returns-in-Versions-clause-comes : goal.returns-in-Versions-clause-comes
 returns-in-Versions-clause-comes g c =

@@ -1,7 +1,7 @@
 use Rattle.std.proofs.Common.{◌∙◌, ◌++◌, [], Err, Ok, append-nil, drop, refl, suc, sym, take, take_all}
 use Rattle.gomod_run.proofs.Waiting.{around, gives_more, no_more, one_more, took_given, took_part}
 use Rattle.gomod_run.specs.ChainQuery.{chain_text, step_line}
-use Rattle.gomod_run.proofs.queries.chain.write_steps.Goals as goal
+use Rattle.gomod_run.proofs.steps.write_steps.Goals as goal
 
 pub returns-in_err-give_step : goal.returns-in_err-give_step
 returns-in_err-give_step g c =

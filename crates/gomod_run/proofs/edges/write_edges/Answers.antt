@@ -3,7 +3,7 @@ use Rattle.gm_graph_select.specs.EdgeList.{edge_of_ref}
 use Rattle.gm_graph_select.specs.declared.step.Edge.{Edge}
 use Rattle.gomod_run.proofs.Waiting.{gives_more, no_more, took_given, took_part}
 use Rattle.gomod_run.specs.GraphQuery.{edge_line, graph_text}
-use Rattle.gomod_run.proofs.queries.graph.write_edges.Goals as goal
+use Rattle.gomod_run.proofs.edges.write_edges.Goals as goal
 
 pub returns-in_err-give_edge : goal.returns-in_err-give_edge
 returns-in_err-give_edge g c =

@@ -3,7 +3,7 @@ use Rattle.std.specs.List.{flat_map}
 use Rattle.gm_store_parts.specs.declared.sinks.WriteFault.{WriteFault}
 use Rattle.gomod_run.specs.Private.Giving.{IsGiven}
 use Rattle.gomod_run.proofs.WrittenLines.{row_line}
-use Rattle.gomod_run.proofs.queries.list.write_rows.Given as goal
+use Rattle.gomod_run.proofs.rows.write_rows.Given as goal
 
 -- the lines of the rows so far were given
 abbrev pub invariant-rows : goal.invariant-rows
