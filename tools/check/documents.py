@@ -88,7 +88,7 @@ ALIKE = (
     ("README.md", r"SIG\w+ \((\d+)", "docs/use/RECIPES.md", r"SIG\w+, (\d+)"),
     ("docs/use/RECIPES.md", r"SIGXFSZ, (\d+)", "docs/use/RECIPES.md", r"\(ulimit -f 0 .*\n    (\d+)"),
     ("docs/use/COMMANDS.md", r"3 too if `head -1` leaves an output over (\d+,\d+) bytes",
-     "crates/gomod_run/src/reports/buffer.rt", r"pieces\.now\)\) ≤ (\d+) }"),
+     "crates/gomod_texts/src/reports/buffer.rt", r"pieces\.now\)\) ≤ (\d+) }"),
     ("docs/use/COMMANDS.md", r"[Aa]fter `(.)` (?:the next folder is searched if a file is absent;|also if)",
      HELP, r"after '(.)' (?:the next one is searched\nif a file is|also.* fails\.)"),
 )

@@ -98,7 +98,7 @@ REPLACED = {"./local": "example.com/local@v0.0.0", "example.com/fork@v1.1.0": "e
 REPLACED["./x"] = "local@v1.0.0"
 REPLACED |= {f"./{number}": f"{it}@v1.0.0" for number, it in enumerate(LONG)}
 NO_MEMORY = b"", b"gomod: no memory\n", 3
-# how many bytes of lines wait to be written: two writes in a row have more (crates/gomod_run/src/reports/buffer.rt)
+# how many bytes of lines wait to be written: two writes in a row have more (crates/gomod_texts/src/reports/buffer.rt)
 WAITING = 16_384
 # how many seconds a run has
 LIMIT = 60

@@ -9,15 +9,15 @@ use Rattle.gm_graph.specs.Entries.{Entry}
 use Rattle.gm_graph_select.proofs.Lawful.{row_selected, selected_row}
 use Rattle.gm_graph.specs.Run.{AreRows, IsEdge, IsOpened, IsTop}
 use Rattle.gm_graph_cache.specs.Sayings.{Run, run_of}
-use Rattle.gomod_run.specs.Queries.{AreFound, Prints, QueryEnds}
-use Rattle.gomod_run.specs.Outcome.{Outcome}
+use Rattle.gomod_texts.specs.Queries.{AreFound, Prints, QueryEnds}
+use Rattle.gomod_texts.specs.Outcome.{Outcome}
 use Rattle.gomod_words.specs.declared.usage.Command.{Command}
 use Rattle.gomod_laws.specs.Runs.{HasPrinted}
-use Rattle.gomod_run.specs.GraphQuery.{PrintsGraph}
-use Rattle.gomod_run.specs.ListQuery.{PrintsList}
+use Rattle.gomod_texts.specs.GraphQuery.{PrintsGraph}
+use Rattle.gomod_texts.specs.ListQuery.{PrintsList}
 use Rattle.gm_graph.proofs.RunLemmas.{RequiresToo, SaysToo, edge_too, opened_too}
-use Rattle.gomod_run.proofs.FewOpened.{IsFew}
-use Rattle.gomod_run.proofs.PrintedList.{greatest}
+use Rattle.gomod_texts.proofs.FewOpened.{IsFew}
+use Rattle.gomod_texts.proofs.PrintedList.{greatest}
 use Rattle.gomod_laws.specs.AdditionLaws.{AreNotLower, AreTwoRuns, GraphKeepsLines, ListLowersNothing, SaysMore}
 use Rattle.gomod_laws.specs.Shown.{run_over}
 use Rattle.gomod_laws.proofs.AdditionsKept.{kept_more}

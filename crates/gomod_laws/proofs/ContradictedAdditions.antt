@@ -12,9 +12,9 @@ use Rattle.gm_graph_select.specs.declared.step.Step.TheVariants.{Main as FromMai
 use Rattle.gm_graph_select.specs.BuildList.{HasEntryFor, path_of}
 use Rattle.gm_graph.specs.Entries.{Entry}
 use Rattle.gm_graph_select.proofs.Ascending.{member_head, one_member}
-use Rattle.gomod_run.specs.Queries.{Given}
-use Rattle.gomod_run.specs.Outcome.{Outcome, text_outcome}
-use Rattle.gomod_run.specs.GraphQuery.{edge_text}
+use Rattle.gomod_texts.specs.Queries.{Given}
+use Rattle.gomod_texts.specs.Outcome.{Outcome, text_outcome}
+use Rattle.gomod_texts.specs.GraphQuery.{edge_text}
 use Rattle.gomod_run.proofs.ListLines.{heads}
 use Rattle.gomod_laws.specs.CounterAdditions.{ChainIsByNoLine, ChainIsToAnother, LineIsLost, RowIsLower, ShowA, UnlistedIsShown}
 use Rattle.gomod_laws.specs.RowLaws.{IsExplained, AreChained, further, here, text_of}

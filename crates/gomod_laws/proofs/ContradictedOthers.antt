@@ -1,6 +1,6 @@
 -- What the laws of `edit` conclude is false of outputs that contradict them.
 use Rattle.std.proofs.Common.{◌≡◌, ap, arith, drop, inl, inr, refl, sym}
-use Rattle.gomod_run.specs.Outcome.{Outcome}
+use Rattle.gomod_texts.specs.Outcome.{Outcome}
 use Rattle.gomod_run.proofs.ListLines.{heads}
 use Rattle.gomod_laws.specs.CounterOthers.{FormatsAnother, NeitherFormats, TwiceIsRefused, TwicePrintsAnother, file_of_m, file_of_n}
 use Rattle.gomod_laws.proofs.ShownTexts.{same_text}

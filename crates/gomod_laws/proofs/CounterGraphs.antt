@@ -15,13 +15,13 @@ use Rattle.gm_graph_select.specs.Graph.{Edges, among, edge}
 use Rattle.gm_graph_select.proofs.Ascending.{member_head, member_tail, one_member}
 use Rattle.gm_graph_select.proofs.Lawful.{rows_are_ends}
 use Rattle.gm_graph_select.proofs.Same.{AreSame, same_build_list, same_chain}
-use Rattle.gomod_run.specs.QueryLaws.{IsWalk, further, here}
-use Rattle.gomod_run.specs.Queries.{AreFound, Given}
-use Rattle.gomod_run.specs.Outcome.{text_outcome}
-use Rattle.gomod_run.specs.PrintedLines.{AreProperRows, AreProperSteps, IsProperRow, IsProperStep}
-use Rattle.gomod_run.specs.GraphQuery.{graph_text}
-use Rattle.gomod_run.proofs.OneRead.{one_main}
-use Rattle.gomod_run.proofs.PrintedList.{all_rows, not_refused}
+use Rattle.gomod_texts.specs.QueryLaws.{IsWalk, further, here}
+use Rattle.gomod_texts.specs.Queries.{AreFound, Given}
+use Rattle.gomod_texts.specs.Outcome.{text_outcome}
+use Rattle.gomod_texts.specs.PrintedLines.{AreProperRows, AreProperSteps, IsProperRow, IsProperStep}
+use Rattle.gomod_texts.specs.GraphQuery.{graph_text}
+use Rattle.gomod_texts.proofs.OneRead.{one_main}
+use Rattle.gomod_texts.proofs.PrintedList.{all_rows, not_refused}
 use Rattle.gomod_run.proofs.ShortestChain.{chain_walk}
 use Rattle.gomod_laws.specs.Counterexamples.{a_one, graph_of_a}
 use Rattle.gomod_laws.specs.CounterListings.{ChainBeginsElsewhere, ChainEndsElsewhere, ChainIsOfAnotherGraph, ChainIsTooLong, IsRequiredBy, ListIsOfAnotherGraph}

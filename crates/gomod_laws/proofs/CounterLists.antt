@@ -19,17 +19,17 @@ use Rattle.gm_graph_select.specs.BuildList.{entry_of, main_entry, path_of}
 use Rattle.gm_graph.specs.Entries.{Entry}
 use Rattle.gm_graph_select.specs.Laws.{entries_of_pages}
 use Rattle.gm_graph_select.proofs.Ascending.{member_head, member_tail, no_member, one_member}
-use Rattle.gomod_run.specs.QueryLaws.{AreGreatest, ArePrintedPages, JoinsPages, ShowsBuildList, no_row, one_page}
-use Rattle.gomod_run.specs.Queries.{AreFound, Given}
-use Rattle.gomod_run.specs.ListQuery.{ListEnds, no_path, path_listed, path_unlisted, up_to, list_text}
-use Rattle.gomod_run.specs.Outcome.{Outcome, text_outcome}
-use Rattle.gomod_run.specs.PrintedLines.{AreProperRows, IsProperRow}
+use Rattle.gomod_texts.specs.QueryLaws.{AreGreatest, ArePrintedPages, JoinsPages, ShowsBuildList, no_row, one_page}
+use Rattle.gomod_texts.specs.Queries.{AreFound, Given}
+use Rattle.gomod_texts.specs.ListQuery.{ListEnds, no_path, path_listed, path_unlisted, up_to, list_text}
+use Rattle.gomod_texts.specs.Outcome.{Outcome, text_outcome}
+use Rattle.gomod_texts.specs.PrintedLines.{AreProperRows, IsProperRow}
 use Rattle.gomod_run.proofs.GreatestRows.{as_build_list}
 use Rattle.gomod_run.proofs.ListLines.{Lacks, cut_at, lacks, path_has_no_blank, text_says_rows}
-use Rattle.gomod_run.proofs.OneRead.{one_main}
+use Rattle.gomod_texts.proofs.OneRead.{one_main}
 use Rattle.gomod_laws.proofs.RunsOnce.{one_outcome}
-use Rattle.gomod_run.proofs.PrintedList.{all_rows, not_refused, texts_join}
-use Rattle.gomod_run.proofs.RunNames.{run_has_proper_rows}
+use Rattle.gomod_texts.proofs.PrintedList.{all_rows, not_refused, texts_join}
+use Rattle.gomod_texts.proofs.RunNames.{run_has_proper_rows}
 use Rattle.gomod_words.specs.declared.usage.Command.TheVariants.{List as Rows}
 use Rattle.gomod_laws.specs.Counterexamples.{a_one, list_of_a}
 use Rattle.gomod_laws.specs.CounterListings.{IsRequiredBy, MainIsMissing, PageHasAnotherRow, PageIsMissing, PartHasAnotherRow, PartIsTheWhole, PartIsTooLong, PathIsTwice, RequiredHasNoRow, RowIsNotRequired, RowIsTooLow, RowsAreUnordered, a_two}

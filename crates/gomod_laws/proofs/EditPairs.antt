@@ -21,9 +21,9 @@ use Rattle.gm_file_edit_laws.proofs.EitherOrder.{either-order}
 use Rattle.gm_file_edit.proofs.Places.{edited-same}
 use Rattle.gm_file_edit_laws.proofs.UndoingDrops.{drop-undoes-layout}
 use Rattle.gm_file.specs.Main.{IsMainOf}
-use Rattle.gomod_run.specs.Queries.{longest}
-use Rattle.gomod_run.specs.Outcome.{text_outcome}
-use Rattle.gomod_run.proofs.OneRead.{same_lines}
+use Rattle.gomod_texts.specs.Queries.{longest}
+use Rattle.gomod_texts.specs.Outcome.{text_outcome}
+use Rattle.gomod_texts.proofs.OneRead.{same_lines}
 use Rattle.gomod_run.specs.Edit.{applied, bad_main}
 use Rattle.gomod_laws.specs.EditPairLaws.{EitherOrderChangesNoBuild, UndoneIsFormatted}
 use Rattle.gomod_laws.specs.LineOrderLaws.{HoldTheSame}

@@ -21,15 +21,15 @@ use Rattle.gm_file_edit_laws.specs.Laws.{IsEditOf, directives_of}
 use Rattle.gm_file_edit.proofs.EditedSound.{edited-document}
 use Rattle.gm_file_edit.proofs.Written.{written-sound}
 use Rattle.gomod_run.specs.Edit.{applied, bad_main, lines_after_all, edits_outcome, refusal_of, refusals_from}
-use Rattle.gomod_run.specs.Outcome.{Outcome, text_outcome, refusal_outcome}
-use Rattle.gomod_run.specs.Queries.{longest}
-use Rattle.gomod_run.specs.Reports.{edit_line}
-use Rattle.gomod_run.proofs.FolderNames.{read_document}
+use Rattle.gomod_texts.specs.Outcome.{Outcome, text_outcome, refusal_outcome}
+use Rattle.gomod_texts.specs.Queries.{longest}
+use Rattle.gomod_texts.specs.Reports.{edit_line}
+use Rattle.gomod_texts.proofs.FolderNames.{read_document}
 use Rattle.gomod_words.specs.Usage.{texts_in}
 use Rattle.gomod_laws.specs.Runs.{IsEdited}
 use Rattle.gomod_laws.proofs.FormattingBlanks.{no_fault_again, same_said}
 use Rattle.gomod_laws.proofs.FormattingRead.{layout_read}
-use Rattle.gomod_run.proofs.PrintedList.{not_refused}
+use Rattle.gomod_texts.proofs.PrintedList.{not_refused}
 
 -- the lines that operations leave
 abbrev pub turned : List (List ℕ) → List (Line Placed) → List (Line Placed)

@@ -7,13 +7,13 @@ use Rattle.gm_syntax.specs.Document.{Line}
 use Rattle.gm_file_edit.specs.Edited.{lines_after}
 use Rattle.gm_file_edit_laws.proofs.SecondOperations.{second-operation}
 use Rattle.gomod_run.specs.Edit.{applied, bad_main}
-use Rattle.gomod_run.specs.Outcome.{Outcome}
+use Rattle.gomod_texts.specs.Outcome.{Outcome}
 use Rattle.gomod_laws.proofs.FilesOnce.{edit_once}
 use Rattle.gomod_words.specs.declared.usage.Command.TheVariants.{Edit}
 use Rattle.gomod_laws.specs.EditTwiceLaws.{AreOneOrRefuseALater, LastTwiceIsOnce, RefuseALater, RepeatsOne, TwiceIsOnceOrRefused, TwicePrintsAsOnce}
 use Rattle.gomod_laws.proofs.Ended.{Ends}
 use Rattle.gomod_laws.proofs.EditTurns.{AreSoundLines, edit_sound, is_refused, is_taken, outcome_from, read_sound, refused_turn, taken_turn, turn_of}
-use Rattle.gomod_run.proofs.PrintedList.{not_refused}
+use Rattle.gomod_texts.proofs.PrintedList.{not_refused}
 
 -- the outcomes are one, or a later operation is refused in both; they are one if there is no later operation
 abbrev AreAlike : List (List ℕ) → ℕ → Outcome → Outcome → Type 0

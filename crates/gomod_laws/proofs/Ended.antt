@@ -1,8 +1,8 @@
 -- Outcomes of commands, of which it is not said that they are UTF-8.
 use Rattle.std.proofs.Common.{ℕ, List, [], Option}
 use Rattle.gm_store_parts.specs.Asked.{Name, Reply}
-use Rattle.gomod_run.specs.Outcome.{Outcome}
-use Rattle.gomod_run.specs.Queries.{answers_of, given_of}
+use Rattle.gomod_texts.specs.Queries.{answers_of, given_of}
+use Rattle.gomod_texts.specs.Outcome.{Outcome}
 use Rattle.gomod_run.specs.Runs.{RunEnds}
 use Rattle.gomod_words.specs.declared.usage.Command.{Command}
 

@@ -26,10 +26,10 @@ use Rattle.gm_graph.specs.Run.{AreFaults, AreOpened, AreRows, AreTooMany, IsDue,
 use Rattle.gm_graph_cache.specs.Sayings.{FileSays, Run, Says, answered, faulty as says_fault, run_of, unaskable}
 use Rattle.gm_graph.specs.declared.fault.Fault.{Fault}
 use Rattle.gm_graph_cache.proofs.Sayings.{class_same}
-use Rattle.gomod_run.specs.Queries.{AreFound, FilesReadAs, bad_main, bad_sums, device, faulty, no_fault, too_many}
-use Rattle.gomod_run.specs.ListQuery.{ListEnds, no_path}
-use Rattle.gomod_run.specs.Outcome.{text_outcome, refusal_outcome}
-use Rattle.gomod_run.proofs.OneRead.{one_main}
+use Rattle.gomod_texts.specs.Queries.{AreFound, FilesReadAs, bad_main, bad_sums, device, faulty, no_fault, too_many}
+use Rattle.gomod_texts.specs.ListQuery.{ListEnds, no_path}
+use Rattle.gomod_texts.specs.Outcome.{text_outcome, refusal_outcome}
+use Rattle.gomod_texts.proofs.OneRead.{one_main}
 use Rattle.gomod_laws.proofs.RunsOnce.{one_outcome}
 use Rattle.gomod_run.proofs.ListLines.{heads}
 use Rattle.gomod_words.specs.declared.usage.Command.TheVariants.{List as Rows}

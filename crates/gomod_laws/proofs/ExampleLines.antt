@@ -22,7 +22,7 @@ use Rattle.gm_syntax.proofs.Changes.{entry_stands}
 use Rattle.gm_syntax.proofs.OneText.{reading_parsed}
 use Rattle.gm_syntax.proofs.Readings.{reading_of}
 use Rattle.gm_syntax.proofs.Stable.{is_stable}
-use Rattle.gomod_run.specs.Queries.{longest}
+use Rattle.gomod_texts.specs.Queries.{longest}
 use Rattle.gomod_run.proofs.ListLines.{Lacks, lacks}
 use Rattle.gomod_laws.proofs.FormattingRead.{placeless, plain_placeless}
 

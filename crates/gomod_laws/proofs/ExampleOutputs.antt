@@ -7,7 +7,7 @@ use Rattle.std.specs.Str.{chars, is_utf8}
 use Rattle.gm_store_parts.specs.Openings.{IsReadFrom, MayRead, opened}
 use Rattle.gm_store_parts.specs.Taken.{SinkState}
 use Rattle.gm_store_parts.specs.declared.reading.ReadFault.{ReadFault}
-use Rattle.gomod_run.specs.Outcome.{Outcome, failure_outcome, out_of_memory, text_outcome}
+use Rattle.gomod_texts.specs.Outcome.{Outcome, failure_outcome, out_of_memory, text_outcome}
 use Rattle.gomod_run.proofs.Answered.{nothing_is_printed, version_is_printed}
 use Rattle.gomod_run.specs.Program.{IsOutcomeUnless, IsUnread, any_input, anything, usage_error}
 use Rattle.gomod_words.specs.Given.{first_unreadable}

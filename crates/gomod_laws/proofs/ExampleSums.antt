@@ -6,7 +6,7 @@ use Rattle.gm_store_sums.specs.Sums.{IsSum, SaysOfHash}
 use Rattle.gm_store_sums.specs.declared.sum_table.Sum.{Sum}
 use Rattle.gm_store_sums.specs.declared.sum_table.Sum.TheVariants.{Good, Differs}
 use Rattle.gm_graph_select.proofs.Ascending.{member_cases, no_member}
-use Rattle.gomod_run.proofs.OneRead.{one_says}
+use Rattle.gomod_texts.proofs.OneRead.{one_says}
 use Rattle.gomod_run.proofs.ListLines.{heads}
 use Rattle.gomod_laws.specs.ExampleSums.{SaysOnly, SumsSay, one_sum, two_sums}
 

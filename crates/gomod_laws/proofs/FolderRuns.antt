@@ -17,11 +17,11 @@ use Rattle.gm_graph.specs.Run.{AreFaults, AskedInTurn, IsSettled}
 use Rattle.gm_graph_cache.specs.Sayings.{FileSays, run_of}
 use Rattle.gm_graph.proofs.Exactly.{names_push}
 use Rattle.gm_graph.proofs.RunLemmas.{needed}
-use Rattle.gomod_run.specs.QueryLaws.{AnswerAlike}
-use Rattle.gomod_run.specs.Queries.{AreFound, answers_of, given_of}
+use Rattle.gomod_texts.specs.QueryLaws.{AnswerAlike}
+use Rattle.gomod_texts.specs.Queries.{AreFound, answers_of, given_of}
 use Rattle.gomod_run.specs.Needs.{AnswersByName}
-use Rattle.gomod_run.specs.Outcome.{Outcome}
-use Rattle.gomod_run.proofs.StoresAgree.{alike_back, stores_agree}
+use Rattle.gomod_texts.specs.Outcome.{Outcome}
+use Rattle.gomod_texts.proofs.StoresAgree.{alike_back, stores_agree}
 use Rattle.gomod_words.specs.declared.usage.Command.{Command}
 use Rattle.gomod_words.specs.declared.usage.Command.TheVariants.{Fmt, Edit, Versions}
 use Rattle.gomod_run.specs.Runs.{Needs, is_query}

@@ -8,9 +8,9 @@ use Rattle.gm_syntax.specs.Parsed.{IsParsedAs}
 use Rattle.gm_file.specs.Directives.{Strict, directives}
 use Rattle.gm_file.specs.Fields.{first}
 use Rattle.gm_file.specs.Main.{Main, IsMainFile}
-use Rattle.gomod_run.specs.Queries.{longest}
-use Rattle.gomod_run.specs.Outcome.{Outcome, text_outcome}
-use Rattle.gomod_run.proofs.OneRead.{same_lines}
+use Rattle.gomod_texts.specs.Queries.{longest}
+use Rattle.gomod_texts.specs.Outcome.{Outcome, text_outcome}
+use Rattle.gomod_texts.proofs.OneRead.{same_lines}
 use Rattle.gomod_words.specs.declared.usage.Command.TheVariants.{Fmt}
 use Rattle.gomod_run.specs.Fmt.{FmtEnds, bad_syntax, laid_out}
 use Rattle.gomod_laws.proofs.FilesOnce.{fmt_once}
@@ -21,7 +21,7 @@ use Rattle.gomod_laws.proofs.FormattingRead.{parsed_layout}
 use Rattle.gomod_laws.proofs.LineOrderProofs.{queries_move}
 use Rattle.gomod_laws.proofs.LineOrderRuns.{same_outcome}
 use Rattle.gomod_laws.proofs.LineOrderSame.{says_itself}
-use Rattle.gomod_run.proofs.PrintedList.{not_refused}
+use Rattle.gomod_texts.proofs.PrintedList.{not_refused}
 
 -- ---- what a main file says
 

@@ -12,7 +12,7 @@ use Rattle.gm_syntax.proofs.OneText.{reading_parsed}
 use Rattle.gm_syntax.proofs.Readings.{reading_of}
 use Rattle.gm_syntax.proofs.Stable.{is_stable}
 use Rattle.gm_file_edit.specs.NewWords.{unplaced_word}
-use Rattle.gomod_run.proofs.FolderNames.{read_document}
+use Rattle.gomod_texts.proofs.FolderNames.{read_document}
 
 -- ---- lines whose words have no places
 

@@ -1,9 +1,9 @@
 -- Runs over a store in which files that were absent now exist.
 use Rattle.std.proofs.Common.{◌≡◌, ◌∙◌, ℕ, Bool, true, List, [], Some, ap, inl, inr, refl, sym}
 use Rattle.gm_store_parts.specs.Asked.{Name, Reply, absent, answer_in, bytes}
-use Rattle.gomod_run.specs.QueryLaws.{AnswerAlike}
-use Rattle.gomod_run.specs.Outcome.{Outcome}
-use Rattle.gomod_run.proofs.StoresAgree.{alike_back}
+use Rattle.gomod_texts.proofs.StoresAgree.{alike_back}
+use Rattle.gomod_texts.specs.Outcome.{Outcome}
+use Rattle.gomod_texts.specs.QueryLaws.{AnswerAlike}
 use Rattle.gomod_words.specs.declared.usage.Command.{Command}
 use Rattle.gomod_words.specs.declared.usage.Command.TheVariants.{Fmt, Edit, Versions}
 use Rattle.gomod_run.specs.Runs.{is_query}

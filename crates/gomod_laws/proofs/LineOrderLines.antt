@@ -20,7 +20,7 @@ use Rattle.gomod_laws.specs.LineOrderLaws.{HoldTheSame, LinesInAnyOrder}
 use Rattle.gomod_laws.proofs.FormattingBlanks.{main_said}
 use Rattle.gomod_laws.proofs.LineOrderProofs.{queries_move}
 use Rattle.gomod_laws.proofs.LineOrderRuns.{same_outcome}
-use Rattle.gomod_run.proofs.FileNames.{found_among, replaces_is}
+use Rattle.gomod_texts.proofs.FileNames.{found_among, replaces_is}
 use Rattle.gomod_laws.proofs.LineOrderSame.{SayTheSame}
 use Rattle.gomod_laws.proofs.AdditionsKept.{kept_more}
 

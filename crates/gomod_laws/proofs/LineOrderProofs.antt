@@ -4,8 +4,8 @@ use Rattle.gm_store_sums.specs.Sums.{Sums}
 use Rattle.gm_file.specs.Main.{Main, IsMainFile}
 use Rattle.gm_graph.specs.declared.fault.Fault.{Fault}
 use Rattle.gm_graph_cache.specs.Sayings.{Run, run_of}
-use Rattle.gomod_run.specs.Queries.{Answers, AreFound, FilesReadAs, bad_main, bad_sums, device, faulty, given_of, no_fault, too_many}
-use Rattle.gomod_run.proofs.OneRead.{one_main}
+use Rattle.gomod_texts.specs.Queries.{Answers, AreFound, FilesReadAs, bad_main, bad_sums, device, faulty, given_of, no_fault, too_many}
+use Rattle.gomod_texts.proofs.OneRead.{one_main}
 use Rattle.gomod_laws.proofs.FilesOnce.{misread_or_main}
 use Rattle.gomod_laws.proofs.LineOrderRuns.{QueriesMove}
 use Rattle.gomod_laws.proofs.LineOrderSame.{SayTheSame}

@@ -1,9 +1,9 @@
 -- Runs of two main files, where each outcome over the one is an outcome over the other.
 use Rattle.std.proofs.Common.{◌≡◌, ℕ, List, [], true, Option, refl}
 use Rattle.gm_store_parts.specs.Asked.{Name, Reply}
-use Rattle.gomod_run.specs.QueryLaws.{AnswerAlike}
-use Rattle.gomod_run.specs.Queries.{Answers, QueryEnds, answers_of, given_of}
-use Rattle.gomod_run.specs.Outcome.{Outcome}
+use Rattle.gomod_texts.specs.Outcome.{Outcome}
+use Rattle.gomod_texts.specs.Queries.{Answers, QueryEnds, answers_of, given_of}
+use Rattle.gomod_texts.specs.QueryLaws.{AnswerAlike}
 use Rattle.gomod_words.specs.declared.usage.Command.{Command}
 use Rattle.gomod_run.specs.Runs.{is_query}
 use Rattle.gomod_run.specs.Private.ByCommand.{PrintsOf}

@@ -4,10 +4,10 @@ use Rattle.gm_store_parts.specs.Asked.{Name, Reply}
 use Rattle.gm_store_sums.specs.Sums.{Sums}
 use Rattle.gm_file.specs.Main.{Main, IsMainFile}
 use Rattle.gm_graph_cache.specs.Sayings.{run_of}
-use Rattle.gomod_run.specs.Queries.{AreFound, Given, Prints, QueryEnds}
-use Rattle.gomod_run.specs.Outcome.{Outcome}
-use Rattle.gomod_run.proofs.OneRead.{one_main}
-use Rattle.gomod_run.proofs.PrintedList.{printed_run}
+use Rattle.gomod_texts.specs.Queries.{AreFound, Given, Prints, QueryEnds}
+use Rattle.gomod_texts.specs.Outcome.{Outcome}
+use Rattle.gomod_texts.proofs.OneRead.{one_main}
+use Rattle.gomod_texts.proofs.PrintedList.{printed_run}
 use Rattle.gomod_run.proofs.QueryParts.{query_ends}
 use Rattle.gomod_words.specs.declared.usage.Command.{Command}
 use Rattle.gomod_run.specs.Runs.{is_query}

@@ -18,13 +18,13 @@ use Rattle.gm_graph.specs.Run.{AreEdges, IsEdge}
 use Rattle.gm_graph_cache.specs.Sayings.{Run}
 use Rattle.gomod_words.specs.declared.usage.Command.{Command}
 use Rattle.gomod_words.specs.declared.usage.Command.TheVariants.{Graph, List as Rows, Chain}
-use Rattle.gomod_run.specs.ChainQuery.{ShowsChain, chain_text}
-use Rattle.gomod_run.specs.GraphQuery.{graph_text}
-use Rattle.gomod_run.specs.ListQuery.{PrintsRows, list_text, no_path, path_listed, path_unlisted, up_to}
-use Rattle.gomod_run.specs.Outcome.{Outcome, text_outcome}
+use Rattle.gomod_texts.specs.ChainQuery.{ShowsChain, chain_text}
+use Rattle.gomod_texts.specs.GraphQuery.{graph_text}
+use Rattle.gomod_texts.specs.ListQuery.{PrintsRows, list_text, no_path, path_listed, path_unlisted, up_to}
+use Rattle.gomod_texts.specs.Outcome.{Outcome, text_outcome}
 use Rattle.gomod_run.specs.Private.ByCommand.{PrintsOf}
-use Rattle.gomod_run.specs.Queries.{IsUnlisted}
-use Rattle.gomod_run.proofs.FewOpened.{IsFew, edges_listed}
+use Rattle.gomod_texts.specs.Queries.{IsUnlisted}
+use Rattle.gomod_texts.proofs.FewOpened.{IsFew, edges_listed}
 
 -- ---- a step has one chain
 

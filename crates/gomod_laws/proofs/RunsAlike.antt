@@ -20,10 +20,10 @@ use Rattle.gm_graph_select.specs.declared.step.Step.TheVariants.{Of}
 use Rattle.gm_graph_select.specs.BuildList.{IsBuildList, entry_of, main_entry}
 use Rattle.gm_graph.specs.Entries.{Entry}
 use Rattle.gm_graph_select.proofs.Same.{AreSame, same_build_list, same_chain}
-use Rattle.gomod_run.specs.ListQuery.{list_text, PrintsRows, no_path, path_listed, path_unlisted}
-use Rattle.gomod_run.specs.Outcome.{Outcome, text_outcome}
-use Rattle.gomod_run.specs.Queries.{Answers, AreFound, FilesReadAs, given_of}
-use Rattle.gomod_run.specs.ChainQuery.{ShowsChain}
+use Rattle.gomod_texts.specs.ListQuery.{list_text, PrintsRows, no_path, path_listed, path_unlisted}
+use Rattle.gomod_texts.specs.Outcome.{Outcome, text_outcome}
+use Rattle.gomod_texts.specs.Queries.{Answers, AreFound, FilesReadAs, given_of}
+use Rattle.gomod_texts.specs.ChainQuery.{ShowsChain}
 use Rattle.gomod_run.specs.Private.ByCommand.{PrintsOf}
 use Rattle.gomod_words.specs.declared.usage.Command.{Command}
 use Rattle.gomod_words.specs.declared.usage.Command.TheVariants.{Graph, List as Rows, Chain}

@@ -14,17 +14,17 @@ use Rattle.gm_graph.specs.Run.{AreEdges, AreRows, IsEdge}
 use Rattle.gm_graph_cache.specs.Sayings.{run_of}
 use Rattle.gm_graph_select.proofs.Ascending.{member_head, one_member}
 use Rattle.gm_store_sums.specs.Sums.{Sums}
-use Rattle.gomod_run.specs.Queries.{AreFound, Given}
-use Rattle.gomod_run.specs.QueryLaws.{IsWalk, further, here}
-use Rattle.gomod_run.specs.Outcome.{Outcome, text_outcome}
-use Rattle.gomod_run.specs.PrintedLines.{AreProperEdges, AreProperRows, AreProperSteps, IsProperStep}
-use Rattle.gomod_run.specs.ChainQuery.{chain_text}
-use Rattle.gomod_run.specs.GraphQuery.{graph_text}
-use Rattle.gomod_run.specs.ListQuery.{list_text}
-use Rattle.gomod_run.specs.LineParts.{step_text, vertex_text}
+use Rattle.gomod_texts.specs.Queries.{AreFound, Given}
+use Rattle.gomod_texts.specs.QueryLaws.{IsWalk, further, here}
+use Rattle.gomod_texts.specs.Outcome.{Outcome, text_outcome}
+use Rattle.gomod_texts.specs.PrintedLines.{AreProperEdges, AreProperRows, AreProperSteps, IsProperStep}
+use Rattle.gomod_texts.specs.ChainQuery.{chain_text}
+use Rattle.gomod_texts.specs.GraphQuery.{graph_text}
+use Rattle.gomod_texts.specs.ListQuery.{list_text}
+use Rattle.gomod_texts.specs.LineParts.{step_text, vertex_text}
 use Rattle.gomod_run.proofs.GraphLines.{text_says_edges, text_says_steps, vertex_lacks}
 use Rattle.gomod_run.proofs.ListLines.{Lacks, cut_at, has_it, path_has_no_blank, text_says_rows}
-use Rattle.gomod_run.proofs.RunNames.{end_name, run_has_names, run_has_proper_edges, run_has_proper_rows}
+use Rattle.gomod_texts.proofs.RunNames.{end_name, run_has_names, run_has_proper_edges, run_has_proper_rows}
 use Rattle.gm_file_edit.proofs.NoLineFeeds.{path-plain}
 
 -- ---- texts

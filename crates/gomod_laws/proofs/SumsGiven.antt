@@ -1,8 +1,8 @@
 -- Runs as the laws of a go.sum see them: commands whose run with one go.sum, or none, is one with another.
 use Rattle.std.proofs.Common.{◌≡◌, ℕ, List, Option, refl, true}
 use Rattle.gm_store_parts.specs.Asked.{Name, Reply}
-use Rattle.gomod_run.specs.QueryLaws.{AnswerAlike}
-use Rattle.gomod_run.specs.Outcome.{Outcome}
+use Rattle.gomod_texts.specs.Outcome.{Outcome}
+use Rattle.gomod_texts.specs.QueryLaws.{AnswerAlike}
 use Rattle.gomod_words.specs.declared.usage.Command.{Command}
 use Rattle.gomod_words.specs.declared.usage.Command.TheVariants.{Fmt, Edit, Versions}
 use Rattle.gomod_run.specs.Runs.{is_query}

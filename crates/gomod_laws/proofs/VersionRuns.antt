@@ -4,14 +4,14 @@ use Rattle.std.proofs.lemmas.Bool.{false≢true}
 use Rattle.gm_name.specs.Path.{is_fetchable}
 use Rattle.gm_store_parts.specs.Asked.{Name, Reply, answer_in, bytes, bytes_in, list_file}
 use Rattle.gm_store.specs.Listed.{AreListed}
-use Rattle.gomod_run.specs.Outcome.{Outcome, text_outcome}
+use Rattle.gomod_texts.specs.Outcome.{Outcome, text_outcome}
 use Rattle.gomod_run.specs.Needs.{AnswersByName}
 use Rattle.gomod_run.specs.Versions.{AreShown, HasListed, VersionsEnds, all_listed, bad_file, device, list_refusal, no_list, not_retracted, printed, versions_line}
 use Rattle.gomod_run.proofs.AllAsked.{refusal_status}
-use Rattle.gomod_run.proofs.Uniqueness.{listed_once}
+use Rattle.gomod_texts.proofs.Uniqueness.{listed_once}
 use Rattle.gomod_laws.specs.Runs.{HasPrinted}
 use Rattle.gomod_laws.specs.VersionLaws.{AreUnretracted, RetractedAreLeftOut}
-use Rattle.gomod_run.proofs.PrintedList.{not_refused}
+use Rattle.gomod_texts.proofs.PrintedList.{not_refused}
 
 abbrev Pairs : Type 0
 Pairs = List (Name × Reply)

@@ -9,9 +9,9 @@ use Rattle.gm_graph_files.proofs.OneReading.{one_reading, one_retracted}
 use Rattle.gm_graph_files.specs.Reading.{AreRetractedBy}
 use Rattle.gm_graph_files.specs.declared.class.Class.{Class}
 use Rattle.gm_store_parts.specs.Asked.{Name, Reply, bytes, list_file, mod_file}
-use Rattle.gomod_run.specs.Outcome.{Outcome, failure_outcome, refusal_outcome, text_outcome}
 use Rattle.gomod_run.specs.Needs.{AnswersByName}
-use Rattle.gomod_run.specs.Reports.{device_line, fault_line}
+use Rattle.gomod_texts.specs.Reports.{device_line, fault_line}
+use Rattle.gomod_texts.specs.Outcome.{Outcome, failure_outcome, refusal_outcome, text_outcome}
 use Rattle.gomod_run.specs.Versions.{HasListed, IsRefusedList, LatestSays, VersionsEnds, all_listed, bad_file, device, list_refusal, no_list, not_retracted, printed, versions_line}
 use Rattle.gomod_run.proofs.OneVersions.{NeededAlike, none_needed, one_latest, one_listed, unrefused}
 

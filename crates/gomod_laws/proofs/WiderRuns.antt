@@ -8,10 +8,10 @@ use Rattle.gm_graph_select.proofs.Ascending.{member_head, no_member}
 use Rattle.gm_graph.specs.declared.fault.Fault.{Fault}
 use Rattle.gm_graph.specs.Run.{AreTooMany, IsFault, IsOpened}
 use Rattle.gm_graph_cache.specs.Sayings.{Run, run_of}
-use Rattle.gomod_run.specs.QueryLaws.{AnswerAlike}
-use Rattle.gomod_run.specs.Queries.{AreFound, AreSums, Given, Prints, QueryEnds, bad_main, bad_sums, device, faulty, no_fault, too_many}
-use Rattle.gomod_run.specs.Outcome.{Outcome}
-use Rattle.gomod_run.proofs.OneRead.{one_finding, one_main, read_alike}
+use Rattle.gomod_texts.specs.QueryLaws.{AnswerAlike}
+use Rattle.gomod_texts.specs.Queries.{AreFound, AreSums, Given, Prints, QueryEnds, bad_main, bad_sums, device, faulty, no_fault, too_many}
+use Rattle.gomod_texts.specs.Outcome.{Outcome}
+use Rattle.gomod_texts.proofs.OneRead.{one_finding, one_main, read_alike}
 use Rattle.gomod_laws.proofs.FilesOnce.{misread_or_main, misread_or_sums}
 use Rattle.gomod_laws.proofs.PrintedRuns.{PrintsOver}
 

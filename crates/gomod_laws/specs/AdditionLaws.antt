@@ -9,9 +9,9 @@ use Rattle.gm_file.specs.Main.{Main, is_pruned_by, replacement_in, IsMainFile}
 use Rattle.gm_graph_select.specs.declared.step.Edge.{Edge}
 use Rattle.gm_graph_select.specs.declared.step.Step.TheVariants.{Of}
 use Rattle.gm_graph.specs.Entries.{Entry}
-use Rattle.gomod_run.specs.QueryLaws.{AnswerAlike}
-use Rattle.gomod_run.specs.Queries.{Given}
-use Rattle.gomod_run.specs.Outcome.{Outcome}
+use Rattle.gomod_texts.specs.QueryLaws.{AnswerAlike}
+use Rattle.gomod_texts.specs.Queries.{Given}
+use Rattle.gomod_texts.specs.Outcome.{Outcome}
 use Rattle.gomod_words.specs.declared.usage.Command.{Command}
 use Rattle.gomod_words.specs.declared.usage.Command.TheVariants.{Graph, List as Rows}
 use Rattle.gomod_laws.specs.Runs.{HasOutcome, HasPrinted}

@@ -3,9 +3,9 @@ use Rattle.std.specs.Prelude.{List, None, codes, map}
 use Rattle.gm_file.specs.Main.{Main}
 use Rattle.gm_graph_select.specs.declared.step.Edge.{Edge}
 use Rattle.gm_graph.specs.Entries.{Entry}
-use Rattle.gomod_run.specs.Queries.{Given}
-use Rattle.gomod_run.specs.Outcome.{Outcome, text_outcome}
-use Rattle.gomod_run.specs.GraphQuery.{edge_text}
+use Rattle.gomod_texts.specs.Queries.{Given}
+use Rattle.gomod_texts.specs.Outcome.{Outcome, text_outcome}
+use Rattle.gomod_texts.specs.GraphQuery.{edge_text}
 use Rattle.gomod_laws.specs.AdditionLaws.{KeepsLines, LowersNothing}
 use Rattle.gomod_laws.specs.Counterexamples.{graph_of_a, list_of_a}
 use Rattle.gomod_laws.specs.RowLaws.{IsExplained}

@@ -4,10 +4,10 @@ use Rattle.gm_name.specs.ModuleVersion.{ModuleVersion}
 use Rattle.gm_file.specs.Main.{Main, IsMainFile}
 use Rattle.gm_graph.specs.Run.{IsTop}
 use Rattle.gm_graph_cache.specs.Sayings.{run_of}
-use Rattle.gomod_run.specs.QueryLaws.{JoinsPages, ShowsBuildList, ShowsShortestWalk}
-use Rattle.gomod_run.specs.Queries.{Given}
-use Rattle.gomod_run.specs.ListQuery.{ListEnds}
-use Rattle.gomod_run.specs.Outcome.{Outcome, text_outcome}
+use Rattle.gomod_texts.specs.QueryLaws.{JoinsPages, ShowsBuildList, ShowsShortestWalk}
+use Rattle.gomod_texts.specs.Queries.{Given}
+use Rattle.gomod_texts.specs.ListQuery.{ListEnds}
+use Rattle.gomod_texts.specs.Outcome.{Outcome, text_outcome}
 use Rattle.gomod_laws.specs.Counterexamples.{a_one, chain_to_a, graph_of_a, list_of_a}
 use Rattle.gomod_laws.specs.DeterminedLaws.{ShowOneGraph, ShowsPart}
 

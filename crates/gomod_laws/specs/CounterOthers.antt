@@ -1,6 +1,6 @@
 -- What the laws of `edit` conclude is false of outputs that contradict them.
 use Rattle.std.specs.Prelude.{ℕ, List, codes}
-use Rattle.gomod_run.specs.Outcome.{Outcome, text_outcome, refusal_outcome}
+use Rattle.gomod_texts.specs.Outcome.{Outcome, text_outcome, refusal_outcome}
 use Rattle.gomod_laws.specs.EditPairLaws.{PrintTheSame}
 use Rattle.gomod_laws.specs.EditTwiceLaws.{AreOneOrRefuseALater}
 

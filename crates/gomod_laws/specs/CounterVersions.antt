@@ -2,7 +2,7 @@
 use Rattle.std.specs.Prelude.{◌≡◌, ◌∷◌, ℕ, List, [], Some, codes}
 use Rattle.gm_store_parts.specs.Asked.{Name, Reply, answer_in, bytes, list_file}
 use Rattle.gm_file.specs.Directives.{pair}
-use Rattle.gomod_run.specs.Outcome.{Outcome, text_outcome}
+use Rattle.gomod_texts.specs.Outcome.{Outcome, text_outcome}
 use Rattle.gomod_laws.specs.VersionLaws.{LeavesOutRetracted, Retracts}
 
 -- the store answered with this list file of a.b

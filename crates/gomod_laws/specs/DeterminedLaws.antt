@@ -10,13 +10,13 @@ use Rattle.gm_graph_select.specs.Graph.{among}
 use Rattle.gm_graph.specs.Run.{AreEdges, AreRows}
 use Rattle.gm_graph_cache.specs.Sayings.{run_of}
 use Rattle.gomod_words.specs.declared.usage.Command.{Command}
-use Rattle.gomod_run.specs.declared.reports.status.Status.TheVariants.{Done}
-use Rattle.gomod_run.specs.ChainQuery.{ChainEnds, ShowsChain}
-use Rattle.gomod_run.specs.GraphQuery.{GraphEnds, graph_text}
-use Rattle.gomod_run.specs.ListQuery.{ListEnds, PrintsRows, list_text}
-use Rattle.gomod_run.specs.Outcome.{Outcome, code_of, text_outcome}
-use Rattle.gomod_run.specs.Queries.{AreFound, Given}
-use Rattle.gomod_run.specs.QueryLaws.{AreAlike}
+use Rattle.gomod_texts.specs.declared.reports.status.Status.TheVariants.{Done}
+use Rattle.gomod_texts.specs.ChainQuery.{ChainEnds, ShowsChain}
+use Rattle.gomod_texts.specs.GraphQuery.{GraphEnds, graph_text}
+use Rattle.gomod_texts.specs.ListQuery.{ListEnds, PrintsRows, list_text}
+use Rattle.gomod_texts.specs.Outcome.{Outcome, code_of, text_outcome}
+use Rattle.gomod_texts.specs.Queries.{AreFound, Given}
+use Rattle.gomod_texts.specs.QueryLaws.{AreAlike}
 use Rattle.gomod_run.specs.Runs.{RunEnds}
 
 -- ---- any command

@@ -1,10 +1,10 @@
 -- An operation of `edit` that is given twice: go help mod edit.
 use Rattle.std.specs.Prelude.{◌≡◌, ◌⊎◌, ◌++◌, ◌+◌, ◌∷◌, ◌<◌, ℕ, List, [], None, String, length}
 use Rattle.std.specs.Global.{Global, Vec}
-use Rattle.gomod_run.specs.Outcome.{Outcome, refusal_outcome}
+use Rattle.gomod_texts.specs.Outcome.{Outcome, refusal_outcome}
 use Rattle.gomod_words.specs.Usage.{texts_in}
 use Rattle.gomod_words.specs.declared.usage.Command.TheVariants.{Edit}
-use Rattle.gomod_run.specs.Reports.{edit_line}
+use Rattle.gomod_texts.specs.Reports.{edit_line}
 use Rattle.gomod_laws.specs.Runs.{HasOutcome, HasPrinted}
 
 -- The second operations are the first, with one of them twice, directly one after the other.

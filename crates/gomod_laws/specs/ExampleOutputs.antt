@@ -9,9 +9,9 @@ use Rattle.gm_store_parts.specs.Faults.{HasCountedFailure}
 use Rattle.gm_store_parts.specs.Openings.{IsReadFrom, Opening, opened, refused as unopened}
 use Rattle.gm_store_parts.specs.Taken.{SinkState}
 use Rattle.gm_store_parts.specs.declared.reading.ReadFault.TheVariants.{Device, NoMemory}
-use Rattle.gomod_run.specs.Outcome.{Outcome, failure_outcome, out_of_memory, text_outcome, refusal_outcome}
 use Rattle.gomod_run.specs.Program.{FileGives, IsInput, IsProgramOutcome, IsUnread, any_input, anything, file_in_memory, usage_error}
-use Rattle.gomod_run.specs.Taking.{TookAll, TookPrefix}
+use Rattle.gomod_texts.specs.Taking.{TookAll, TookPrefix}
+use Rattle.gomod_texts.specs.Outcome.{Outcome, failure_outcome, out_of_memory, text_outcome, refusal_outcome}
 use Rattle.gomod_words.specs.Usage.{unreadable_text, version_line}
 use Rattle.gomod_run.specs.Written.{EndsAsStated, IsWritten, WroteBoth, WrotePrefix}
 

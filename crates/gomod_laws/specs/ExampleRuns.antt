@@ -12,9 +12,9 @@ use Rattle.gm_graph_cache.specs.Sayings.{Requires, Run, run_of}
 use Rattle.gm_graph_select.specs.declared.step.Edge.{Edge}
 use Rattle.gm_graph_select.specs.declared.step.Step.TheVariants.{Main as FromMain, Of}
 use Rattle.gm_graph_select.specs.Graph.{edge, edge_cmp}
-use Rattle.gomod_run.specs.Queries.{Given, answers_of, given_of}
-use Rattle.gomod_run.specs.ListQuery.{ListEnds}
-use Rattle.gomod_run.specs.Outcome.{Outcome, failure_outcome, text_outcome, refusal_outcome}
+use Rattle.gomod_texts.specs.Queries.{Given, answers_of, given_of}
+use Rattle.gomod_texts.specs.ListQuery.{ListEnds}
+use Rattle.gomod_texts.specs.Outcome.{Outcome, failure_outcome, text_outcome, refusal_outcome}
 
 -- ---- files
 

@@ -5,7 +5,7 @@ use Rattle.gm_store_parts.specs.declared.fallback.proxy_list.Mark.{Mark}
 use Rattle.gm_store_parts.specs.Asked.{Name, Reply, names_in}
 use Rattle.gm_store.specs.declared.folders.in_memory.FoldersInMemory.{FoldersInMemory}
 use Rattle.gm_store.specs.FolderLookups.{MayAnswerFrom, lookup_results}
-use Rattle.gomod_run.specs.Outcome.{Outcome}
+use Rattle.gomod_texts.specs.Outcome.{Outcome}
 use Rattle.gm_graph.specs.Run.{AskedInTurn}
 use Rattle.gomod_words.specs.declared.usage.Command.{Command}
 use Rattle.gomod_run.specs.Runs.{Needs}

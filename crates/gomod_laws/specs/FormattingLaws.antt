@@ -2,9 +2,9 @@
 use Rattle.std.specs.Prelude.{◌≡◌, ◌≤◌, ℕ, List, [], Option, None, length, true}
 use Rattle.gm_store_parts.specs.Asked.{Name, Reply}
 use Rattle.gm_file.specs.Main.{Main, IsMainFile}
-use Rattle.gomod_run.specs.QueryLaws.{AnswerAlike}
-use Rattle.gomod_run.specs.Queries.{longest}
-use Rattle.gomod_run.specs.Outcome.{Outcome, text_outcome}
+use Rattle.gomod_texts.specs.QueryLaws.{AnswerAlike}
+use Rattle.gomod_texts.specs.Queries.{longest}
+use Rattle.gomod_texts.specs.Outcome.{Outcome, text_outcome}
 use Rattle.gomod_words.specs.declared.usage.Command.{Command}
 use Rattle.gomod_words.specs.declared.usage.Command.TheVariants.{Fmt}
 use Rattle.gomod_run.specs.Runs.{is_query}

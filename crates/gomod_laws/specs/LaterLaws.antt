@@ -1,7 +1,7 @@
 -- What a store has only later changes nothing that is printed.
 use Rattle.std.specs.Prelude.{◌≡◌, ◌⊎◌, ℕ, List, Option, Some}
 use Rattle.gm_store_parts.specs.Asked.{Name, Reply, absent, answer_in}
-use Rattle.gomod_run.specs.Outcome.{Outcome}
+use Rattle.gomod_texts.specs.Outcome.{Outcome}
 use Rattle.gm_graph.specs.Run.{AskedInTurn}
 use Rattle.gomod_words.specs.declared.usage.Command.{Command}
 use Rattle.gomod_run.specs.Runs.{Needs}

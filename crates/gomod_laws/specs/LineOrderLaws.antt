@@ -6,9 +6,9 @@ use Rattle.gm_syntax.specs.Document.{Line}
 use Rattle.gm_syntax.specs.LineViews.{plain_lines}
 use Rattle.gm_file.specs.Directives.{Directive, Strict, directives}
 use Rattle.gm_store_parts.specs.Asked.{Name, Reply}
-use Rattle.gomod_run.specs.QueryLaws.{AnswerAlike}
 use Rattle.gm_file.specs.Main.{IsMainOf}
-use Rattle.gomod_run.specs.Outcome.{Outcome}
+use Rattle.gomod_texts.specs.Outcome.{Outcome}
+use Rattle.gomod_texts.specs.QueryLaws.{AnswerAlike}
 use Rattle.gomod_words.specs.declared.usage.Command.{Command}
 use Rattle.gomod_run.specs.Runs.{is_query}
 use Rattle.gomod_laws.specs.Runs.{HasOutcome}

@@ -6,11 +6,11 @@ use Rattle.gm_file.specs.Main.{Main}
 use Rattle.gm_graph_select.specs.declared.step.Edge.{Edge}
 use Rattle.gm_graph_select.specs.BuildList.{HasEntryFor, path_of}
 use Rattle.gm_graph.specs.Entries.{Entry}
-use Rattle.gomod_run.specs.QueryLaws.{AnswerAlike}
-use Rattle.gomod_run.specs.Outcome.{Outcome, text_outcome, refusal_outcome}
-use Rattle.gomod_run.specs.Reports.{not_listed_line}
-use Rattle.gomod_run.specs.GraphQuery.{edge_text}
-use Rattle.gomod_run.specs.LineParts.{step_text, line}
+use Rattle.gomod_texts.specs.QueryLaws.{AnswerAlike}
+use Rattle.gomod_texts.specs.Outcome.{Outcome, text_outcome, refusal_outcome}
+use Rattle.gomod_texts.specs.Reports.{not_listed_line}
+use Rattle.gomod_texts.specs.GraphQuery.{edge_text}
+use Rattle.gomod_texts.specs.LineParts.{step_text, line}
 use Rattle.gomod_words.specs.declared.usage.Command.TheVariants.{Graph, List as Rows, Chain}
 use Rattle.gomod_laws.specs.Runs.{HasOutcome, HasPrinted}
 use Rattle.gomod_laws.specs.Shown.{ShowsEdges, ShowsRows, run_over}

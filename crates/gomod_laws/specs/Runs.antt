@@ -2,10 +2,10 @@
 use Rattle.std.specs.Prelude.{◌≡◌, ℕ, List, [], Option, None, String}
 use Rattle.std.specs.Global.{Global, Vec}
 use Rattle.gm_store_parts.specs.Asked.{Name, Reply}
-use Rattle.gomod_run.specs.Outcome.{Outcome, text_outcome}
 use Rattle.gomod_words.specs.declared.usage.Command.{Command}
 use Rattle.gomod_words.specs.declared.usage.Command.TheVariants.{Edit}
-use Rattle.gomod_run.specs.Queries.{answers_of, given_of}
+use Rattle.gomod_texts.specs.Queries.{answers_of, given_of}
+use Rattle.gomod_texts.specs.Outcome.{Outcome, text_outcome}
 use Rattle.gomod_run.specs.Runs.{RunEnds}
 use Rattle.std.specs.Str.{IsUtf8}
 

@@ -9,8 +9,8 @@ use Rattle.gm_store_parts.specs.Asked.{Name, Reply, answer_in, bytes, list_file,
 use Rattle.gm_store.specs.Latest.{IsLatest}
 use Rattle.gm_store.specs.Listed.{AreListed}
 use Rattle.gm_graph_files.specs.Reading.{AreRetractedBy, IsFileReading}
-use Rattle.gomod_run.specs.QueryLaws.{AnswerAlike}
-use Rattle.gomod_run.specs.Outcome.{Outcome, text_outcome}
+use Rattle.gomod_texts.specs.Outcome.{Outcome, text_outcome}
+use Rattle.gomod_texts.specs.QueryLaws.{AnswerAlike}
 use Rattle.gomod_words.specs.declared.usage.Command.TheVariants.{Versions}
 use Rattle.gomod_run.specs.Versions.{versions_line}
 use Rattle.gomod_laws.specs.Runs.{HasOutcome, HasPrinted}

@@ -7,12 +7,12 @@ use Rattle.gm_file.specs.Main.{Main}
 use Rattle.gm_graph.specs.declared.fault.Fault.{Fault}
 use Rattle.gm_graph_cache.specs.Sayings.{Run, run_of}
 use Rattle.gm_graph.proofs.RunLemmas.{Agrees, needed, settled_answers}
-use Rattle.gomod_run.specs.Queries.{AreFound, Given, Prints, QueryEnds}
+use Rattle.gomod_texts.specs.Queries.{AreFound, Given, Prints, QueryEnds}
 use Rattle.gomod_run.specs.Private.ByCommand.{PrintsOf}
 use Rattle.gomod_run.specs.Needs.{AnsweredAll, AnswersByName, GraphNeeds}
-use Rattle.gomod_run.specs.Outcome.{OrNoMemory, Outcome}
-use Rattle.gomod_run.proofs.StoresAgree.{itself, stores_agree}
-use Rattle.gomod_run.proofs.PrintedList.{printed_run}
+use Rattle.gomod_texts.specs.Outcome.{OrNoMemory, Outcome}
+use Rattle.gomod_texts.proofs.StoresAgree.{itself, stores_agree}
+use Rattle.gomod_texts.proofs.PrintedList.{printed_run}
 use Rattle.gomod_run.proofs.OneVersions.{alike_itself, none_needed, one_latest, one_listed, shown_listed}
 use Rattle.gomod_words.specs.declared.usage.Command.{Command}
 use Rattle.gomod_words.specs.declared.usage.Command.TheVariants.{Fmt, Edit, Versions}

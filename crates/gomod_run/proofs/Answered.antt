@@ -1,6 +1,6 @@
 -- What the program says to single words.
 use Rattle.std.proofs.Common.{◌≡◌, ◌⊎◌, ◌∷◌, ◌∙◌, ℕ, List, [], ap, codes, inl, inr, true}
-use Rattle.gomod_run.specs.Outcome.{Outcome, text_outcome, out_of_memory}
+use Rattle.gomod_texts.specs.Outcome.{Outcome, text_outcome, out_of_memory}
 use Rattle.gomod_words.specs.Laws.{AreUsageError, AskForVersion}
 use Rattle.gomod_words.specs.Usage.{IsVersionLine, is_line_or_memory, version_line}
 use Rattle.gomod_words.specs.declared.usage.UsageFault.{UsageFault}

@@ -14,8 +14,8 @@ use Rattle.gm_graph_files.specs.declared.class.Class.TheVariants.{NotFetchable, 
 use Rattle.gm_file.specs.declared.misreading.Misreading.{Misreading}
 use Rattle.gm_file.specs.declared.misreading.Misreading.TheVariants as misreading
 use Rattle.gm_file.specs.Misreading.{misreading_word}
-use Rattle.gomod_run.specs.PrintedLines.{IsProperClass}
-use Rattle.gomod_run.specs.Reports.{class_text, malformed_text}
+use Rattle.gomod_texts.specs.PrintedLines.{IsProperClass}
+use Rattle.gomod_texts.specs.Reports.{class_text, malformed_text}
 use Rattle.gomod_run.proofs.ListLines.{Lacks, both_lack, cut_at, has_it, lacks, plain}
 
 -- ---- the misreading that a word is for

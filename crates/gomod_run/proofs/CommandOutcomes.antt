@@ -21,12 +21,12 @@ use Rattle.gm_graph.specs.declared.fault.Fault.{Fault}
 use Rattle.gm_graph.specs.Run.{AreTooMany, AskedInTurn, IsDue, IsEdge, IsRead, LoadingNeeds}
 use Rattle.gm_graph_cache.specs.Sayings.{Run, run_of}
 use Rattle.gm_graph.specs.Outcome.{IsLoaded, LoadedGraph as Loaded}
-use Rattle.gomod_run.specs.FromFaults.{report_by_bytes, report_by_load}
-use Rattle.gomod_run.specs.Outcome.{OrNoMemory, Outcome, failure_outcome, refusal_outcome, report_outcome}
-use Rattle.gomod_run.specs.Reports.{device_line}
+use Rattle.gomod_texts.specs.FromFaults.{report_by_bytes, report_by_load}
+use Rattle.gomod_texts.specs.Outcome.{OrNoMemory, Outcome, failure_outcome, refusal_outcome, report_outcome}
+use Rattle.gomod_texts.specs.Reports.{device_line}
 use Rattle.gomod_run.specs.declared.queries.query.Query.{Query}
 use Rattle.gomod_run.specs.declared.queries.query.Query.TheVariants.{Graph, List as Rows, Chain}
-use Rattle.gomod_run.specs.Queries.{AreFound, AreInvalidSums, FilesReadAs, Given, Prints, QueryEnds, answers_of, device, faulty, given_of, no_fault, too_many}
+use Rattle.gomod_texts.specs.Queries.{AreFound, AreInvalidSums, FilesReadAs, Given, Prints, QueryEnds, answers_of, device, faulty, given_of, no_fault, too_many}
 use Rattle.gomod_run.specs.Needs.{AnswersByName, FailsInTurn, GraphNeeds}
 use Rattle.gomod_run.specs.Private.Refusals.{IsRefusedRead}
 use Rattle.gomod_run.specs.Runs.{ComesTo, Needs, RunEnds, command_of, run_between}
@@ -39,7 +39,7 @@ use Rattle.gm_graph.proofs.Dues.{none_in_turn}
 use Rattle.gomod_words.specs.declared.usage.Command.{Command}
 use Rattle.gomod_words.specs.declared.usage.Command.TheVariants.{Versions}
 use Rattle.gomod_run.specs.Private.Found.{IsOutcomeOfFound, PrintsFound, ReportsFaultsOr}
-use Rattle.gomod_run.proofs.MainMisreading.{main_refused}
+use Rattle.gomod_texts.proofs.MainMisreading.{main_refused}
 
 -- ---- what is printed
 

@@ -11,10 +11,10 @@ use Rattle.gm_store_parts.specs.Taken.{SinkState}
 use Rattle.gm_store_parts.specs.declared.files.memory.MemoryFiles.{MemoryFiles}
 use Rattle.gm_store_parts.proofs.Serving.{may_all, may_refuse_all}
 use Rattle.gomod_words.specs.declared.usage.Command.{Command}
-use Rattle.gomod_run.specs.Queries.{Answers, longest}
-use Rattle.gomod_run.specs.Outcome.{OrNoMemory, Outcome, code_of, report_outcome}
-use Rattle.gomod_run.specs.declared.reports.report.Report.{Report}
-use Rattle.gomod_run.specs.declared.reports.status.Status.{Status}
+use Rattle.gomod_texts.specs.Queries.{Answers, longest}
+use Rattle.gomod_texts.specs.Outcome.{OrNoMemory, Outcome, code_of, report_outcome}
+use Rattle.gomod_texts.specs.declared.reports.report.Report.{Report}
+use Rattle.gomod_texts.specs.declared.reports.status.Status.{Status}
 use Rattle.gomod_run.specs.Program.{AreAnswersBy, IsInput, file_in_memory, sums_input}
 use Rattle.gomod_run.specs.Runs.{is_query, answers_between}
 use Rattle.gomod_run.specs.Written.{EndsAsStated, IsWritten}

@@ -8,7 +8,7 @@ use Rattle.gomod_words.proofs.GivenWords.{all_readable}
 use Rattle.gomod_words.specs.Given.{AreGiven, IsUnreadableWords}
 use Rattle.gomod_words.specs.declared.usage.UsageFault.{UsageFault}
 use Rattle.gomod_words.specs.declared.usage.UsageFault.TheVariants.{NoMemory, Line}
-use Rattle.gomod_run.specs.Outcome.{Outcome, out_of_memory}
+use Rattle.gomod_texts.specs.Outcome.{Outcome, out_of_memory}
 use Rattle.gomod_run.specs.Program.{IsProgramOutcome, IsProgramStatus, IsWordsOutcome, usage_outcome, usage_error}
 use Rattle.gomod_run.specs.Written.{EndsAsStated, IsWritten}
 use Rattle.gm_store_parts.specs.Taken.{SinkState}

@@ -3,9 +3,9 @@ use Rattle.std.proofs.Common.{◌∷◌, codes, ap₂, append_assoc, arith, refl
 use Rattle.gm_syntax_words.specs.Lines.{HasNoLineFeed}
 use Rattle.gm_graph.specs.declared.fault.Fault.{Fault}
 use Rattle.gm_graph.specs.Private.Gathering.{fault}
-use Rattle.gomod_run.specs.PrintedLines.{HasLines, IsProperFault, LineIsOfOne, LineSaysOne, TextSaysAll, fault_text}
-use Rattle.gomod_run.specs.Reports.{class_text, faults_text}
-use Rattle.gomod_run.specs.LineParts.{vertex_text}
+use Rattle.gomod_texts.specs.PrintedLines.{HasLines, IsProperFault, LineIsOfOne, LineSaysOne, TextSaysAll, fault_text}
+use Rattle.gomod_texts.specs.Reports.{class_text, faults_text}
+use Rattle.gomod_texts.specs.LineParts.{vertex_text}
 use Rattle.gomod_run.proofs.ClassWords.{class_has_no_feed, says_class}
 use Rattle.gomod_run.proofs.GraphLines.{IsApart, feed_is_apart, says_vertex, vertex_lacks}
 use Rattle.gomod_run.proofs.ListLines.{both_lack, cut_at, found_line, lines_are, plain, text_says}

@@ -3,8 +3,8 @@ use Rattle.std.proofs.Common.{List, [], ◌∷◌, ◌≡◌, length, true, fals
 use Rattle.std.specs.Bool.{◌==◌}
 use Rattle.gm_graph.specs.declared.fault.Fault.{Fault}
 use Rattle.gomod_run.specs.Private.Found.{ReportsFaultsOr}
-use Rattle.gomod_run.specs.Outcome.{refusal_outcome}
-use Rattle.gomod_run.specs.Reports.{faults_text}
+use Rattle.gomod_texts.specs.Outcome.{refusal_outcome}
+use Rattle.gomod_texts.specs.Reports.{faults_text}
 
 pub faults_told : (faults : List Fault) → (prints : Type 0) → (length faults == 0) ≡ false
     → ReportsFaultsOr faults prints (refusal_outcome (faults_text faults))

@@ -8,10 +8,10 @@ use Rattle.gm_graph_select.specs.declared.step.Edge.{Edge}
 use Rattle.gm_graph_select.specs.declared.step.Step.{Step}
 use Rattle.gm_graph_select.specs.declared.step.Step.TheVariants.{Main, Of}
 use Rattle.gm_graph_select.specs.Graph.{edge}
-use Rattle.gomod_run.specs.ChainQuery.{chain_text}
-use Rattle.gomod_run.specs.GraphQuery.{edge_text, graph_text}
-use Rattle.gomod_run.specs.LineParts.{step_text, vertex_text}
-use Rattle.gomod_run.specs.PrintedLines.{HasLines, IsProperEdge, IsProperStep, LineIsOfOne, LineSaysOne, TextSaysAll}
+use Rattle.gomod_texts.specs.ChainQuery.{chain_text}
+use Rattle.gomod_texts.specs.GraphQuery.{edge_text, graph_text}
+use Rattle.gomod_texts.specs.LineParts.{step_text, vertex_text}
+use Rattle.gomod_texts.specs.PrintedLines.{HasLines, IsProperEdge, IsProperStep, LineIsOfOne, LineSaysOne, TextSaysAll}
 use Rattle.gomod_run.proofs.ListLines.{Lacks, both_lack, cut_at, found_line, has_it, lines_are, path_lacks, plain, text_says, version_lacks}
 
 -- ---- steps

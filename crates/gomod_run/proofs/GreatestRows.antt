@@ -9,10 +9,10 @@ use Rattle.gm_graph_select.specs.Order.{IsAscending}
 use Rattle.gm_graph_select.proofs.Ascending.{less_itself, member_cases, no_member, pairs_head, pairs_tail}
 use Rattle.gm_graph.specs.Run.{IsEdge}
 use Rattle.gm_graph_cache.specs.Sayings.{Run, run_of}
-use Rattle.gomod_run.specs.QueryLaws.{AreGreatest, BuildListIsListed}
-use Rattle.gomod_run.specs.Queries.{no_fault}
-use Rattle.gomod_run.specs.ListQuery.{no_path}
-use Rattle.gomod_run.proofs.Uniqueness.{same_version}
+use Rattle.gomod_texts.specs.QueryLaws.{AreGreatest, BuildListIsListed}
+use Rattle.gomod_texts.specs.Queries.{no_fault}
+use Rattle.gomod_texts.specs.ListQuery.{no_path}
+use Rattle.gomod_texts.proofs.Uniqueness.{same_version}
 
 abbrev IsBelow : ModuleVersion → ModuleVersion → Type 0
 IsBelow x y = path_cmp x y ≡ Less

@@ -4,7 +4,7 @@ use Rattle.gm_store_parts.specs.Asked.{Name, Reply, answer_in}
 use Rattle.gm_store_sums.specs.Sums.{Sums}
 use Rattle.gm_file.specs.Main.{Main}
 use Rattle.gm_graph.specs.Run.{AskedInTurn, LoadingNeeds, more, nothing}
-use Rattle.gomod_run.specs.Queries.{FilesReadAs}
+use Rattle.gomod_texts.specs.Queries.{FilesReadAs}
 use Rattle.gomod_run.specs.Needs.{AnswersByName, GraphNeeds}
 
 abbrev Pairs : Type 0

@@ -15,9 +15,9 @@ use Rattle.gm_graph_select.specs.declared.step.Step.TheVariants.{Main, Of}
 use Rattle.gm_graph.specs.Entries.{Entry}
 use Rattle.gm_graph_select.proofs.Ascending.{member_head, member_tail}
 use Rattle.gm_graph_select.proofs.RankedLists.{from_mapped}
-use Rattle.gomod_run.specs.ListQuery.{list_text, replacement_suffix, replacement_text, row_text}
-use Rattle.gomod_run.specs.LineParts.{line}
-use Rattle.gomod_run.specs.PrintedLines.{AreAll, HasLines, IsProperRight, IsProperRow, LineIsOfOne, LineSaysOne, TextSaysAll}
+use Rattle.gomod_texts.specs.ListQuery.{list_text, replacement_suffix, replacement_text, row_text}
+use Rattle.gomod_texts.specs.LineParts.{line}
+use Rattle.gomod_texts.specs.PrintedLines.{AreAll, HasLines, IsProperRight, IsProperRow, LineIsOfOne, LineSaysOne, TextSaysAll}
 use Rattle.gm_file_edit.proofs.NoLineFeeds.{has-no, path-plain, version-plain}
 use Rattle.gm_file_edit.proofs.Folders.{begins-no-folder}
 

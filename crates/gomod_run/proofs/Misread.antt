@@ -5,8 +5,8 @@ use Rattle.gm_syntax_words.specs.declared.fault.SyntaxFault.TheVariants as synta
 use Rattle.gm_syntax.specs.Parsed.{IsFaultOrNoMemory, IsParsedAs}
 use Rattle.gm_file.specs.BytesFaults.{fault_by_syntax}
 use Rattle.gm_file.specs.declared.misreading.Misreading.TheVariants as misreading
-use Rattle.gomod_run.specs.FromFaults.{report_by_bytes}
-use Rattle.gomod_run.specs.Outcome.{OrNoMemory, report_outcome}
+use Rattle.gomod_texts.specs.FromFaults.{report_by_bytes}
+use Rattle.gomod_texts.specs.Outcome.{OrNoMemory, report_outcome}
 use Rattle.gomod_run.specs.Fmt.{FmtEnds, bad_syntax}
 
 -- the outcome of `fmt` over bytes that are not a document

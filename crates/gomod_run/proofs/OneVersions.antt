@@ -5,10 +5,10 @@ use Rattle.gm_name.specs.Path.{is_fetchable}
 use Rattle.gm_store_parts.specs.Asked.{Name, Reply, bytes, bytes_in, list_file}
 use Rattle.gm_store.specs.Latest.{IsLatest}
 use Rattle.gm_store.specs.Listed.{AreListed}
-use Rattle.gomod_run.specs.Outcome.{Outcome}
+use Rattle.gomod_texts.specs.Outcome.{Outcome}
 use Rattle.gomod_run.specs.Needs.{AnswersByName}
 use Rattle.gomod_run.specs.Versions.{AreShown, HasListed, IsLatestListed, IsRefusedList, VersionsEnds, VersionsNeed, all_listed, bad_file, device, list_refusal, no_list, not_retracted, printed}
-use Rattle.gomod_run.proofs.Uniqueness.{latest_once, listed_once, none_latest}
+use Rattle.gomod_texts.proofs.Uniqueness.{latest_once, listed_once, none_latest}
 
 pub same_answer : (answer : Option Reply) (one other : Reply) → answer ≡ Some one → answer ≡ Some other → one ≡ other
 same_answer answer one other a b = cc

@@ -11,12 +11,12 @@ use Rattle.gm_file_edit.specs.Edits.{Edit, edit_in}
 use Rattle.gm_file_edit.specs.Kinds.{is_fit}
 use Rattle.gm_file_edit.specs.declared.fault.EditFault.{EditFault}
 use Rattle.gm_file_edit.specs.declared.fault.EditFault.TheVariants.{NoMemory, Misfit}
-use Rattle.gomod_run.specs.Outcome.{OrNoMemory, Outcome, text_outcome, refusal_outcome, report_outcome}
+use Rattle.gomod_texts.specs.Outcome.{OrNoMemory, Outcome, text_outcome, refusal_outcome, report_outcome}
 use Rattle.gm_file.specs.Main.{IsMainOf}
 use Rattle.gm_file.specs.Misreading.{IsMisread}
 use Rattle.gm_file.specs.Directives.{Strict}
-use Rattle.gomod_run.specs.Reports.{FaultPlace, main_line}
-use Rattle.gomod_run.specs.declared.reports.report.Report.{Report}
+use Rattle.gomod_texts.specs.Reports.{FaultPlace, main_line}
+use Rattle.gomod_texts.specs.declared.reports.report.Report.{Report}
 use Rattle.gomod_run.specs.Edit.{EditEnds, applied, bad_main, lines_after_all, refusal_of, refusals_from}
 use Rattle.gomod_run.specs.Private.Refusals.{IsRefusedOperation, report_by_edit}
 

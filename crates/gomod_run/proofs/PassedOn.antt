@@ -4,10 +4,10 @@ use Rattle.std.proofs.Common.{◌≡◌, ◌∙◌, List, ℕ, Result, Ok, Err, 
 use Rattle.std.specs.Prelude.{String}
 use Rattle.std.specs.declared.alloc.Global.{Global}
 use Rattle.std.specs.Result.{IsErrAnd}
-use Rattle.gomod_run.specs.Outcome.{Outcome, ended_view, out_of_memory, report_outcome}
+use Rattle.gomod_texts.specs.Outcome.{Outcome, ended_view, out_of_memory, report_outcome}
 use Rattle.gomod_run.specs.Private.Ended.{outcome_view}
-use Rattle.gomod_run.specs.declared.reports.report.Report.{Report}
-use Rattle.gomod_run.specs.declared.reports.report.Report.TheVariants as report
+use Rattle.gomod_texts.specs.declared.reports.report.Report.{Report}
+use Rattle.gomod_texts.specs.declared.reports.report.Report.TheVariants as report
 
 -- what holds of a report holds of what is passed on
 pub passed : (Is : Outcome → Type 0) (told : Report) (result : Result (String Global) Report)

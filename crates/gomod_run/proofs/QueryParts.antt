@@ -8,10 +8,10 @@ use Rattle.gm_graph.specs.declared.fault.Fault.{Fault}
 use Rattle.gm_graph.specs.Run.{AreTooMany, IsDue, IsRead}
 use Rattle.gm_graph_cache.specs.Sayings.{run_of}
 use Rattle.gomod_run.specs.Private.Found.{ReportsFaultsOr}
-use Rattle.gomod_run.specs.Queries.{AreFound, FilesReadAs, Given, IsUnasked, Prints, QueryEnds, bad_main, bad_sums, device, faulty, no_fault, too_many}
-use Rattle.gomod_run.specs.Outcome.{Outcome, failure_outcome, refusal_outcome}
+use Rattle.gomod_texts.specs.Queries.{AreFound, FilesReadAs, Given, IsUnasked, Prints, QueryEnds, bad_main, bad_sums, device, faulty, no_fault, too_many}
+use Rattle.gomod_texts.specs.Outcome.{Outcome, failure_outcome, refusal_outcome}
 use Rattle.gomod_run.specs.Private.Refusals.{IsRefusedRead}
-use Rattle.gomod_run.specs.Reports.{device_line, too_many_line}
+use Rattle.gomod_texts.specs.Reports.{device_line, too_many_line}
 use Rattle.gomod_run.specs.Runs.{RunEnds, is_query}
 use Rattle.gomod_run.specs.Private.ByCommand.{PrintsOf}
 use Rattle.gomod_words.specs.declared.usage.Command.{Command}

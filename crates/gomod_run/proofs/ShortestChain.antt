@@ -7,9 +7,9 @@ use Rattle.gm_graph_select.specs.Graph.{Edges}
 use Rattle.gm_graph_select.proofs.Lawful.{shortest}
 use Rattle.gm_graph.specs.Run.{IsEdge}
 use Rattle.gm_graph_cache.specs.Sayings.{run_of}
-use Rattle.gomod_run.specs.QueryLaws.{PrintedChainIsShortest, IsWalk, further, here}
-use Rattle.gomod_run.specs.ChainQuery.{PrintsChain}
-use Rattle.gomod_run.proofs.PrintedList.{not_refused, printed_run}
+use Rattle.gomod_texts.specs.QueryLaws.{PrintedChainIsShortest, IsWalk, further, here}
+use Rattle.gomod_texts.specs.ChainQuery.{PrintsChain}
+use Rattle.gomod_texts.proofs.PrintedList.{not_refused, printed_run}
 
 pub chain_walk : (E : Edges) {s : Step} {steps : List Step} → IsChain E s steps → IsWalk E s steps
 chain_walk E begins = here

@@ -27,18 +27,18 @@ use Rattle.gm_graph_select.proofs.RankedLists.{from_mapped}
 use Rattle.gm_graph_select.specs.BuildList.{entry_of, main_entry}
 use Rattle.gm_graph_select.specs.declared.step.Step.{Step}
 use Rattle.gm_graph_select.specs.declared.step.Step.TheVariants.{Main as FromMain, Of}
-use Rattle.gomod_run.proofs.FileNames.{of_each_right}
-use Rattle.gomod_run.proofs.OneRead.{one_main}
-use Rattle.gomod_run.proofs.PartOfRows.{after_row}
-use Rattle.gomod_run.proofs.RunNames.{run_has_names, run_has_proper_edges, run_has_proper_rows, run_has_proper_steps}
-use Rattle.gomod_run.specs.ChainQuery.{PrintsChain, step_line}
-use Rattle.gomod_run.specs.GraphQuery.{PrintsGraph, edge_line}
-use Rattle.gomod_run.specs.LineParts.{line, step_text}
-use Rattle.gomod_run.specs.ListQuery.{PrintsList, entry_line, no_path, path_listed, path_unlisted, replacement_suffix, up_to}
-use Rattle.gomod_run.specs.Outcome.{OrNoMemory, Outcome}
-use Rattle.gomod_run.specs.PrintedLines.{IsProperRight, IsProperRow, IsProperStep}
+use Rattle.gomod_texts.proofs.FileNames.{of_each_right}
+use Rattle.gomod_texts.proofs.OneRead.{one_main}
+use Rattle.gomod_texts.proofs.PartOfRows.{after_row}
+use Rattle.gomod_texts.proofs.RunNames.{run_has_names, run_has_proper_edges, run_has_proper_rows, run_has_proper_steps}
+use Rattle.gomod_texts.specs.ChainQuery.{PrintsChain, step_line}
+use Rattle.gomod_texts.specs.GraphQuery.{PrintsGraph, edge_line}
+use Rattle.gomod_texts.specs.LineParts.{line, step_text}
+use Rattle.gomod_texts.specs.ListQuery.{PrintsList, entry_line, no_path, path_listed, path_unlisted, replacement_suffix, up_to}
+use Rattle.gomod_texts.specs.Outcome.{OrNoMemory, Outcome}
+use Rattle.gomod_texts.specs.PrintedLines.{IsProperRight, IsProperRow, IsProperStep}
 use Rattle.gomod_run.specs.Private.Folders.{AreUtf8Folders, IsUtf8Right}
-use Rattle.gomod_run.specs.Queries.{FilesReadAs, Given, Prints, QueryEnds, bad_main, bad_sums, device, faulty, no_fault, too_many}
+use Rattle.gomod_texts.specs.Queries.{FilesReadAs, Given, Prints, QueryEnds, bad_main, bad_sums, device, faulty, no_fault, too_many}
 use Rattle.gomod_run.specs.Runs.{ComesTo, RunEnds, command_of, run_between}
 use Rattle.gomod_run.specs.declared.queries.query.Query.{Query}
 use Rattle.gomod_run.specs.declared.queries.query.Query.TheVariants.{Graph, List as Rows, Chain}

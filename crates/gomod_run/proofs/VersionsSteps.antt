@@ -12,8 +12,8 @@ use Rattle.gm_graph_files.specs.Reading.{AreRetractedBy, IsFileReading}
 use Rattle.gm_graph.specs.Run.{AskedInTurn, more, nothing}
 use Rattle.gm_graph.proofs.Dues.{none_in_turn}
 use Rattle.gomod_run.specs.Private.Asking.{IsAnsweredAsk, IsRefusedAt, IsUnanswered}
-use Rattle.gomod_run.specs.Outcome.{OrNoMemory, Outcome, out_of_memory, refusal_outcome, text_outcome}
-use Rattle.gomod_run.specs.Reports.{fault_line}
+use Rattle.gomod_texts.specs.Outcome.{OrNoMemory, Outcome, out_of_memory, refusal_outcome, text_outcome}
+use Rattle.gomod_texts.specs.Reports.{fault_line}
 use Rattle.gomod_run.specs.Runs.{ComesTo}
 use Rattle.gomod_run.specs.Versions.{AreShown, HasListed, IsLatestListed, IsRefusedList, LatestSays, VersionsNeed, all_listed, bad_file, device, list_refusal, no_list, not_retracted, printed, versions_line}
 use Rattle.gomod_run.specs.Private.VersionsRuns.{AreVersionsAnswered, IsListAnswered, IsVersionsRun, broken_run, ended_run, memory_run}

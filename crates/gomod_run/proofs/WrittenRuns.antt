@@ -3,8 +3,8 @@ use Rattle.std.proofs.Common.{◌≡◌, ◌∙◌, ℕ, List, Option, arith, in
 use Rattle.gm_store.specs.Asked.{Name, Reply}
 use Rattle.gm_store.specs.States.{StoreState}
 use Rattle.gm_store.specs.Taken.{SinkState}
-use Rattle.gomod_run.specs.Outcome.{Outcome, failure_outcome}
-use Rattle.gomod_run.specs.Reports.{device_line}
+use Rattle.gomod_texts.specs.Outcome.{Outcome, failure_outcome}
+use Rattle.gomod_texts.specs.Reports.{device_line}
 use Rattle.gomod_run.specs.Runs.{HoldsAtAnyEnd}
 use Rattle.gomod_run.specs.Written.{IsWritten}
 use Rattle.gomod_run.proofs.WrittenTexts.{written_as}

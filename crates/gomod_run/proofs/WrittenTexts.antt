@@ -4,10 +4,10 @@ use Rattle.std.specs.Str.{IsUtf8}
 use Rattle.std.proofs.lemmas.Str.{IsUtf8-nil, IsUtf8-string_bytes}
 use Rattle.gm_store_parts.specs.Taken.{SinkState}
 use Rattle.gm_store_parts.specs.declared.sinks.WriteFault.{WriteFault}
-use Rattle.gomod_run.proofs.Takings.{took_nothing}
-use Rattle.gomod_run.specs.Outcome.{Outcome, code_of, text_outcome, report_outcome, report_status, report_text}
-use Rattle.gomod_run.specs.Taking.{Took, TookAll, TookPrefix}
-use Rattle.gomod_run.specs.declared.reports.report.Report.{Report}
+use Rattle.gomod_texts.specs.declared.reports.report.Report.{Report}
+use Rattle.gomod_texts.specs.Taking.{Took, TookAll, TookPrefix}
+use Rattle.gomod_texts.specs.Outcome.{Outcome, code_of, text_outcome, report_outcome, report_status, report_text}
+use Rattle.gomod_texts.proofs.Takings.{took_nothing}
 use Rattle.gomod_run.specs.Program.{usage_error, usage_outcome}
 use Rattle.gomod_words.specs.declared.usage.UsageFault.{UsageFault}
 use Rattle.gomod_words.specs.declared.usage.UsageFault.TheVariants.{Help, Version}

@@ -13,8 +13,8 @@ use Rattle.gm_file_edit.specs.Edits.{Edit, edit_in}
 use Rattle.gm_file.specs.Main.{IsMainOf}
 use Rattle.gm_file.specs.Misreading.{IsMisread}
 use Rattle.gm_file.specs.Directives.{Strict}
-use Rattle.gomod_run.specs.Outcome.{Outcome, text_outcome, refusal_outcome}
-use Rattle.gomod_run.specs.Reports.{FaultPlace, main_line, edit_line}
+use Rattle.gomod_texts.specs.Outcome.{Outcome, text_outcome, refusal_outcome}
+use Rattle.gomod_texts.specs.Reports.{FaultPlace, main_line, edit_line}
 
 -- why a parsed operation is refused, if it is
 abbrev pub refusal_of : Option Edit → Option (List ℕ)

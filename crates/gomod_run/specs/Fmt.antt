@@ -6,8 +6,8 @@ use Rattle.gm_syntax.specs.Document.{Line}
 use Rattle.gm_syntax.specs.Layout.{layout}
 use Rattle.gm_syntax.specs.LineViews.{plain_lines}
 use Rattle.gm_syntax.specs.Parsed.{IsParsedAs}
-use Rattle.gomod_run.specs.Outcome.{Outcome, text_outcome, refusal_outcome}
-use Rattle.gomod_run.specs.Reports.{FaultPlace, main_line, syntax_place}
+use Rattle.gomod_texts.specs.Reports.{FaultPlace, main_line, syntax_place}
+use Rattle.gomod_texts.specs.Outcome.{Outcome, text_outcome, refusal_outcome}
 
 -- How `fmt FILE` ends over the bytes of the file, if memory doesn't run out: the syntax fault is reported, or the
 -- layout of the document is printed.

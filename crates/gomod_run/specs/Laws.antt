@@ -1,6 +1,6 @@
 -- Laws of runs, which follow from the definitions alone.
 use Rattle.std.specs.Prelude.{◌≡◌, ◌⊎◌, ◌∷◌, ℕ, List, [], codes}
-use Rattle.gomod_run.specs.Outcome.{Outcome, text_outcome, out_of_memory}
+use Rattle.gomod_texts.specs.Outcome.{Outcome, text_outcome, out_of_memory}
 use Rattle.gomod_words.specs.Usage.{version_line}
 use Rattle.gomod_run.specs.Program.{IsWordsOutcome, any_input, anything}
 

@@ -6,7 +6,7 @@ use Rattle.gm_store_parts.specs.States.{StoreState}
 use Rattle.gm_store_sums.specs.Sums.{Sums}
 use Rattle.gm_file.specs.Main.{Main}
 use Rattle.gm_graph.specs.Run.{LoadingNeeds}
-use Rattle.gomod_run.specs.Queries.{FilesReadAs}
+use Rattle.gomod_texts.specs.Queries.{FilesReadAs}
 
 -- what a store answered
 abbrev pub AnswersByName : Type 0

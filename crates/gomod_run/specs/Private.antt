@@ -4,7 +4,6 @@ pub mod ByCommand
 pub mod Ended
 pub mod Folders
 pub mod Found
-pub mod Giving
 pub mod Refusals
 pub mod Stopped
 pub mod VersionsRuns

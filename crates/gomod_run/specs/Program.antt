@@ -16,9 +16,9 @@ use Rattle.gomod_words.specs.declared.usage.Command.TheVariants.{Versions}
 use Rattle.gomod_words.specs.declared.usage.Places.{Places}
 use Rattle.gomod_words.specs.declared.usage.UsageFault.{UsageFault}
 use Rattle.gomod_words.specs.declared.usage.UsageFault.TheVariants as usage
-use Rattle.gomod_run.specs.Queries.{Answers, given_of, longest}
-use Rattle.gomod_run.specs.Outcome.{Outcome, code_of, failure_outcome, out_of_memory, text_outcome}
-use Rattle.gomod_run.specs.Reports.{cannot_read_line}
+use Rattle.gomod_texts.specs.Queries.{Answers, given_of, longest}
+use Rattle.gomod_texts.specs.Outcome.{Outcome, code_of, failure_outcome, out_of_memory, text_outcome}
+use Rattle.gomod_texts.specs.Reports.{cannot_read_line}
 use Rattle.gomod_run.specs.declared.ending.Ending.{Ending}
 use Rattle.gomod_run.specs.declared.ending.Ending.TheVariants.{Run, Usage}
 use Rattle.gomod_run.specs.Runs.{RunEnds, is_query}

@@ -6,18 +6,18 @@ use Rattle.gm_store_parts.specs.Asked.{Name, Reply, answer_in}
 use Rattle.gm_graph.specs.Run.{AskedInTurn}
 use Rattle.gomod_run.specs.declared.queries.query.Query.{Query}
 use Rattle.gomod_run.specs.declared.queries.query.Query.TheVariants as query
-use Rattle.gomod_run.specs.Outcome.{OrNoMemory, Outcome, failure_outcome}
-use Rattle.gomod_run.specs.Reports.{device_line}
+use Rattle.gomod_texts.specs.Outcome.{OrNoMemory, Outcome, failure_outcome}
+use Rattle.gomod_texts.specs.Reports.{device_line}
 use Rattle.gomod_run.specs.Needs.{AnsweredAll, AnswersByName, FailsInTurn, GraphNeeds}
 use Rattle.gomod_words.specs.Usage.{texts_in}
 use Rattle.gomod_words.specs.declared.usage.Command.{Command}
 use Rattle.gomod_words.specs.declared.usage.Command.TheVariants.{Fmt, Edit, Versions, Graph, List as Rows, Chain}
 use Rattle.gomod_run.specs.Edit.{EditEnds}
 use Rattle.gomod_run.specs.Versions.{IsRefusedList, VersionsEnds, VersionsNeed}
-use Rattle.gomod_run.specs.Queries.{Answers, Given, answers_of, given_of}
-use Rattle.gomod_run.specs.ChainQuery.{ChainEnds}
-use Rattle.gomod_run.specs.GraphQuery.{GraphEnds}
-use Rattle.gomod_run.specs.ListQuery.{ListEnds}
+use Rattle.gomod_texts.specs.Queries.{Answers, Given, answers_of, given_of}
+use Rattle.gomod_texts.specs.ChainQuery.{ChainEnds}
+use Rattle.gomod_texts.specs.GraphQuery.{GraphEnds}
+use Rattle.gomod_texts.specs.ListQuery.{ListEnds}
 use Rattle.gomod_run.specs.Fmt.{FmtEnds}
 
 -- ---- commands

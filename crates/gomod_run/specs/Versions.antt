@@ -11,8 +11,8 @@ use Rattle.gm_file.specs.Fields.{Dependency}
 use Rattle.gm_file.specs.Shown.{shown_of}
 use Rattle.gm_graph_files.specs.declared.class.Class.{Class}
 use Rattle.gm_graph_files.specs.Reading.{AreRetractedBy, IsFileReading}
-use Rattle.gomod_run.specs.Outcome.{Outcome, failure_outcome, text_outcome, refusal_outcome}
-use Rattle.gomod_run.specs.Reports.{device_line, fault_line, list_line}
+use Rattle.gomod_texts.specs.Reports.{device_line, fault_line, list_line}
+use Rattle.gomod_texts.specs.Outcome.{Outcome, failure_outcome, text_outcome, refusal_outcome}
 use Rattle.gomod_run.specs.Needs.{AnswersByName}
 
 -- the path and the versions, separated by single spaces

@@ -2,8 +2,8 @@
 use Rattle.std.specs.Prelude.{◌≡◌, ◌⊎◌, ℕ, List}
 use Rattle.std.specs.Str.{IsUtf8}
 use Rattle.gm_store_parts.specs.Taken.{SinkState}
-use Rattle.gomod_run.specs.Outcome.{OrNoMemory, Outcome}
-use Rattle.gomod_run.specs.Taking.{TookAll, TookPrefix}
+use Rattle.gomod_texts.specs.Taking.{TookAll, TookPrefix}
+use Rattle.gomod_texts.specs.Outcome.{OrNoMemory, Outcome}
 
 -- both texts were written
 abbrev pub WroteBoth : List ℕ → List ℕ → SinkState → SinkState → SinkState → SinkState → Type 0

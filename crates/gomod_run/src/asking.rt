@@ -5,8 +5,8 @@ ghost use Rattle.gm_store_parts.specs.Asked.{answer_in, name_of};
 ghost use Rattle.gm_store_parts.specs.States.{HasServed};
 ghost use Rattle.gomod_run.specs.Private.Asking.{IsAsked};
 
-use crate::reports::report::Report;
 use gm_store::{AskFault, Asks, FileName};
+use gomod_texts::Report;
 
 /// Asks for a file that has not been asked for before. If the store's device fails, that is reported; otherwise only
 /// memory can run out.

@@ -4,19 +4,18 @@
 ghost use Rattle.std.specs.Prelude.{◌≡◌, IfErr, IfOk, None, Some};
 ghost use Rattle.std.specs.Option.{option_map};
 ghost use Rattle.std.specs.String.{string_bytes};
-ghost use Rattle.gomod_run.specs.Outcome.{code_of, report_outcome};
+ghost use Rattle.gomod_texts.specs.Outcome.{code_of, report_outcome};
 ghost use Rattle.gomod_run.specs.Program.{CommandEnds};
 ghost use Rattle.gm_store_parts.specs.Taken.{SinkState};
 ghost use Rattle.gomod_run.specs.Written.{EndsAsStated, IsWritten};
 ghost use Rattle.gomod_run.specs.Private.Stopped.{EndsOrStops};
 
 use crate::inputs::read_inputs;
-use crate::reports::report::Report;
-use crate::reports::status::Status;
 use crate::running::run;
 use crate::stores::{folders_of, memory_of, store_folder};
 use crate::writing::write_report;
 use gm_store::{FileSystem, ProxyList, Sink, StandardInput};
+use gomod_texts::{Report, Status};
 use gomod_words::{Command, Places};
 use std::alloc::Global;
 

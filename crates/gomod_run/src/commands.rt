@@ -3,7 +3,7 @@
 ghost use Rattle.std.specs.Prelude.{◌≡◌, []};
 ghost use Rattle.std.specs.Option.{option_map};
 ghost use Rattle.std.specs.Str.{IsUtf8};
-ghost use Rattle.gomod_run.specs.Outcome.{ended_view};
+ghost use Rattle.gomod_texts.specs.Outcome.{ended_view};
 ghost use Rattle.gomod_run.specs.Private.Ended.{outcome_view};
 ghost use Rattle.gomod_run.specs.Runs.{ComesTo};
 
@@ -11,10 +11,9 @@ use crate::edit::edit_outcome;
 use crate::fmt::fmt_outcome;
 use crate::queries::answering::answer;
 use crate::queries::query::Query;
-use crate::reports::report::Report;
-use crate::text::Text;
 use crate::versions::versions_outcome;
 use gm_store::Asks;
+use gomod_texts::{Report, Text};
 use gomod_words::Command;
 use std::alloc::Global;
 

@@ -8,15 +8,15 @@ ghost use Rattle.gm_file_edit.specs.Edits.{edit_in};
 ghost use Rattle.gm_file.specs.Main.{IsMainOf};
 ghost use Rattle.gm_file.specs.Misreading.{IsMisread};
 ghost use Rattle.gm_file.specs.Directives.{Strict};
-ghost use Rattle.gomod_run.specs.Outcome.{OrNoMemory, refusal_outcome, report_outcome};
+ghost use Rattle.gomod_texts.specs.Outcome.{OrNoMemory, refusal_outcome, report_outcome};
 ghost use Rattle.gomod_run.specs.Private.Ended.{outcome_view};
-ghost use Rattle.gomod_run.specs.Reports.{FaultPlace, main_line};
+ghost use Rattle.gomod_texts.specs.Reports.{FaultPlace, main_line};
 ghost use Rattle.gomod_run.specs.Edit.{EditEnds, lines_after_all, refusal_of};
 ghost use Rattle.gomod_run.specs.Private.Refusals.{IsRefusedOperation, report_by_edit, report_by_op};
 
-use crate::reports::report::{Refusal, Report};
 use gm_file::MainFile;
 use gm_file_edit::{EditFault, Editor, Op, OpFault};
+use gomod_texts::{Refusal, Report};
 use std::alloc::Global;
 
 /// The report of a text that is not parsed as the operation of this number.

@@ -3,7 +3,7 @@
 ghost use Rattle.std.specs.Prelude.{◌≡◌};
 ghost use Rattle.gomod_run.specs.Program.{ending_code};
 
-use crate::reports::status::Status;
+use gomod_texts::Status;
 
 /// How the program ends: as a run does, or with a usage error.
 #[derive(Clone, Copy)]

@@ -1,11 +1,11 @@
 //! `fmt`: `gm_syntax` parses and lays out, and this file makes the text or the report of the result.
 
-ghost use Rattle.gomod_run.specs.Outcome.{OrNoMemory};
+ghost use Rattle.gomod_texts.specs.Outcome.{OrNoMemory};
 ghost use Rattle.gomod_run.specs.Private.Ended.{outcome_view};
 ghost use Rattle.gomod_run.specs.Fmt.{FmtEnds};
 
-use crate::reports::report::Report;
 use gm_syntax::Doc;
+use gomod_texts::Report;
 use std::alloc::Global;
 
 /// What `fmt` ends with over the bytes of a file: their layout, or the report of their fault.

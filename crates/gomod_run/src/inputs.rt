@@ -6,11 +6,11 @@ ghost use Rattle.std.specs.Option.{option_map};
 ghost use Rattle.std.specs.String.{string_bytes};
 ghost use Rattle.gm_store_parts.specs.Openings.{MayRead};
 ghost use Rattle.gm_store_parts.specs.declared.fallback.proxy_list.ProxyList.{ProxyList};
-ghost use Rattle.gomod_run.specs.Outcome.{OrNoMemory, report_outcome};
+ghost use Rattle.gomod_texts.specs.Outcome.{OrNoMemory, report_outcome};
 ghost use Rattle.gomod_run.specs.Program.{FileGives, IsInput, CommandEnds, IsUnread, bytes_read, main_input, sums_input, versions_path};
 ghost use Rattle.gomod_run.specs.Runs.{is_query};
 
-use crate::reports::report::Report;
+use gomod_texts::Report;
 use gm_name::ModPath;
 use gm_store::{FileSystem, ReadFault, StandardInput, read_file, read_input};
 use gomod_words::{Command, Places};

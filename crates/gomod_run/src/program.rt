@@ -9,11 +9,9 @@ ghost use Rattle.gomod_run.specs.Written.{EndsAsStated, IsWritten};
 
 use crate::command::run_command;
 use crate::ending::Ending;
-use crate::reports::lines::write_line;
-use crate::reports::report::Report;
-use crate::reports::status::Status;
 use crate::writing::{write_report, write_text};
 use gm_store::{FileSystem, Sink, StandardInput, StdSink, WriteFault, write_all};
+use gomod_texts::{Report, Status, write_line};
 use gomod_words::{UsageFault, Words, given_words, read_words};
 use std::alloc::{AllocError, Global};
 use std::process::ExitCode;

@@ -8,15 +8,15 @@ ghost use Rattle.gm_store_parts.specs.Memory.{held_at, pairs_of};
 ghost use Rattle.gm_store_parts.specs.Proxies.{folders_in, marks_in};
 ghost use Rattle.gm_store.specs.DiskAnswers.{MayAnswer};
 ghost use Rattle.gm_store.specs.Views.{asked_by, refused_by};
-ghost use Rattle.gomod_run.specs.Outcome.{OrNoMemory, report_outcome};
+ghost use Rattle.gomod_texts.specs.Outcome.{OrNoMemory, report_outcome};
 ghost use Rattle.gomod_run.specs.Program.{FileGives, IsFolderFor, IsInput, IsUnread, file_in_memory, list_input, versions_path};
 
 use crate::inputs::{STANDARD_INPUT, read_named, versions_path};
-use crate::reports::report::Report;
 use gm_name::{ModPath, NoMemory};
 use gm_store::{
     Asks, FileName, FileSystem, FolderReader, MemoryFiles, ProxyList, StandardInput, folder_of,
 };
+use gomod_texts::Report;
 use gomod_words::Command;
 use std::alloc::Global;
 

@@ -12,13 +12,13 @@ ghost use Rattle.gm_store_parts.specs.States.{HasServed, StoreState};
 ghost use Rattle.gm_store.specs.Latest.{IsLatest};
 ghost use Rattle.gm_graph_files.specs.Summaries.{RetractsBy, reading_of};
 ghost use Rattle.gm_graph_files.specs.Reading.{IsFileReading};
-ghost use Rattle.gomod_run.specs.Outcome.{OrNoMemory, report_outcome, text_outcome};
+ghost use Rattle.gomod_texts.specs.Outcome.{OrNoMemory, report_outcome, text_outcome};
 ghost use Rattle.gomod_run.specs.Private.Ended.{outcome_view};
 ghost use Rattle.gomod_run.specs.Versions.{list_refusal, versions_line};
 ghost use Rattle.gomod_run.specs.Private.VersionsRuns.{AreVersionsAnswered, IsListAnswered, IsVersionsRun};
 
 use crate::asking::ask_for;
-use crate::reports::report::Report;
+use gomod_texts::Report;
 use gm_file::{Interval, shown_versions};
 use gm_graph::{Class, FileReading};
 use gm_name::{BorrowedVersion, ModPath, ModVersion, NoMemory};

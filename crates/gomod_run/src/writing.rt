@@ -2,12 +2,10 @@
 //! one place.
 
 ghost use Rattle.gm_store_parts.specs.Taken.{SinkState};
-ghost use Rattle.gomod_run.specs.Outcome.{code_of, ended_view, report_outcome, text_outcome};
+ghost use Rattle.gomod_texts.specs.Outcome.{code_of, ended_view, report_outcome, text_outcome};
 ghost use Rattle.gomod_run.specs.Written.{IsWritten};
 
-use crate::reports::report::Report;
-use crate::reports::status::Status;
-use crate::text::{Text, write_whole};
+use gomod_texts::{Report, Status, Text, write_whole};
 use gm_store::Sink;
 
 /// Writes a text to the output, and returns the status of the run: `Done`, or `Device` if the sink fails.

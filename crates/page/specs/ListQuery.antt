@@ -1,4 +1,4 @@
--- A copy from crates/gomod_run/specs/ListQuery.antt, which tools/check/headline.py writes.
+-- A copy from crates/gomod_texts/specs/ListQuery.antt, which tools/check/headline.py writes.
 use Rattle.std.specs.Prelude.{◌≡◌, ℕ, List, [], Option, Some, None, ◌++◌, codes, take}
 use Rattle.page.specs.Main.{Main}
 use Rattle.page.specs.Types.{Step, Main as FromMain, Of}

@@ -1,4 +1,4 @@
--- A copy from crates/gomod_run/specs/Outcome.antt, which tools/check/headline.py writes.
+-- A copy from crates/gomod_texts/specs/Outcome.antt, which tools/check/headline.py writes.
 use Rattle.std.specs.Prelude.{ℕ, List, []}
 
 -- what is printed, what is reported, and the exit status

@@ -1,4 +1,4 @@
--- A copy from crates/gomod_run/specs/Queries.antt, which tools/check/headline.py writes.
+-- A copy from crates/gomod_texts/specs/Queries.antt, which tools/check/headline.py writes.
 use Rattle.std.specs.Prelude.{◌≡◌, ℕ, List, [], ◌∷◌, Option}
 use Rattle.page.specs.Directives.{Strict}
 use Rattle.page.specs.Asked.{Name, Reply, names_in}

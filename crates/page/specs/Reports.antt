@@ -1,4 +1,4 @@
--- A copy from crates/gomod_run/specs/Reports.antt, which tools/check/headline.py writes.
+-- A copy from crates/gomod_texts/specs/Reports.antt, which tools/check/headline.py writes.
 use Rattle.std.specs.Prelude.{ℕ, List, ◌++◌, codes}
 use Rattle.std.specs.Fmt.{decimal}
 use Rattle.std.specs.List.{flat_map}

@@ -1,4 +1,4 @@
--- A copy from crates/gomod_run/specs/ChainQuery.antt, which tools/check/headline.py writes.
+-- A copy from crates/gomod_texts/specs/ChainQuery.antt, which tools/check/headline.py writes.
 use Rattle.std.specs.Prelude.{◌≡◌, ◌⊎◌, ℕ, List}
 use Rattle.page_commands.specs.Main.{Main}
 use Rattle.page_commands.specs.Types.Step.{Step}

@@ -1,4 +1,4 @@
--- A copy from crates/gomod_run/specs/GraphQuery.antt, which tools/check/headline.py writes.
+-- A copy from crates/gomod_texts/specs/GraphQuery.antt, which tools/check/headline.py writes.
 use Rattle.std.specs.Prelude.{◌≡◌, ℕ, List, ◌++◌, codes}
 use Rattle.page_commands.specs.Types.Edge.{Edge}
 use Rattle.page_commands.specs.Run.{AreEdges}

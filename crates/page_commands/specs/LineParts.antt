@@ -1,4 +1,4 @@
--- A copy from crates/gomod_run/specs/LineParts.antt, which tools/check/headline.py writes.
+-- A copy from crates/gomod_texts/specs/LineParts.antt, which tools/check/headline.py writes.
 use Rattle.std.specs.Prelude.{ℕ, List, ◌++◌, codes}
 use Rattle.page_commands.specs.Types.Step.{Step, Main, Of}
 use Rattle.page_commands.specs.ModuleVersion.{ModuleVersion}

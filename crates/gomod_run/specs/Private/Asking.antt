@@ -2,9 +2,9 @@
 use Rattle.std.specs.Prelude.{◌≡◌, ◌⊎◌, ◌++◌, ◌∷◌, [], Result, Ok, Err}
 use Rattle.gm_store_parts.specs.Asked.{Name, Reply}
 use Rattle.gm_store_parts.specs.States.{StoreState}
-use Rattle.gomod_run.specs.Outcome.{Outcome, failure_outcome, out_of_memory, report_outcome}
-use Rattle.gomod_run.specs.Reports.{device_line}
-use Rattle.gomod_run.specs.declared.reports.report.Report.{Report}
+use Rattle.gomod_texts.specs.declared.reports.report.Report.{Report}
+use Rattle.gomod_texts.specs.Reports.{device_line}
+use Rattle.gomod_texts.specs.Outcome.{Outcome, failure_outcome, out_of_memory, report_outcome}
 
 -- the file is answered, with this reply
 abbrev pub IsAnsweredAsk : Name → StoreState → StoreState → Reply → Type 0

@@ -1,10 +1,10 @@
 -- What each query prints, by its command.
 use Rattle.gomod_words.specs.declared.usage.Command.{Command}
 use Rattle.gomod_words.specs.declared.usage.Command.TheVariants.{Graph, List as Rows, Chain}
-use Rattle.gomod_run.specs.Queries.{Prints}
-use Rattle.gomod_run.specs.ChainQuery.{PrintsChain}
-use Rattle.gomod_run.specs.GraphQuery.{PrintsGraph}
-use Rattle.gomod_run.specs.ListQuery.{PrintsList}
+use Rattle.gomod_texts.specs.Queries.{Prints}
+use Rattle.gomod_texts.specs.ChainQuery.{PrintsChain}
+use Rattle.gomod_texts.specs.GraphQuery.{PrintsGraph}
+use Rattle.gomod_texts.specs.ListQuery.{PrintsList}
 
 -- what a query on a module graph prints; the other commands are no queries
 abbrev pub PrintsOf : Command → Prints

@@ -2,8 +2,8 @@
 use Rattle.std.specs.Prelude.{Result, Ok, Err, String}
 use Rattle.std.specs.declared.alloc.Global.{Global}
 use Rattle.std.specs.String.{string_bytes}
-use Rattle.gomod_run.specs.Outcome.{Outcome, report_outcome, text_outcome}
-use Rattle.gomod_run.specs.declared.reports.report.Report.{Report}
+use Rattle.gomod_texts.specs.Outcome.{Outcome, report_outcome, text_outcome}
+use Rattle.gomod_texts.specs.declared.reports.report.Report.{Report}
 
 -- the outcome that the result stands for
 abbrev pub outcome_view : Result (String Global) Report → Outcome

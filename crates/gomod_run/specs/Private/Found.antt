@@ -7,11 +7,11 @@ use Rattle.gm_graph.specs.declared.fault.Fault.{Fault}
 use Rattle.gm_graph.specs.Outcome.{LoadedGraph as Found}
 use Rattle.gomod_run.specs.declared.queries.query.Query.{Query}
 use Rattle.gomod_run.specs.declared.queries.query.Query.TheVariants.{Graph, List as Rows, Chain}
-use Rattle.gomod_run.specs.GraphQuery.{graph_text}
-use Rattle.gomod_run.specs.Reports.{faults_text}
-use Rattle.gomod_run.specs.ListQuery.{PrintsRows}
-use Rattle.gomod_run.specs.ChainQuery.{ShowsChain}
-use Rattle.gomod_run.specs.Outcome.{Outcome, text_outcome, refusal_outcome}
+use Rattle.gomod_texts.specs.GraphQuery.{graph_text}
+use Rattle.gomod_texts.specs.Reports.{faults_text}
+use Rattle.gomod_texts.specs.ListQuery.{PrintsRows}
+use Rattle.gomod_texts.specs.ChainQuery.{ShowsChain}
+use Rattle.gomod_texts.specs.Outcome.{Outcome, text_outcome, refusal_outcome}
 
 -- what a command prints of what was found
 abbrev pub PrintsFound : Query → Main → Found → Outcome → Type 0

@@ -5,16 +5,16 @@ use Rattle.gm_file_edit.specs.declared.fault.EditFault.{EditFault}
 use Rattle.gm_file_edit.specs.declared.fault.EditFault.TheVariants as edit
 use Rattle.gm_file_edit.specs.declared.fault.OpFault.{OpFault}
 use Rattle.gm_file_edit.specs.declared.fault.OpFault.TheVariants as op
-use Rattle.gomod_run.specs.declared.reports.report.Refusal.TheVariants as refusal
-use Rattle.gomod_run.specs.declared.reports.report.Report.{Report}
-use Rattle.gomod_run.specs.declared.reports.report.Report.TheVariants as report
-use Rattle.gomod_run.specs.Outcome.{Outcome, refusal_outcome}
+use Rattle.gomod_texts.specs.declared.reports.report.Refusal.TheVariants as refusal
+use Rattle.gomod_texts.specs.declared.reports.report.Report.{Report}
+use Rattle.gomod_texts.specs.declared.reports.report.Report.TheVariants as report
+use Rattle.gomod_texts.specs.Outcome.{Outcome, refusal_outcome}
 use Rattle.gm_file.specs.Misreading.{IsMisread}
 use Rattle.gm_file.specs.Directives.{Strict}
-use Rattle.gomod_run.specs.Reports.{FaultPlace, main_line, edit_line}
+use Rattle.gomod_texts.specs.Reports.{FaultPlace, main_line, edit_line}
 use Rattle.gm_file_edit.specs.Edits.{Edit}
 use Rattle.gomod_run.specs.Edit.{refusal_of}
-use Rattle.gomod_run.specs.Queries.{AreInvalidSums}
+use Rattle.gomod_texts.specs.Queries.{AreInvalidSums}
 
 -- the report of an operation that can't be parsed
 abbrev pub report_by_op : ℕ → OpFault → Report

@@ -5,8 +5,8 @@ use Rattle.gm_graph.specs.Run.{AskedInTurn}
 use Rattle.gm_store_parts.specs.Asked.{Name, Reply, answer_in, bytes, list_file}
 use Rattle.gm_store_parts.specs.States.{StoreState}
 use Rattle.gm_store.specs.Listed.{AreListed}
-use Rattle.gomod_run.specs.Outcome.{Outcome, failure_outcome, out_of_memory}
-use Rattle.gomod_run.specs.Reports.{device_line}
+use Rattle.gomod_texts.specs.Reports.{device_line}
+use Rattle.gomod_texts.specs.Outcome.{Outcome, failure_outcome, out_of_memory}
 use Rattle.gomod_run.specs.Versions.{IsRefusedList, VersionsEnds, VersionsNeed}
 
 -- What holds of a run of `versions` over a store that had not been asked before, whatever this one answers: each file

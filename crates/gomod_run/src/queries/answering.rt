@@ -5,9 +5,9 @@
 ghost use Rattle.std.specs.Prelude.{◌≡◌, [], IfOk, MatchResult, List, ℕ};
 ghost use Rattle.std.specs.Option.{option_copied};
 ghost use Rattle.std.specs.Str.{IsUtf8};
-ghost use Rattle.gomod_run.specs.FromFaults.{report_by_load};
-ghost use Rattle.gomod_run.specs.Queries.{AreInvalidSums, AreSums};
-ghost use Rattle.gomod_run.specs.Outcome.{OrNoMemory, ended_view, report_outcome, refusal_outcome};
+ghost use Rattle.gomod_texts.specs.FromFaults.{report_by_load};
+ghost use Rattle.gomod_texts.specs.Queries.{AreInvalidSums, AreSums};
+ghost use Rattle.gomod_texts.specs.Outcome.{OrNoMemory, ended_view, report_outcome, refusal_outcome};
 ghost use Rattle.gomod_run.specs.Runs.{ComesTo, command_of};
 ghost use Rattle.gomod_run.specs.Private.Folders.{AreUtf8Folders};
 ghost use Rattle.gomod_run.specs.Private.Found.{IsOutcomeOfFound, PrintsFound};
@@ -16,12 +16,11 @@ use crate::queries::chain::chain_outcome;
 use crate::queries::graph::graph_outcome;
 use crate::queries::list::list_outcome;
 use crate::queries::query::Query;
-use crate::reports::report::Report;
-use crate::text::Text;
 use gm_file::{MainFile, MainModule};
 use gm_graph::{LoadFault, Loaded, load_module};
 use gm_store::Asks;
 use gm_store_sums::SumTable;
+use gomod_texts::{Report, Text};
 use std::alloc::Global;
 
 /// The table of a go.sum, or `None` if no go.sum is given; or the report of its first fault.

@@ -1,16 +1,15 @@
 //! `chain`: the steps of a shortest chain of requirements.
 
 ghost use Rattle.std.specs.Prelude.{◌≡◌, []};
-ghost use Rattle.gomod_run.specs.ChainQuery.{ShowsChain};
+ghost use Rattle.gomod_texts.specs.ChainQuery.{ShowsChain};
 ghost use Rattle.gm_graph_select.specs.Graph.{among};
-ghost use Rattle.gomod_run.specs.Outcome.{OrNoMemory, ended_view};
+ghost use Rattle.gomod_texts.specs.Outcome.{OrNoMemory, ended_view};
 
-use crate::reports::report::Report;
-use crate::text::Text;
 use gm_file::MainModule;
 use gm_graph::Loaded;
 use gm_graph_select::ChainFault;
 use gm_name::ModPath;
+use gomod_texts::{Report, Text};
 use std::alloc::Global;
 
 /// `chain`: the steps, or a report if the path is not in the build list.

@@ -1,13 +1,12 @@
 //! `graph`: the edges of the module graph.
 
 ghost use Rattle.std.specs.Prelude.{◌≡◌};
-ghost use Rattle.gomod_run.specs.GraphQuery.{graph_text};
-ghost use Rattle.gomod_run.specs.Outcome.{OrNoMemory, ended_view, text_outcome};
+ghost use Rattle.gomod_texts.specs.GraphQuery.{graph_text};
+ghost use Rattle.gomod_texts.specs.Outcome.{OrNoMemory, ended_view, text_outcome};
 
-use crate::reports::report::Report;
-use crate::text::Text;
 use gm_file::MainModule;
 use gm_graph::Loaded;
+use gomod_texts::{Report, Text};
 use std::alloc::Global;
 
 /// `graph`: all edges.

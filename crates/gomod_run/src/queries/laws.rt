@@ -2,19 +2,19 @@
 //! contract is a law. A law that names no section of the Go Modules Reference is about a choice of this
 //! program.
 
-ghost use Rattle.gomod_run.specs.QueryLaws.{BuildListIsListed, ListIsBuildList, PrintedChainIsShortest, PrintedPagesJoin};
+ghost use Rattle.gomod_texts.specs.QueryLaws.{BuildListIsListed, ListIsBuildList, PrintedChainIsShortest, PrintedPagesJoin};
 ghost use Rattle.gm_graph.specs.declared.fault.Fault.{Fault};
 ghost use Rattle.gm_graph.specs.Entries.{Entry};
 ghost use Rattle.gm_graph_select.specs.declared.step.Edge.{Edge};
 ghost use Rattle.gm_graph_select.specs.declared.step.Step.{Step};
 ghost use Rattle.gm_name.specs.Path.{IsPath};
 ghost use Rattle.std.specs.Prelude.{List, ℕ};
-ghost use Rattle.gomod_run.specs.ChainQuery.{chain_text};
-ghost use Rattle.gomod_run.specs.GraphQuery.{edge_text, graph_text};
-ghost use Rattle.gomod_run.specs.LineParts.{step_text};
-ghost use Rattle.gomod_run.specs.ListQuery.{list_text, row_text};
-ghost use Rattle.gomod_run.specs.PrintedLines.{HasLines, IsProperEdge, IsProperFault, IsProperRow, IsProperStep, LineIsOfOne, LineSaysOne, RunHasNames, RunHasProperEdges, RunHasProperFaults, RunHasProperRows, RunHasProperSteps, TextSaysAll, fault_text};
-ghost use Rattle.gomod_run.specs.Reports.{faults_text};
+ghost use Rattle.gomod_texts.specs.ChainQuery.{chain_text};
+ghost use Rattle.gomod_texts.specs.GraphQuery.{edge_text, graph_text};
+ghost use Rattle.gomod_texts.specs.LineParts.{step_text};
+ghost use Rattle.gomod_texts.specs.ListQuery.{list_text, row_text};
+ghost use Rattle.gomod_texts.specs.PrintedLines.{HasLines, IsProperEdge, IsProperFault, IsProperRow, IsProperStep, LineIsOfOne, LineSaysOne, RunHasNames, RunHasProperEdges, RunHasProperFaults, RunHasProperRows, RunHasProperSteps, TextSaysAll, fault_text};
+ghost use Rattle.gomod_texts.specs.Reports.{faults_text};
 
 /// When `list` prints, the files of the opened modules are known and have no faults. The text has a row for
 /// the main module and then, in path order, one row for each other path that the main module or an opened

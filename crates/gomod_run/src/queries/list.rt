@@ -2,14 +2,13 @@
 
 ghost use Rattle.std.specs.Prelude.{◌≡◌, ◌<◌, ◌^◌, [], IfErr, IfOk, Option, ℕ, drop, length};
 ghost use Rattle.std.specs.Option.{option_copied};
-ghost use Rattle.gomod_run.specs.ListQuery.{up_to, list_text, PrintsRows};
-ghost use Rattle.gomod_run.specs.Outcome.{OrNoMemory, ended_view, report_outcome, text_outcome};
+ghost use Rattle.gomod_texts.specs.ListQuery.{up_to, list_text, PrintsRows};
+ghost use Rattle.gomod_texts.specs.Outcome.{OrNoMemory, ended_view, report_outcome, text_outcome};
 
-use crate::reports::report::Report;
-use crate::text::Text;
 use gm_file::MainModule;
 use gm_graph::{Loaded, Rows};
 use gm_name::ModPath;
+use gomod_texts::{Report, Text};
 use std::alloc::Global;
 
 /// How many rows there are.

@@ -4,7 +4,7 @@ use Rattle.std.specs.List.{filter_map}
 use Rattle.gm_file_edit.specs.Edits.{edit_in}
 use Rattle.gm_file_edit.proofs.Walking.{drop-next}
 use Rattle.gomod_run.specs.Edit.{EditEnds, lines_after_all, refusals_from}
-use Rattle.gomod_run.specs.Outcome.{OrNoMemory}
+use Rattle.gomod_texts.specs.Outcome.{OrNoMemory}
 use Rattle.gomod_run.proofs.Operations.{all_applied, bad_file, next_lines, next_refusals, one_refused}
 use Rattle.gomod_run.proofs.PassedOn.{passed}
 use Rattle.gomod_run.proofs.edit.edit_outcome.Goals as goal

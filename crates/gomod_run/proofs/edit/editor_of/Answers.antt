@@ -1,5 +1,5 @@
 use Rattle.std.proofs.lemmas.Result.{err_from_is_err_and}
-use Rattle.gomod_run.proofs.MainMisreading.{main_refused}
+use Rattle.gomod_texts.proofs.MainMisreading.{main_refused}
 use Rattle.gomod_run.proofs.edit.editor_of.Goals as goal
 
 pub returns-in_err-main : goal.returns-in_err-main

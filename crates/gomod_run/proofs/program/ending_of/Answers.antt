@@ -1,6 +1,6 @@
 use Rattle.std.proofs.Common.{inr, refl, rules}
 use Rattle.std.proofs.lemmas.Str.{IsUtf8-nil}
-use Rattle.gomod_run.specs.Outcome.{out_of_memory}
+use Rattle.gomod_texts.specs.Outcome.{out_of_memory}
 use Rattle.gomod_run.proofs.Endings.{program_ends, unreadable_ends}
 use Rattle.gomod_run.proofs.program.ending_of.Goals as goal
 

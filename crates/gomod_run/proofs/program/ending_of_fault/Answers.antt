@@ -1,6 +1,6 @@
 use Rattle.std.proofs.Common.{codes}
-use Rattle.gomod_run.proofs.ReportLines.{two_pieces}
-use Rattle.gomod_run.proofs.Takings.{took_piece}
+use Rattle.gomod_texts.proofs.ReportLines.{two_pieces}
+use Rattle.gomod_texts.proofs.Takings.{took_piece}
 use Rattle.gomod_run.proofs.WrittenTexts.{usage_written}
 use Rattle.gomod_run.proofs.program.ending_of_fault.Goals as goal
 

@@ -1,5 +1,5 @@
 use Rattle.std.specs.Option.{option_map}
-use Rattle.gomod_run.specs.Outcome.{ended_view}
+use Rattle.gomod_texts.specs.Outcome.{ended_view}
 use Rattle.gomod_run.proofs.WrittenRuns.{held_written}
 use Rattle.gomod_run.proofs.running.run.Goals as goal
 

@@ -1,5 +1,5 @@
 use Rattle.std.proofs.Common.{◌∙◌, ap, inl, inr}
-use Rattle.gomod_run.specs.Outcome.{text_outcome}
+use Rattle.gomod_texts.specs.Outcome.{text_outcome}
 use Rattle.gomod_run.specs.Versions.{versions_line}
 use Rattle.gomod_run.proofs.PassedOn.{no_memory}
 use Rattle.gomod_run.proofs.versions.shown_line.Goals as goal

@@ -1,5 +1,5 @@
 use Rattle.std.proofs.Common.{ap}
-use Rattle.gomod_run.specs.Outcome.{code_of}
+use Rattle.gomod_texts.specs.Outcome.{code_of}
 use Rattle.gomod_run.proofs.WrittenTexts.{report_cut, report_written}
 use Rattle.gomod_run.proofs.writing.write_report.Goals as goal
 

@@ -2,8 +2,8 @@ use Rattle.std.proofs.Common.{List, length, false, inl, sym, subst, ◌∙◌, �
 use Rattle.std.specs.Bool.{◌==◌}
 use Rattle.gm_graph.specs.declared.fault.Fault.{Fault}
 use Rattle.gomod_run.specs.Private.Found.{IsOutcomeOfFound, PrintsFound}
-use Rattle.gomod_run.specs.Outcome.{refusal_outcome}
-use Rattle.gomod_run.specs.Reports.{faults_text}
+use Rattle.gomod_texts.specs.Outcome.{refusal_outcome}
+use Rattle.gomod_texts.specs.Reports.{faults_text}
 use Rattle.gomod_run.proofs.Faulty.{faults_told}
 use Rattle.gomod_run.proofs.queries.answering.loaded_outcome.Goals as goal
 

@@ -1,4 +1,4 @@
-use Rattle.gomod_run.proofs.RunNames.{run_has_names, run_has_proper_edges, run_has_proper_faults, run_has_proper_rows, run_has_proper_steps}
+use Rattle.gomod_texts.proofs.RunNames.{run_has_names, run_has_proper_edges, run_has_proper_faults, run_has_proper_rows, run_has_proper_steps}
 use Rattle.gomod_run.proofs.queries.laws.a_run_has_names.Goals as goal
 
 pub returns-clause-names : goal.returns-clause-names

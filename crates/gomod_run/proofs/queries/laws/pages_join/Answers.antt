@@ -1,4 +1,4 @@
-use Rattle.gomod_run.proofs.PrintedList.{pages_join}
+use Rattle.gomod_texts.proofs.PrintedList.{pages_join}
 use Rattle.gomod_run.proofs.queries.laws.pages_join.Goals as goal
 
 pub returns : goal.returns

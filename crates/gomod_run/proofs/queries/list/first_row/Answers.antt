@@ -1,7 +1,7 @@
 use Rattle.std.proofs.Common.{ap, refl}
 use Rattle.std.specs.Option.{option_copied}
-use Rattle.gomod_run.specs.ListQuery.{no_path, path_unlisted}
-use Rattle.gomod_run.proofs.PartOfRows.{rest_shown}
+use Rattle.gomod_texts.specs.ListQuery.{no_path, path_unlisted}
+use Rattle.gomod_texts.proofs.PartOfRows.{rest_shown}
 use Rattle.gomod_run.proofs.queries.list.first_row.Goals as goal
 
 pub returns-in-Ok-clause-printed : goal.returns-in-Ok-clause-printed

@@ -1,7 +1,7 @@
 use Rattle.std.proofs.Common.{inl}
 use Rattle.std.specs.Option.{option_copied}
-use Rattle.gomod_run.specs.ListQuery.{PrintsRows}
-use Rattle.gomod_run.specs.Outcome.{OrNoMemory}
+use Rattle.gomod_texts.specs.ListQuery.{PrintsRows}
+use Rattle.gomod_texts.specs.Outcome.{OrNoMemory}
 use Rattle.gomod_run.proofs.PassedOn.{passed_text}
 use Rattle.gomod_run.proofs.queries.list.list_outcome.Goals as goal
 

@@ -1,7 +1,0 @@
-use Rattle.gomod_run.proofs.ReportLines.{module_malformed}
-use Rattle.gomod_run.proofs.reports.lines.give_malformed.Goals as goal
-
-pub returns : goal.returns
-returns g c =
-    rw (module_malformed c.args.path.now c.args.version.now c.args.number.now c.args.word.now)
-    (rw (c.as_str.ensures.text, c.as_str-2.ensures.text) at c.give_line.ensures)

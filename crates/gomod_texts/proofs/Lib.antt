@@ -1,0 +1,15 @@
+pub mod Uniqueness
+pub mod Takings
+pub mod Waiting
+pub mod ReportLines
+pub mod WrittenLines
+pub mod PartOfRows
+pub mod MainMisreading
+pub mod FewOpened
+pub mod OneRead
+pub mod StoresAgree
+pub mod PrintedList
+pub mod FileNames
+pub mod FolderNames
+pub mod RunNames
+pub mod LineNumbers

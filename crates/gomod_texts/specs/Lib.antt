@@ -1,0 +1,13 @@
+pub mod ChainQuery
+pub mod FromFaults
+pub mod GraphQuery
+pub mod LineParts
+pub mod ListQuery
+pub mod Outcome
+pub mod PrintedLines
+pub mod Private
+pub mod Queries
+pub mod QueryLaws
+pub mod Reports
+pub mod Sources
+pub mod Taking
