@@ -12,7 +12,7 @@ use Rattle.gm_store.specs.Listed.{IsListed}
 use Rattle.gm_graph_files.proofs.OneReading.{one_retracted}
 use Rattle.gm_graph_select.proofs.Ascending.{member_head, no_member, one_member}
 use Rattle.gomod_texts.specs.Outcome.{Outcome, text_outcome}
-use Rattle.gomod_run.specs.Versions.{versions_line}
+use Rattle.gomod_outcomes.specs.Versions.{versions_line}
 use Rattle.gomod_texts.proofs.Uniqueness.{latest_once}
 use Rattle.gomod_laws.specs.CounterVersions.{ListedIsMissing, RetractedIsShown, UnretractedIsLeftOut, both_of_a}
 use Rattle.gomod_laws.specs.VersionLaws.{AreUnretracted, LeavesOutRetracted, Retracts}

@@ -24,7 +24,7 @@ use Rattle.gm_file.specs.Main.{IsMainOf}
 use Rattle.gomod_texts.specs.Queries.{longest}
 use Rattle.gomod_texts.specs.Outcome.{text_outcome}
 use Rattle.gomod_texts.proofs.OneRead.{same_lines}
-use Rattle.gomod_run.specs.Edit.{applied, bad_main}
+use Rattle.gomod_outcomes.specs.Edit.{applied, bad_main}
 use Rattle.gomod_laws.specs.EditPairLaws.{EitherOrderChangesNoBuild, UndoneIsFormatted}
 use Rattle.gomod_laws.specs.LineOrderLaws.{HoldTheSame}
 use Rattle.gomod_laws.specs.Runs.{IsEdited}

@@ -20,7 +20,7 @@ use Rattle.gm_file_edit.specs.Kinds.{is_fit}
 use Rattle.gm_file_edit_laws.specs.Laws.{IsEditOf, directives_of}
 use Rattle.gm_file_edit.proofs.EditedSound.{edited-document}
 use Rattle.gm_file_edit.proofs.Written.{written-sound}
-use Rattle.gomod_run.specs.Edit.{applied, bad_main, lines_after_all, edits_outcome, refusal_of, refusals_from}
+use Rattle.gomod_outcomes.specs.Edit.{applied, bad_main, lines_after_all, edits_outcome, refusal_of, refusals_from}
 use Rattle.gomod_texts.specs.Outcome.{Outcome, text_outcome, refusal_outcome}
 use Rattle.gomod_texts.specs.Queries.{longest}
 use Rattle.gomod_texts.specs.Reports.{edit_line}

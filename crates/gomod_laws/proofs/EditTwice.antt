@@ -6,7 +6,7 @@ use Rattle.gm_syntax_words.specs.Tokens.{Placed}
 use Rattle.gm_syntax.specs.Document.{Line}
 use Rattle.gm_file_edit.specs.Edited.{lines_after}
 use Rattle.gm_file_edit_laws.proofs.SecondOperations.{second-operation}
-use Rattle.gomod_run.specs.Edit.{applied, bad_main}
+use Rattle.gomod_outcomes.specs.Edit.{applied, bad_main}
 use Rattle.gomod_texts.specs.Outcome.{Outcome}
 use Rattle.gomod_laws.proofs.FilesOnce.{edit_once}
 use Rattle.gomod_words.specs.declared.usage.Command.TheVariants.{Edit}

@@ -3,7 +3,7 @@ use Rattle.std.proofs.Common.{ℕ, List, [], Option}
 use Rattle.gm_store_parts.specs.Asked.{Name, Reply}
 use Rattle.gomod_texts.specs.Queries.{answers_of, given_of}
 use Rattle.gomod_texts.specs.Outcome.{Outcome}
-use Rattle.gomod_run.specs.Runs.{RunEnds}
+use Rattle.gomod_outcomes.specs.Runs.{RunEnds}
 use Rattle.gomod_words.specs.declared.usage.Command.{Command}
 
 -- what `HasOutcome` says of an outcome, but for its text's being UTF-8

@@ -21,8 +21,8 @@ use Rattle.gm_file.specs.declared.misreading.Misreading.TheVariants as misreadin
 use Rattle.gm_file_edit.specs.Edits.{Edit as Change, edit_in}
 use Rattle.gm_file_edit.proofs.Places.{edited-same}
 use Rattle.gm_store_sums.specs.Sums.{Sums}
-use Rattle.gomod_run.specs.Edit.{EditEnds, applied, bad_main, edits_outcome, lines_after_all, refusals_from}
-use Rattle.gomod_run.specs.Fmt.{FmtEnds, bad_syntax, laid_out}
+use Rattle.gomod_outcomes.specs.Edit.{EditEnds, applied, bad_main, edits_outcome, lines_after_all, refusals_from}
+use Rattle.gomod_outcomes.specs.Fmt.{FmtEnds, bad_syntax, laid_out}
 use Rattle.gomod_texts.specs.Outcome.{Outcome, refusal_outcome, text_outcome}
 use Rattle.gomod_texts.specs.Queries.{AreInvalidSums, AreSums}
 use Rattle.gomod_texts.specs.Reports.{FaultPlace, bad_sum_line, main_line}

@@ -19,17 +19,17 @@ use Rattle.gm_graph.proofs.Exactly.{names_push}
 use Rattle.gm_graph.proofs.RunLemmas.{needed}
 use Rattle.gomod_texts.specs.QueryLaws.{AnswerAlike}
 use Rattle.gomod_texts.specs.Queries.{AreFound, answers_of, given_of}
-use Rattle.gomod_run.specs.Needs.{AnswersByName}
+use Rattle.gomod_outcomes.specs.Needs.{AnswersByName}
 use Rattle.gomod_texts.specs.Outcome.{Outcome}
 use Rattle.gomod_texts.proofs.StoresAgree.{alike_back, stores_agree}
 use Rattle.gomod_words.specs.declared.usage.Command.{Command}
 use Rattle.gomod_words.specs.declared.usage.Command.TheVariants.{Fmt, Edit, Versions}
-use Rattle.gomod_run.specs.Runs.{Needs, is_query}
-use Rattle.gomod_run.specs.Versions.{AreShown, IsLatestListed, VersionsEnds, VersionsNeed, all_listed, not_retracted}
-use Rattle.gomod_run.proofs.AllAsked.{done_answers}
-use Rattle.gomod_run.proofs.Answering.{answered_in}
+use Rattle.gomod_outcomes.specs.Runs.{Needs, is_query}
+use Rattle.gomod_outcomes.specs.Versions.{AreShown, IsLatestListed, VersionsEnds, VersionsNeed, all_listed, not_retracted}
+use Rattle.gomod_outcomes.proofs.AllAsked.{done_answers}
+use Rattle.gomod_outcomes.proofs.Answering.{answered_in}
 use Rattle.gomod_laws.proofs.RunsOnce.{one_for_stores}
-use Rattle.gomod_run.proofs.OneVersions.{alike_itself, none_needed, one_latest, one_listed, same_answer, shown_listed}
+use Rattle.gomod_outcomes.proofs.OneVersions.{alike_itself, none_needed, one_latest, one_listed, same_answer, shown_listed}
 use Rattle.gomod_laws.specs.FolderLaws.{FolderMayAnswer, MoreFoldersChangeNothing}
 use Rattle.gomod_laws.specs.Runs.{HasPrinted}
 use Rattle.gomod_laws.specs.Shown.{run_over}

@@ -12,7 +12,7 @@ use Rattle.gomod_texts.specs.Queries.{longest}
 use Rattle.gomod_texts.specs.Outcome.{Outcome, text_outcome}
 use Rattle.gomod_texts.proofs.OneRead.{same_lines}
 use Rattle.gomod_words.specs.declared.usage.Command.TheVariants.{Fmt}
-use Rattle.gomod_run.specs.Fmt.{FmtEnds, bad_syntax, laid_out}
+use Rattle.gomod_outcomes.specs.Fmt.{FmtEnds, bad_syntax, laid_out}
 use Rattle.gomod_laws.proofs.FilesOnce.{fmt_once}
 use Rattle.gomod_laws.specs.FormattingLaws.{FormattingChangesNoBuild, IsFormatted, LayoutsAreFormatted}
 use Rattle.gomod_laws.proofs.Ended.{Ends}

@@ -6,8 +6,8 @@ use Rattle.gomod_texts.specs.Outcome.{Outcome}
 use Rattle.gomod_texts.specs.QueryLaws.{AnswerAlike}
 use Rattle.gomod_words.specs.declared.usage.Command.{Command}
 use Rattle.gomod_words.specs.declared.usage.Command.TheVariants.{Fmt, Edit, Versions}
-use Rattle.gomod_run.specs.Runs.{is_query}
-use Rattle.gomod_run.specs.Versions.{VersionsEnds}
+use Rattle.gomod_outcomes.specs.Runs.{is_query}
+use Rattle.gomod_outcomes.specs.Versions.{VersionsEnds}
 use Rattle.gomod_laws.specs.LaterLaws.{LaterAsksTheSame, LaterPrintsTheSame, OnlyAddsAnswers}
 use Rattle.gomod_laws.specs.Runs.{HasPrinted}
 use Rattle.gomod_laws.proofs.Ended.{Ends}

@@ -5,9 +5,9 @@ use Rattle.gomod_texts.specs.Outcome.{Outcome}
 use Rattle.gomod_texts.specs.Queries.{Answers, QueryEnds, answers_of, given_of}
 use Rattle.gomod_texts.specs.QueryLaws.{AnswerAlike}
 use Rattle.gomod_words.specs.declared.usage.Command.{Command}
-use Rattle.gomod_run.specs.Runs.{is_query}
-use Rattle.gomod_run.specs.Private.ByCommand.{PrintsOf}
-use Rattle.gomod_run.proofs.QueryParts.{query_ends}
+use Rattle.gomod_outcomes.specs.Runs.{is_query}
+use Rattle.gomod_outcomes.specs.Private.ByCommand.{PrintsOf}
+use Rattle.gomod_outcomes.proofs.QueryParts.{query_ends}
 use Rattle.gomod_laws.proofs.Ended.{Ends}
 use Rattle.gomod_laws.proofs.RunsOnce.{query_once}
 

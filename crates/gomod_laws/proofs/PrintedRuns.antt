@@ -8,9 +8,9 @@ use Rattle.gomod_texts.specs.Queries.{AreFound, Given, Prints, QueryEnds}
 use Rattle.gomod_texts.specs.Outcome.{Outcome}
 use Rattle.gomod_texts.proofs.OneRead.{one_main}
 use Rattle.gomod_texts.proofs.PrintedList.{printed_run}
-use Rattle.gomod_run.proofs.QueryParts.{query_ends}
+use Rattle.gomod_outcomes.proofs.QueryParts.{query_ends}
 use Rattle.gomod_words.specs.declared.usage.Command.{Command}
-use Rattle.gomod_run.specs.Runs.{is_query}
+use Rattle.gomod_outcomes.specs.Runs.{is_query}
 use Rattle.gomod_laws.specs.Runs.{HasPrinted}
 use Rattle.gomod_laws.specs.Shown.{run_over}
 use Rattle.gomod_laws.proofs.Ended.{Ends}

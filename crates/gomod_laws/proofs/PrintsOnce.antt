@@ -22,7 +22,7 @@ use Rattle.gomod_texts.specs.ChainQuery.{ShowsChain, chain_text}
 use Rattle.gomod_texts.specs.GraphQuery.{graph_text}
 use Rattle.gomod_texts.specs.ListQuery.{PrintsRows, list_text, no_path, path_listed, path_unlisted, up_to}
 use Rattle.gomod_texts.specs.Outcome.{Outcome, text_outcome}
-use Rattle.gomod_run.specs.Private.ByCommand.{PrintsOf}
+use Rattle.gomod_outcomes.specs.Private.ByCommand.{PrintsOf}
 use Rattle.gomod_texts.specs.Queries.{IsUnlisted}
 use Rattle.gomod_texts.proofs.FewOpened.{IsFew, edges_listed}
 

@@ -24,7 +24,7 @@ use Rattle.gomod_texts.specs.ListQuery.{list_text, PrintsRows, no_path, path_lis
 use Rattle.gomod_texts.specs.Outcome.{Outcome, text_outcome}
 use Rattle.gomod_texts.specs.Queries.{Answers, AreFound, FilesReadAs, given_of}
 use Rattle.gomod_texts.specs.ChainQuery.{ShowsChain}
-use Rattle.gomod_run.specs.Private.ByCommand.{PrintsOf}
+use Rattle.gomod_outcomes.specs.Private.ByCommand.{PrintsOf}
 use Rattle.gomod_words.specs.declared.usage.Command.{Command}
 use Rattle.gomod_words.specs.declared.usage.Command.TheVariants.{Graph, List as Rows, Chain}
 use Rattle.gomod_laws.proofs.LineOrderSame.{SayTheSame, files_same, says_back, without_same}

@@ -21,16 +21,16 @@ use Rattle.gomod_texts.specs.ChainQuery.{ShowsChain}
 use Rattle.gomod_texts.specs.GraphQuery.{PrintsGraph}
 use Rattle.gomod_texts.specs.ListQuery.{PrintsList}
 use Rattle.gomod_texts.specs.Outcome.{Outcome, failure_outcome, refusal_outcome, text_outcome}
-use Rattle.gomod_run.specs.Private.ByCommand.{PrintsOf}
-use Rattle.gomod_run.specs.Private.Found.{ReportsFaultsOr}
-use Rattle.gomod_run.specs.Private.Refusals.{IsRefusedRead}
+use Rattle.gomod_outcomes.specs.Private.ByCommand.{PrintsOf}
+use Rattle.gomod_outcomes.specs.Private.Found.{ReportsFaultsOr}
+use Rattle.gomod_outcomes.specs.Private.Refusals.{IsRefusedRead}
 use Rattle.gomod_texts.specs.Queries.{AreFound, FilesReadAs, Given, Prints, QueryEnds, no_fault}
 use Rattle.gomod_texts.specs.QueryLaws.{AreAlike}
 use Rattle.gomod_texts.specs.Reports.{FaultPlace, device_line, main_line}
 use Rattle.gomod_texts.proofs.FewOpened.{IsFew}
 use Rattle.gomod_texts.proofs.StoresAgree.{alike_reversed, itself, read_as_well, stores_agree}
 use Rattle.gomod_texts.proofs.PrintedList.{all_rows, not_failed, not_refused, printed_run}
-use Rattle.gomod_run.proofs.QueryParts.{LoadingEnd, Parts, are_read, is_broken, is_known, is_many, parts, unread}
+use Rattle.gomod_outcomes.proofs.QueryParts.{LoadingEnd, Parts, are_read, is_broken, is_known, is_many, parts, unread}
 use Rattle.gomod_laws.specs.DeterminedLaws.{OneForStores, OneGraph, OneOutcome, OneRefusal, PartsOfOneList}
 use Rattle.gomod_laws.proofs.FilesOnce.{edit_once, fmt_once, misread_or_main, misread_or_sums, one_misreport, one_place}
 use Rattle.gomod_laws.proofs.LineOrderSame.{SayTheSame, says_itself}

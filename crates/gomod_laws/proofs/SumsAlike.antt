@@ -18,13 +18,13 @@ use Rattle.gm_graph.proofs.RunLemmas.{RequiresToo, asked_answered, many_too}
 use Rattle.gm_graph_cache.proofs.Sayings.{says_if}
 use Rattle.gomod_texts.specs.QueryLaws.{AnswerAlike}
 use Rattle.gomod_texts.specs.Queries.{AreFound, AreInvalidSums, AreSums, FilesReadAs, QueryEnds, bad_main, bad_sums, device, faulty, longest, no_fault, too_many}
-use Rattle.gomod_run.specs.Needs.{GraphNeeds}
+use Rattle.gomod_outcomes.specs.Needs.{GraphNeeds}
 use Rattle.gomod_texts.specs.Outcome.{Outcome, refusal_outcome}
-use Rattle.gomod_run.specs.Private.ByCommand.{PrintsOf}
+use Rattle.gomod_outcomes.specs.Private.ByCommand.{PrintsOf}
 use Rattle.gomod_texts.specs.Reports.{too_many_line}
-use Rattle.gomod_run.specs.Runs.{is_query}
+use Rattle.gomod_outcomes.specs.Runs.{is_query}
 use Rattle.gomod_texts.proofs.OneRead.{one_main, one_says}
-use Rattle.gomod_run.proofs.QueryParts.{query_ends}
+use Rattle.gomod_outcomes.proofs.QueryParts.{query_ends}
 use Rattle.gomod_words.specs.declared.usage.Command.{Command}
 use Rattle.gomod_laws.proofs.FilesOnce.{misread_or_main}
 use Rattle.gomod_laws.proofs.Ended.{Ends}

@@ -5,7 +5,7 @@ use Rattle.gomod_texts.specs.Outcome.{Outcome}
 use Rattle.gomod_texts.specs.QueryLaws.{AnswerAlike}
 use Rattle.gomod_words.specs.declared.usage.Command.{Command}
 use Rattle.gomod_words.specs.declared.usage.Command.TheVariants.{Fmt, Edit, Versions}
-use Rattle.gomod_run.specs.Runs.{is_query}
+use Rattle.gomod_outcomes.specs.Runs.{is_query}
 use Rattle.gomod_laws.proofs.RunsOnce.{one_for_stores}
 use Rattle.gomod_laws.specs.Shown.{run_over}
 use Rattle.gomod_laws.proofs.Ended.{Ends}

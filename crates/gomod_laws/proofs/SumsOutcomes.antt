@@ -7,13 +7,13 @@ use Rattle.gm_store_sums.specs.declared.sum_table.Sum.TheVariants.{Good}
 use Rattle.gm_graph_files.specs.declared.class.Class.{Class}
 use Rattle.gm_file.specs.Main.{Main}
 use Rattle.gm_graph_files.specs.Reading.{class_of_sum, sum_fault}
-use Rattle.gomod_run.specs.Needs.{GraphNeeds}
-use Rattle.gomod_run.specs.Runs.{is_query}
 use Rattle.gomod_texts.proofs.PrintedList.{printed_run}
 use Rattle.gomod_texts.proofs.OneRead.{one_finding, one_says}
 use Rattle.gomod_texts.specs.Outcome.{Outcome}
 use Rattle.gomod_texts.specs.Queries.{AreFound, AreSums}
-use Rattle.gomod_run.proofs.QueryParts.{query_ends}
+use Rattle.gomod_outcomes.proofs.QueryParts.{query_ends}
+use Rattle.gomod_outcomes.specs.Runs.{is_query}
+use Rattle.gomod_outcomes.specs.Needs.{GraphNeeds}
 use Rattle.gomod_words.specs.declared.usage.Command.{Command}
 use Rattle.gomod_laws.specs.Runs.{HasPrinted}
 use Rattle.gomod_laws.specs.Shown.{run_over}

@@ -5,7 +5,7 @@ use Rattle.std.proofs.lemmas.List.{append_cancel_left}
 use Rattle.gm_version.specs.Version.{IsVersion}
 use Rattle.gm_graph_select.proofs.Ascending.{member_head, member_tail}
 use Rattle.gomod_run.proofs.ListLines.{version_has_no_blank, heads, tails}
-use Rattle.gomod_run.specs.Versions.{versions_line}
+use Rattle.gomod_outcomes.specs.Versions.{versions_line}
 use Rattle.gomod_laws.specs.VersionLaws.{LineSaysVersions}
 use Rattle.gomod_laws.proofs.PrintedRow.{IsStop, IsWhole, cut_whole}
 use Rattle.gm_file_edit.proofs.NoLineFeeds.{version-plain}

@@ -5,9 +5,9 @@ use Rattle.gm_name.specs.Path.{is_fetchable}
 use Rattle.gm_store_parts.specs.Asked.{Name, Reply, answer_in, bytes, bytes_in, list_file}
 use Rattle.gm_store.specs.Listed.{AreListed}
 use Rattle.gomod_texts.specs.Outcome.{Outcome, text_outcome}
-use Rattle.gomod_run.specs.Needs.{AnswersByName}
-use Rattle.gomod_run.specs.Versions.{AreShown, HasListed, VersionsEnds, all_listed, bad_file, device, list_refusal, no_list, not_retracted, printed, versions_line}
-use Rattle.gomod_run.proofs.AllAsked.{refusal_status}
+use Rattle.gomod_outcomes.specs.Needs.{AnswersByName}
+use Rattle.gomod_outcomes.specs.Versions.{AreShown, HasListed, VersionsEnds, all_listed, bad_file, device, list_refusal, no_list, not_retracted, printed, versions_line}
+use Rattle.gomod_outcomes.proofs.AllAsked.{refusal_status}
 use Rattle.gomod_texts.proofs.Uniqueness.{listed_once}
 use Rattle.gomod_laws.specs.Runs.{HasPrinted}
 use Rattle.gomod_laws.specs.VersionLaws.{AreUnretracted, RetractedAreLeftOut}

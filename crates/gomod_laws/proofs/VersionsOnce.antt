@@ -9,11 +9,11 @@ use Rattle.gm_graph_files.proofs.OneReading.{one_reading, one_retracted}
 use Rattle.gm_graph_files.specs.Reading.{AreRetractedBy}
 use Rattle.gm_graph_files.specs.declared.class.Class.{Class}
 use Rattle.gm_store_parts.specs.Asked.{Name, Reply, bytes, list_file, mod_file}
-use Rattle.gomod_run.specs.Needs.{AnswersByName}
 use Rattle.gomod_texts.specs.Reports.{device_line, fault_line}
 use Rattle.gomod_texts.specs.Outcome.{Outcome, failure_outcome, refusal_outcome, text_outcome}
-use Rattle.gomod_run.specs.Versions.{HasListed, IsRefusedList, LatestSays, VersionsEnds, all_listed, bad_file, device, list_refusal, no_list, not_retracted, printed, versions_line}
-use Rattle.gomod_run.proofs.OneVersions.{NeededAlike, none_needed, one_latest, one_listed, unrefused}
+use Rattle.gomod_outcomes.proofs.OneVersions.{NeededAlike, none_needed, one_latest, one_listed, unrefused}
+use Rattle.gomod_outcomes.specs.Versions.{HasListed, IsRefusedList, LatestSays, VersionsEnds, all_listed, bad_file, device, list_refusal, no_list, not_retracted, printed, versions_line}
+use Rattle.gomod_outcomes.specs.Needs.{AnswersByName}
 
 -- an outcome that comes first, if there is one; otherwise the rest says what comes
 abbrev FirstOr : Option Outcome → Type 0 → Outcome → Type 0

@@ -17,7 +17,7 @@ use Rattle.gomod_texts.specs.ListQuery.{ListEnds, PrintsRows, list_text}
 use Rattle.gomod_texts.specs.Outcome.{Outcome, code_of, text_outcome}
 use Rattle.gomod_texts.specs.Queries.{AreFound, Given}
 use Rattle.gomod_texts.specs.QueryLaws.{AreAlike}
-use Rattle.gomod_run.specs.Runs.{RunEnds}
+use Rattle.gomod_outcomes.specs.Runs.{RunEnds}
 
 -- ---- any command
 

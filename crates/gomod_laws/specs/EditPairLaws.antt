@@ -17,7 +17,7 @@ use Rattle.gomod_texts.specs.QueryLaws.{AnswerAlike}
 use Rattle.gomod_words.specs.Usage.{texts_in}
 use Rattle.gomod_words.specs.declared.usage.Command.{Command}
 use Rattle.gomod_words.specs.declared.usage.Command.TheVariants.{Fmt, Edit}
-use Rattle.gomod_run.specs.Runs.{is_query}
+use Rattle.gomod_outcomes.specs.Runs.{is_query}
 use Rattle.gomod_laws.specs.Runs.{HasOutcome, IsEdited}
 
 -- ---- an operation undone

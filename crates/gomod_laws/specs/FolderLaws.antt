@@ -8,7 +8,7 @@ use Rattle.gm_store.specs.FolderLookups.{MayAnswerFrom, lookup_results}
 use Rattle.gomod_texts.specs.Outcome.{Outcome}
 use Rattle.gm_graph.specs.Run.{AskedInTurn}
 use Rattle.gomod_words.specs.declared.usage.Command.{Command}
-use Rattle.gomod_run.specs.Runs.{Needs}
+use Rattle.gomod_outcomes.specs.Runs.{Needs}
 use Rattle.gomod_laws.specs.Runs.{HasOutcome, HasPrinted}
 
 -- what may come of asking folders in memory for a name, with these marks between the proxy folders: an answer, or none

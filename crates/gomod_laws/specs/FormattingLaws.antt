@@ -7,7 +7,7 @@ use Rattle.gomod_texts.specs.Queries.{longest}
 use Rattle.gomod_texts.specs.Outcome.{Outcome, text_outcome}
 use Rattle.gomod_words.specs.declared.usage.Command.{Command}
 use Rattle.gomod_words.specs.declared.usage.Command.TheVariants.{Fmt}
-use Rattle.gomod_run.specs.Runs.{is_query}
+use Rattle.gomod_outcomes.specs.Runs.{is_query}
 use Rattle.gomod_laws.specs.Runs.{HasOutcome}
 
 -- `fmt` prints this text of a file with these bytes

@@ -4,7 +4,7 @@ use Rattle.gm_store_parts.specs.Asked.{Name, Reply, absent, answer_in}
 use Rattle.gomod_texts.specs.Outcome.{Outcome}
 use Rattle.gm_graph.specs.Run.{AskedInTurn}
 use Rattle.gomod_words.specs.declared.usage.Command.{Command}
-use Rattle.gomod_run.specs.Runs.{Needs}
+use Rattle.gomod_outcomes.specs.Runs.{Needs}
 use Rattle.gomod_laws.specs.FolderLaws.{AskForTheSame}
 use Rattle.gomod_laws.specs.Runs.{HasOutcome, HasPrinted}
 

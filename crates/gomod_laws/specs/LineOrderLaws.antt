@@ -10,7 +10,7 @@ use Rattle.gm_file.specs.Main.{IsMainOf}
 use Rattle.gomod_texts.specs.Outcome.{Outcome}
 use Rattle.gomod_texts.specs.QueryLaws.{AnswerAlike}
 use Rattle.gomod_words.specs.declared.usage.Command.{Command}
-use Rattle.gomod_run.specs.Runs.{is_query}
+use Rattle.gomod_outcomes.specs.Runs.{is_query}
 use Rattle.gomod_laws.specs.Runs.{HasOutcome}
 
 -- Two main files hold the same directives, in whatever order, in whatever blocks, and however often.

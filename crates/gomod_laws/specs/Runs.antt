@@ -6,7 +6,7 @@ use Rattle.gomod_words.specs.declared.usage.Command.{Command}
 use Rattle.gomod_words.specs.declared.usage.Command.TheVariants.{Edit}
 use Rattle.gomod_texts.specs.Queries.{answers_of, given_of}
 use Rattle.gomod_texts.specs.Outcome.{Outcome, text_outcome}
-use Rattle.gomod_run.specs.Runs.{RunEnds}
+use Rattle.gomod_outcomes.specs.Runs.{RunEnds}
 use Rattle.std.specs.Str.{IsUtf8}
 
 -- The command, over the bytes of a main file, those of a go.sum where one is given, and a store that gave these

@@ -8,7 +8,7 @@ use Rattle.gm_store_sums.specs.Sums.{HasValidLines, SaysOfHash}
 use Rattle.gm_store_sums.specs.declared.sum_table.Sum.TheVariants.{Good}
 use Rattle.gomod_texts.specs.QueryLaws.{AnswerAlike}
 use Rattle.gomod_texts.specs.Queries.{longest}
-use Rattle.gomod_run.specs.Needs.{GraphNeeds}
+use Rattle.gomod_outcomes.specs.Needs.{GraphNeeds}
 use Rattle.gomod_texts.specs.Outcome.{Outcome}
 use Rattle.gomod_words.specs.declared.usage.Command.{Command}
 use Rattle.gomod_laws.specs.Runs.{HasOutcome, HasPrinted}

@@ -12,7 +12,7 @@ use Rattle.gm_graph_files.specs.Reading.{AreRetractedBy, IsFileReading}
 use Rattle.gomod_texts.specs.Outcome.{Outcome, text_outcome}
 use Rattle.gomod_texts.specs.QueryLaws.{AnswerAlike}
 use Rattle.gomod_words.specs.declared.usage.Command.TheVariants.{Versions}
-use Rattle.gomod_run.specs.Versions.{versions_line}
+use Rattle.gomod_outcomes.specs.Versions.{versions_line}
 use Rattle.gomod_laws.specs.Runs.{HasOutcome, HasPrinted}
 
 -- The store answered for the list file of the path, and these are the versions that the list names: those that are

@@ -16,7 +16,7 @@ use Rattle.gomod_texts.specs.Outcome.{OrNoMemory, Outcome, code_of, report_outco
 use Rattle.gomod_texts.specs.declared.reports.report.Report.{Report}
 use Rattle.gomod_texts.specs.declared.reports.status.Status.{Status}
 use Rattle.gomod_run.specs.Program.{AreAnswersBy, IsInput, file_in_memory, sums_input}
-use Rattle.gomod_run.specs.Runs.{is_query, answers_between}
+use Rattle.gomod_outcomes.specs.Runs.{is_query, answers_between}
 use Rattle.gomod_run.specs.Written.{EndsAsStated, IsWritten}
 use Rattle.gomod_run.specs.Private.Stopped.{EndsOrStops}
 

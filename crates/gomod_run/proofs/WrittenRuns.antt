@@ -5,7 +5,7 @@ use Rattle.gm_store.specs.States.{StoreState}
 use Rattle.gm_store.specs.Taken.{SinkState}
 use Rattle.gomod_texts.specs.Outcome.{Outcome, failure_outcome}
 use Rattle.gomod_texts.specs.Reports.{device_line}
-use Rattle.gomod_run.specs.Runs.{HoldsAtAnyEnd}
+use Rattle.gomod_outcomes.specs.Runs.{HoldsAtAnyEnd}
 use Rattle.gomod_run.specs.Written.{IsWritten}
 use Rattle.gomod_run.proofs.WrittenTexts.{written_as}
 use Rattle.gomod_words.specs.declared.usage.Command.{Command}

@@ -1,9 +1,4 @@
-pub mod Edit
-pub mod Fmt
 pub mod Laws
-pub mod Needs
 pub mod Private
 pub mod Program
-pub mod Runs
-pub mod Versions
 pub mod Written

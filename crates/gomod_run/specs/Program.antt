@@ -21,7 +21,7 @@ use Rattle.gomod_texts.specs.Outcome.{Outcome, code_of, failure_outcome, out_of_
 use Rattle.gomod_texts.specs.Reports.{cannot_read_line}
 use Rattle.gomod_run.specs.declared.ending.Ending.{Ending}
 use Rattle.gomod_run.specs.declared.ending.Ending.TheVariants.{Run, Usage}
-use Rattle.gomod_run.specs.Runs.{RunEnds, is_query}
+use Rattle.gomod_outcomes.specs.Runs.{RunEnds, is_query}
 
 -- the report of a usage error, which no run ends with
 abbrev pub usage_error : List ℕ → Outcome

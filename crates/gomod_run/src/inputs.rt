@@ -8,7 +8,7 @@ ghost use Rattle.gm_store_parts.specs.Openings.{MayRead};
 ghost use Rattle.gm_store_parts.specs.declared.fallback.proxy_list.ProxyList.{ProxyList};
 ghost use Rattle.gomod_texts.specs.Outcome.{OrNoMemory, report_outcome};
 ghost use Rattle.gomod_run.specs.Program.{FileGives, IsInput, CommandEnds, IsUnread, bytes_read, main_input, sums_input, versions_path};
-ghost use Rattle.gomod_run.specs.Runs.{is_query};
+ghost use Rattle.gomod_outcomes.specs.Runs.{is_query};
 
 use gomod_texts::Report;
 use gm_name::ModPath;

@@ -9,27 +9,21 @@
 //! `example.com/p v1.9.0 v1.10.0` and exits with status 0.
 #![tactic(auto)]
 
-mod asking;
 mod command;
-mod commands;
-mod edit;
 mod ending;
-mod fmt;
 mod inputs;
 pub mod laws;
 mod program;
 pub mod queries;
 mod running;
 mod stores;
-mod versions;
 mod writing;
 
 pub use crate::ending::Ending;
 pub use crate::program::{ending_of, ending_of_words, exit_code};
-pub use crate::queries::answering::answer;
-pub use crate::queries::query::Query;
 pub use crate::running::run;
 pub use gm_file::Misreading;
 pub use gm_graph::{Class, Fault};
+pub use gomod_outcomes::{Query, answer};
 pub use gomod_texts::{Refusal, Report, Status, Text, write_line};
 pub use gomod_words::{Command, Places, UsageFault, read_words};

@@ -3,12 +3,12 @@
 ghost use Rattle.std.specs.Prelude.{◌≡◌, [], None, false};
 ghost use Rattle.std.specs.Option.{option_map};
 ghost use Rattle.gomod_texts.specs.Outcome.{code_of};
-ghost use Rattle.gomod_run.specs.Runs.{HoldsAtAnyEnd, RunEnds, is_query, run_between};
+ghost use Rattle.gomod_outcomes.specs.Runs.{HoldsAtAnyEnd, RunEnds, is_query, run_between};
 ghost use Rattle.gomod_run.specs.Written.{EndsAsStated, IsWritten};
 
-use crate::commands::outcome;
 use crate::writing::write_outcome;
 use gm_store::{Asks, Sink};
+use gomod_outcomes::outcome;
 use gomod_texts::Status;
 use gomod_words::Command;
 use std::alloc::Global;

@@ -1,4 +1,4 @@
--- A copy from crates/gomod_run/specs/Edit.antt, which tools/check/headline.py writes.
+-- A copy from crates/gomod_outcomes/specs/Edit.antt, which tools/check/headline.py writes.
 use Rattle.std.specs.Prelude.{◌≡◌, ◌++◌, ◌∷◌, ◌+◌, ℕ, List, [], Option, Some, None, codes, if◌then◌else◌}
 use Rattle.std.specs.List.{filter_map, fold}
 use Rattle.std.specs.Option.{option_map, option_to_list}

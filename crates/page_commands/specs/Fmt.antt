@@ -1,4 +1,4 @@
--- A copy from crates/gomod_run/specs/Fmt.antt, which tools/check/headline.py writes.
+-- A copy from crates/gomod_outcomes/specs/Fmt.antt, which tools/check/headline.py writes.
 use Rattle.std.specs.Prelude.{◌≡◌, ℕ, List, Ok, Err, Some}
 use Rattle.page_commands.specs.Types.SyntaxFault.{SyntaxFault}
 use Rattle.page_commands.specs.Tokens.{Placed}

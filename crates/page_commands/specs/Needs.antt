@@ -1,4 +1,4 @@
--- A copy from crates/gomod_run/specs/Needs.antt, which tools/check/headline.py writes.
+-- A copy from crates/gomod_outcomes/specs/Needs.antt, which tools/check/headline.py writes.
 use Rattle.std.specs.Prelude.{Option}
 use Rattle.page_commands.specs.Asked.{Name, Reply}
 

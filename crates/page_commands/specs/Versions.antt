@@ -1,4 +1,4 @@
--- A copy from crates/gomod_run/specs/Versions.antt, which tools/check/headline.py writes.
+-- A copy from crates/gomod_outcomes/specs/Versions.antt, which tools/check/headline.py writes.
 use Rattle.std.specs.Prelude.{◌≡◌, ◌⊎◌, ◌++◌, ◌∷◌, ℕ, Bool, List, [], Option, Some, None, Result, Ok, Err, codes, true, false}
 use Rattle.std.specs.List.{join_with_byte}
 use Rattle.page_commands.specs.Path.{is_fetchable}

@@ -2,7 +2,7 @@
 
 ghost use Rattle.std.specs.Prelude.{◌≡◌, [], None, false, true};
 ghost use Rattle.std.specs.Option.{option_map};
-ghost use Rattle.gomod_run.specs.Runs.{is_query};
+ghost use Rattle.gomod_outcomes.specs.Runs.{is_query};
 
 use gm_name::ModPath;
 use gm_store::{FileName, Files, MemoryFiles, ProxyList};

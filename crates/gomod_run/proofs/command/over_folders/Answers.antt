@@ -3,7 +3,7 @@ use Rattle.std.specs.String.{string_bytes}
 use Rattle.gm_store.specs.Views.{fallback_state}
 use Rattle.gomod_run.specs.Program.{runs}
 use Rattle.gomod_texts.specs.declared.reports.report.Report.TheVariants.{NoMemory}
-use Rattle.gomod_run.specs.Runs.{answers_between}
+use Rattle.gomod_outcomes.specs.Runs.{answers_between}
 use Rattle.gomod_run.proofs.Endings.{ends_weaken}
 use Rattle.gomod_run.proofs.CommandRuns.{are_its_own, answers_allowed, stopped}
 use Rattle.gomod_run.proofs.command.over_folders.Goals as goal

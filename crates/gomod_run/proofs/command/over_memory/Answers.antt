@@ -1,7 +1,7 @@
 use Rattle.std.proofs.Common.{◌∙◌, None, inl, inr, refl}
 use Rattle.gm_store_parts.specs.Memory.{memory_files_state}
 use Rattle.gomod_run.specs.Program.{no_list, runs, versions_path}
-use Rattle.gomod_run.specs.Runs.{answers_between}
+use Rattle.gomod_outcomes.specs.Runs.{answers_between}
 use Rattle.gomod_run.proofs.Endings.{ends_weaken}
 use Rattle.gomod_run.proofs.CommandRuns.{are_its_own, answers_allowed, memory_allowed, stopped}
 use Rattle.gomod_run.proofs.command.over_memory.Goals as goal

@@ -1,0 +1,13 @@
+pub mod AllAsked
+pub mod Answering
+pub mod Misread
+pub mod Operations
+pub mod Joining
+pub mod OneVersions
+pub mod PassedOn
+pub mod VersionsSteps
+pub mod Utf8Texts
+pub mod InTurn
+pub mod CommandOutcomes
+pub mod Faulty
+pub mod QueryParts

@@ -1,4 +1,0 @@
-use Rattle.gomod_run.proofs.queries.answering.query_outcome.Goals as goal
-
-pub returns-in-List : goal.returns-in-List
-returns-in-List c = rw c.in-List.is c.list_outcome.ensures
