@@ -1,6 +1,6 @@
 //! A word of a command line: whether it has a dash in front, and what it has in it.
 
-ghost use Rattle.std.specs.Prelude.{◌≡◌, true};
+ghost use Rattle.std.specs.Prelude.{◌≡◌, ◌↔◌, true};
 ghost use Rattle.std.specs.Str.Iter.{HasSubslice};
 ghost use Rattle.clap.specs.Lexer.{without_minus};
 ghost use Rattle.gomod_hints.specs.Hints.{begins_with_dash};
@@ -21,7 +21,7 @@ pub fn without_dash(word: &str) -> &str
 
 /// Whether a word has this text in it.
 pub fn has_text(word: &str, text: &str) -> bool
-    ensures { result ≡ true → HasSubslice word.now text.now }
+    ensures { (result ≡ true) ↔ HasSubslice word.now text.now }
 {
     word.contains(text)
 }
