@@ -70,9 +70,9 @@ def wrong_rows(rows, names):
 
 def hints():
     """The names of each row of the tables of hints, and the strings of its text."""
-    for row in read(HINTS).partition("\nconst ")[2].rpartition("\n];")[0].split("hint!(")[1:]:
-        names, _, text = row.partition(";")
-        yield re.findall(r'"([^"]*)"', names), [it.replace("\\n", "\n") for it in re.findall(r'"([^"]*)"', text)]
+    for row in read(HINTS).partition("\nconst ")[2].rpartition("\n];")[0].split("\n    (")[1:]:
+        names, *texts = re.findall(r'"([^"]*)"', row)
+        yield names.split(), [it.replace("\\n", "\n") for it in texts]
 
 
 def wrong_hints():

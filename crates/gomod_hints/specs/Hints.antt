@@ -2,7 +2,7 @@
 use Rattle.std.specs.Prelude.{◌≡◌, ◌⊎◌, ◌==◌, ◌++◌, ◌&&◌, ◌∷◌, ◌<◌, ◌≤◌, nat_lt, if◌then◌else◌, Bool, IfOk, IfSome, List, Option, Result, codes, length, map, true, false}
 use Rattle.std.specs.Borrow.{Bor}
 use Rattle.std.specs.Char.{to_ascii_lowercase}
-use Rattle.std.specs.List.{Contains, before_first}
+use Rattle.std.specs.List.{Contains, before_first, slice_split}
 use Rattle.std.specs.Str.{chars}
 use Rattle.std.specs.Str.Iter.{HasSubslice}
 use Rattle.strsim.specs.Edits.{osa_table}
@@ -10,17 +10,21 @@ use Rattle.clap.specs.Lexer.{without_minus}
 use Rattle.clap.specs.Walk.{Text}
 use Rattle.gomod_hints.specs.declared.hints.TheConstants.{HINTS, OTHER_HINTS}
 
--- a table: for each row the names that it is for, and what it says
+-- a table: for each row the names that it is for, with a space (32) between two, and what it says
 abbrev pub Rows : Type 0
-Rows = List (List Text × Text)
+Rows = List (Text × Text)
+
+-- the names in a text
+abbrev pub split_names : Text → List Text
+split_names names = slice_split (λ b. b == 32) names
 
 -- the first table of hints
 unfoldable pub hints : Rows
-hints = map (λ row. (map (λ name. name.now) row.0.now, row.1.now)) HINTS
+hints = map (λ row. (row.0.now, row.1.now)) HINTS
 
 -- the other table
 unfoldable pub other_hints : Rows
-other_hints = map (λ row. (map (λ name. name.now) row.0.now, row.1.now)) OTHER_HINTS
+other_hints = map (λ row. (row.0.now, row.1.now)) OTHER_HINTS
 
 -- the word begins with a dash (45) and is more than that
 abbrev pub begins_with_dash : Text → Bool
@@ -53,32 +57,38 @@ abbrev pub IsAlike : Bool → Text → Text → Type 0
 IsAlike false key name = key ≡ name
 IsAlike true key name = IsNear key name
 
--- a row says this that has a name like the key, aside from an operation's `=`
-abbrev pub HasSaidIn : Rows → Bool → Text → Text → Type 0
-HasSaidIn rows is_near key hint = (names : List Text) × (name : Text) × Contains rows (names, hint)
-    × Contains names name × IsAlike is_near key (name_before name)
+-- One of these names is like the key, aside from an operation's `=`. Without operations it has no `=`.
+abbrev pub HasName : List Text → Bool → Bool → Text → Type 0
+HasName names operations is_near key = (name : Text) × Contains names name
+    × ((operations ≡ true) ⊎ (name_before name ≡ name)) × IsAlike is_near key (name_before name)
+
+-- a row says this that has a name like the key
+abbrev pub HasSaidIn : Rows → Bool → Bool → Text → Text → Type 0
+HasSaidIn rows operations is_near key hint =
+    (names : Text) × Contains rows (names, hint) × HasName (split_names names) operations is_near key
 
 -- one of the tables says this
-abbrev pub HasSaid : Bool → Text → Text → Type 0
-HasSaid is_near key hint = HasSaidIn hints is_near key hint ⊎ HasSaidIn other_hints is_near key hint
+abbrev pub HasSaid : Bool → Bool → Text → Text → Type 0
+HasSaid operations is_near key hint =
+    HasSaidIn hints operations is_near key hint ⊎ HasSaidIn other_hints operations is_near key hint
 
 -- the name by which the table has the words that have a text in them: the text between two `*`
 abbrev pub IsForm : Text → Text → Type 0
 IsForm word form = (part : Text) × HasSubslice word part × (form ≡ codes "*" ++ part ++ codes "*")
 
 -- the tables say this of a word: by its key, by its form, or by a name that is near to the key
-abbrev pub IsHintFor : Text → Text → Type 0
-IsHintFor word hint = HasSaid false (key_of word) hint
-    ⊎ ((form : Text) × IsForm word form × HasSaid false form hint)
-    ⊎ HasSaid true (key_of word) hint
+abbrev pub IsHintFor : Bool → Text → Text → Type 0
+IsHintFor operations word hint = HasSaid operations false (key_of word) hint
+    ⊎ ((form : Text) × IsForm word form × HasSaid operations false form hint)
+    ⊎ HasSaid operations true (key_of word) hint
 
 -- the words of a command line
 abbrev pub texts_of : List (Bor Text) → List Text
 texts_of words = map (λ word. word.now) words
 
--- the tables say this of one of these words
-abbrev pub IsHintOf : List Text → Text → Type 0
-IsHintOf words hint = (word : Text) × Contains words word × IsHintFor word hint
+-- the tables say this of one of these words, among which there may be operations
+abbrev pub IsHintOf : Bool → List Text → Text → Type 0
+IsHintOf operations words hint = (word : Text) × Contains words word × IsHintFor operations word hint
 
 -- what is said, if anything is, is this
 abbrev pub Advises : {E : Type 0} → (Text → Type 0) → Result (Option (Bor Text)) E → Type 0

@@ -5,19 +5,11 @@ ghost use Rattle.std.specs.Prelude.{◌≡◌, IfOk, IfSome, true};
 ghost use Rattle.std.specs.List.{Contains};
 ghost use Rattle.std.specs.String.{string_bytes};
 ghost use Rattle.gomod_hints.specs.Private.Hints.{rows_in};
-ghost use Rattle.gomod_hints.specs.Hints.{Advises, HasSaid, HasSaidIn, IsAlike, IsForm, IsHintFor, IsHintOf, hints, key_of, name_before, other_hints, texts_of, without_second_dash};
+ghost use Rattle.gomod_hints.specs.Hints.{Advises, HasName, HasSaid, HasSaidIn, IsAlike, IsForm, IsHintFor, IsHintOf, hints, key_of, name_before, other_hints, split_names, texts_of, without_second_dash};
 
 use crate::word::{begins_with_dash, has_text, without_dash};
 use std::alloc::{AllocError, Global};
 use strsim::osa_distance;
-
-/// A row: the names that it is for, and what is said. A name is a word up to its first `=`, with one dash for two. One
-/// that ends with `=` is an operation's, for `edit` and in the place of a command. One with `*` is a form.
-macro_rules! hint {
-    ($($name:literal)*; $text:expr) => {
-        (&[$($name),*], $text)
-    };
-}
 
 /// What words do with the module cache after them, and where that is.
 macro_rules! over_cache {
@@ -39,105 +31,228 @@ macro_rules! operation {
     };
 }
 
-/// The rows for the commands and options of gomod. Of rows with one name the first counts, of both tables.
-const HINTS: [(&[&str], &str); 21] = [
-    hint!("fmt" "format" "gofmt" "cat" "parse"; "'gomod fmt go.mod' prints the file, formatted"),
-    hint!("edit" "set" "modify" "change";
-        "'gomod edit go.mod require=PATH@VERSION' prints the changed file\n       'gomod edit --help' lists the operations"),
-    hint!("graph" "tree" "-tree" "-graph"; over_cache!("gomod graph --proxy", "prints the module graph")),
-    hint!("list" "ls" "lst" "all" "deps" "dependencies" "modules" "requirements" "build-list" "resolve"
-        "freeze" "-deps" "-list";
-        over_cache!("gomod list --proxy", "lists all modules")),
-    hint!("chain" "why" "explain" "reason" "path" "show" "info" "view" "-why" "-invert" "-from" "-to";
-        over_cache!("gomod chain PATH --proxy", "prints why a module is listed")),
-    hint!("versions" "list-versions" "latest" "search" "-versions" "-latest";
-        over_cache!("gomod versions PATH --proxy", "lists those there, with --retracted all")),
-    hint!("-a" "-all"; "list prints all modules, and versions with --retracted all versions"),
-    hint!("-proxy" "-p" "-goproxy" "-cache" "-modcache" "-proxy-dir" "-gomodcache"
-        "-offline" "proxy" "goproxy" "cache";
-        over_cache!("--proxy", "after graph, list, chain or versions has the go.mod files")),
-    hint!("-mod" "-vendor";
-        "'--mod FILE' after graph, list or chain names the main file\n       go's -mod=mod and -mod=vendor have no form here"),
-    hint!("-modfile";
-        "'--mod FILE' after graph, list or chain names the main file\n       its replace folders begin at the folder of FILE, and with go's -modfile at the module's root"),
-    hint!("-sum" "-sums" "-gosum" "-verify" "sum";
-        "'--sum go.sum' checks the go.mod files that graph, list and chain read"),
-    hint!("-after" "-skip";
-        "'--after PATH' makes list begin after the row of that module"),
-    hint!("-limit" "-n" "-1" "-5" "-10" "-max" "-count" "-top" "-head" "-first";
-        "'--limit N' makes list print at most N rows; without it there is no limit"),
-    hint!("-m";
-        "'gomod list --proxy DIR', without -m, is like 'go list -m all',\n       and 'gomod versions PATH --proxy DIR' like 'go list -m -versions PATH'"),
-    hint!("-C" "-dir" "-cwd" "-chdir" "-root" "-workdir"; "gomod works in the current folder: 'cd DIR' first"),
-    hint!("-w" "-write" "-in-place" "-i" "-force";
-        "gomod changes no file: add '> go.mod.new && mv go.mod.new go.mod' to fmt or edit"),
-    hint!("-print" "-fmt" "-stdout" "-dry-run" "print";
-        "fmt and edit print the file, formatted, and change none: 'gomod fmt go.mod'"),
-    hint!("check" "diff" "lint" "validate" "-d" "-diff" "-check" "-l";
-        "'gomod fmt go.mod | diff go.mod -' shows what is not formatted; list and graph check more"),
-    hint!("-o" "-output" "-out"; "output goes to standard output: '> NEW' at the end writes it to a new file"),
-    hint!("-" "-stdin";
-        "'gomod fmt -', 'gomod edit - OP', '--mod -' and '--sum -' read standard input,\n       and so does 'gomod versions PATH' without --proxy"),
-    hint!("-json" "-format" "-f" "-csv" "-yaml" "-cyclonedx" "-dot"
-        "-svg" "json" "metadata" "sbom" "licenses" "vuln" "dot" "graphviz";
-        "gomod prints rows: docs/use/RECIPES.md makes JSON, a picture, and CycloneDX for other tools of them\n       'go mod edit -json' prints one go.mod file as JSON"),
+/// The rows for the commands and options of gomod: the names that each is for, and what is said. A name is a word up to
+/// its first `=`, with one dash for two. One that ends with `=` is an operation's, for `edit` and in the place of a
+/// command. One with `*` is a form. Of rows with one name the first counts, of both tables.
+const HINTS: [(&str, &str); 21] = [
+    (
+        "fmt format gofmt cat parse",
+        "'gomod fmt go.mod' prints the file, formatted",
+    ),
+    (
+        "edit set modify change",
+        "'gomod edit go.mod require=PATH@VERSION' prints the changed file\n       'gomod edit --help' lists the operations",
+    ),
+    (
+        "graph tree -tree -graph",
+        over_cache!("gomod graph --proxy", "prints the module graph"),
+    ),
+    (
+        "list ls lst all deps dependencies modules requirements build-list resolve freeze -deps -list",
+        over_cache!("gomod list --proxy", "lists all modules"),
+    ),
+    (
+        "chain why explain reason path show info view -why -invert -from -to",
+        over_cache!("gomod chain PATH --proxy", "prints why a module is listed"),
+    ),
+    (
+        "versions list-versions latest search -versions -latest",
+        over_cache!(
+            "gomod versions PATH --proxy",
+            "lists those there, with --retracted all"
+        ),
+    ),
+    (
+        "-a -all",
+        "list prints all modules, and versions with --retracted all versions",
+    ),
+    (
+        "-proxy -p -goproxy -cache -modcache -proxy-dir -gomodcache -offline proxy goproxy cache",
+        over_cache!(
+            "--proxy",
+            "after graph, list, chain or versions has the go.mod files"
+        ),
+    ),
+    (
+        "-mod -vendor",
+        "'--mod FILE' after graph, list or chain names the main file\n       go's -mod=mod and -mod=vendor have no form here",
+    ),
+    (
+        "-modfile",
+        "'--mod FILE' after graph, list or chain names the main file\n       its replace folders begin at the folder of FILE, and with go's -modfile at the module's root",
+    ),
+    (
+        "-sum -sums -gosum -verify sum",
+        "'--sum go.sum' checks the go.mod files that graph, list and chain read",
+    ),
+    (
+        "-after -skip",
+        "'--after PATH' makes list begin after the row of that module",
+    ),
+    (
+        "-limit -n -1 -5 -10 -max -count -top -head -first",
+        "'--limit N' makes list print at most N rows; without it there is no limit",
+    ),
+    (
+        "-m",
+        "'gomod list --proxy DIR', without -m, is like 'go list -m all',\n       and 'gomod versions PATH --proxy DIR' like 'go list -m -versions PATH'",
+    ),
+    (
+        "-C -dir -cwd -chdir -root -workdir",
+        "gomod works in the current folder: 'cd DIR' first",
+    ),
+    (
+        "-w -write -in-place -i -force",
+        "gomod changes no file: add '> go.mod.new && mv go.mod.new go.mod' to fmt or edit",
+    ),
+    (
+        "-print -fmt -stdout -dry-run print",
+        "fmt and edit print the file, formatted, and change none: 'gomod fmt go.mod'",
+    ),
+    (
+        "check diff lint validate -d -diff -check -l",
+        "'gomod fmt go.mod | diff go.mod -' shows what is not formatted; list and graph check more",
+    ),
+    (
+        "-o -output -out",
+        "output goes to standard output: '> NEW' at the end writes it to a new file",
+    ),
+    (
+        "- -stdin",
+        "'gomod fmt -', 'gomod edit - OP', '--mod -' and '--sum -' read standard input,\n       and so does 'gomod versions PATH' without --proxy",
+    ),
+    (
+        "-json -format -f -csv -yaml -cyclonedx -dot -svg json metadata sbom licenses vuln dot graphviz",
+        "gomod prints rows: docs/use/RECIPES.md makes JSON, a picture, and CycloneDX for other tools of them\n       'go mod edit -json' prints one go.mod file as JSON",
+    ),
 ];
 
 /// The rows for operations, for what gomod does not have, and, last, for the forms of words.
-const OTHER_HINTS: [(&[&str], &str); 34] = [
-    hint!("-go="; operation!("go=VERSION")),
-    hint!("module=" "-module="; operation!("module=PATH")),
-    hint!("require=" "add=" "-require="; operation!("require=PATH@VERSION")),
-    hint!("droprequire=" "remove=" "rm=" "uninstall=" "drop=" "-droprequire=";
-        operation!("droprequire=PATH")),
-    hint!("exclude=" "-exclude="; operation!("exclude=PATH@VERSION")),
-    hint!("dropexclude=" "-dropexclude="; operation!("dropexclude=PATH@VERSION")),
-    hint!("replace=" "-replace="; operation!("replace=PATH=../FOLDER",
-        "\n       'replace=PATH=PATH@VERSION' replaces a module by another one")),
-    hint!("dropreplace=" "-dropreplace="; operation!("dropreplace=PATH")),
-    hint!("retract=" "-retract="; operation!("retract=VERSION")),
-    hint!("dropretract=" "-dropretract="; operation!("dropretract=VERSION")),
-    hint!("-toolchain=" "-godebug=" "-tool=" "-ignore=" "-dropgodebug=" "-droptool=" "-dropignore=" "toolchain=" "godebug=";
-        "gomod edit has no such operation, but 'go mod edit' of newer versions has"),
-    hint!("tidy"; "gomod has no 'tidy': 'go mod tidy' needs packages, which gomod doesn't read"),
-    hint!("download" "fetch"; "gomod uses no network: 'go mod download' fills the module cache"),
-    hint!("get";
-        "gomod uses no network: that is for 'go get'\n       'gomod edit go.mod require=PATH@VERSION' prints the changed file"),
-    hint!("-u" "-update" "-upgrade" "-outdated" "update" "upgrade" "outdated";
-        "gomod uses no network: 'go list -m -u all' and 'go get -u' find newer versions"),
-    hint!("init" "vendor"; "gomod changes no file: 'go mod init' and 'go mod vendor' do"),
-    hint!("verify";
-        "'go mod verify' checks the module cache,\n       and 'gomod list --sum go.sum --proxy DIR' the go.mod files that it reads"),
-    hint!("build" "run" "test" "vet" "install" "generate" "clean" "doc" "env" "tool" "work" "fix" "bug" "telemetry"
-        "-tags" "-test" "-find" "-export";
-        "gomod reads module files alone, no packages: that is for the go command"),
-    hint!("go" "gomod"; "a command of gomod comes first, as in 'gomod fmt go.mod'"),
-    hint!("mod";
-        "commands have no 'mod' in front, and operations no dash:\n       'gomod graph --proxy DIR', 'gomod edit go.mod go=VERSION'"),
-    hint!("version" "-version" "-V";
-        "'gomod --version' prints the version, 'gomod versions PATH --proxy DIR' those of a module"),
-    hint!("-v"; "gomod is never verbose, and 'gomod --version' prints the version"),
-    hint!("help" "commands" "usage";
-        "'gomod --help' lists the commands, and 'gomod list --help' explains one"),
-    hint!("man" "-man" "manual" "completion";
-        "the man page, and completions for bash, zsh and fish, are in share/"),
-    hint!("-x" "-vv" "-q" "-quiet" "-verbose";
-        "gomod prints its result or its errors, and nothing else"),
-    hint!("-e"; "errors of all files are always printed, the first of each, and then no result"),
-    hint!("-retracted" "-retract"; "'--retracted' makes versions list those that are retracted, too"),
-    hint!("-module" "-package" "-path";
-        "PATH needs no option: 'gomod chain PATH --proxy DIR', 'gomod versions PATH --proxy DIR'"),
-    hint!("-go" "-compat";
-        "the go version is that of the main file: 'gomod edit go.mod go=VERSION' prints it with another"),
-    hint!("-direct" "-indirect" "-depth";
-        "graph begins with the main file's requirements; that file marks indirect ones"),
-    hint!("*.mod*" "-file" "-manifest-path" "-main" "-input" "-in" "-gomod";
-        "fmt and edit take one FILE: 'gomod fmt go.mod'\n       graph, list and chain have '--mod FILE' for another main file"),
-    hint!("*://*"; "PATH is as in a module line, and DIR a folder: neither has 'https://' in front"),
-    hint!("*@*";
-        "chain and versions take PATH without a version: 'gomod versions PATH --proxy DIR'\n       'gomod edit go.mod require=PATH@VERSION' requires a version"),
-    hint!("*.*" "*/*";
-        "chain and versions take one PATH, graph and list none, and a folder has '--proxy' in front:\n       'gomod chain PATH --proxy ~/go/pkg/mod/cache/download'"),
+const OTHER_HINTS: [(&str, &str); 34] = [
+    ("-go=", operation!("go=VERSION")),
+    ("module= -module=", operation!("module=PATH")),
+    (
+        "require= add= -require=",
+        operation!("require=PATH@VERSION"),
+    ),
+    (
+        "droprequire= remove= rm= uninstall= drop= -droprequire=",
+        operation!("droprequire=PATH"),
+    ),
+    ("exclude= -exclude=", operation!("exclude=PATH@VERSION")),
+    (
+        "dropexclude= -dropexclude=",
+        operation!("dropexclude=PATH@VERSION"),
+    ),
+    (
+        "replace= -replace=",
+        operation!(
+            "replace=PATH=../FOLDER",
+            "\n       'replace=PATH=PATH@VERSION' replaces a module by another one"
+        ),
+    ),
+    ("dropreplace= -dropreplace=", operation!("dropreplace=PATH")),
+    ("retract= -retract=", operation!("retract=VERSION")),
+    (
+        "dropretract= -dropretract=",
+        operation!("dropretract=VERSION"),
+    ),
+    (
+        "-toolchain= -godebug= -tool= -ignore= -dropgodebug= -droptool= -dropignore= toolchain= godebug=",
+        "gomod edit has no such operation, but 'go mod edit' of newer versions has",
+    ),
+    (
+        "tidy",
+        "gomod has no 'tidy': 'go mod tidy' needs packages, which gomod doesn't read",
+    ),
+    (
+        "download fetch",
+        "gomod uses no network: 'go mod download' fills the module cache",
+    ),
+    (
+        "get",
+        "gomod uses no network: that is for 'go get'\n       'gomod edit go.mod require=PATH@VERSION' prints the changed file",
+    ),
+    (
+        "-u -update -upgrade -outdated update upgrade outdated",
+        "gomod uses no network: 'go list -m -u all' and 'go get -u' find newer versions",
+    ),
+    (
+        "init vendor",
+        "gomod changes no file: 'go mod init' and 'go mod vendor' do",
+    ),
+    (
+        "verify",
+        "'go mod verify' checks the module cache,\n       and 'gomod list --sum go.sum --proxy DIR' the go.mod files that it reads",
+    ),
+    (
+        "build run test vet install generate clean doc env tool work fix bug telemetry -tags -test -find -export",
+        "gomod reads module files alone, no packages: that is for the go command",
+    ),
+    (
+        "go gomod",
+        "a command of gomod comes first, as in 'gomod fmt go.mod'",
+    ),
+    (
+        "mod",
+        "commands have no 'mod' in front, and operations no dash:\n       'gomod graph --proxy DIR', 'gomod edit go.mod go=VERSION'",
+    ),
+    (
+        "version -version -V",
+        "'gomod --version' prints the version, 'gomod versions PATH --proxy DIR' those of a module",
+    ),
+    (
+        "-v",
+        "gomod is never verbose, and 'gomod --version' prints the version",
+    ),
+    (
+        "help commands usage",
+        "'gomod --help' lists the commands, and 'gomod list --help' explains one",
+    ),
+    (
+        "man -man manual completion",
+        "the man page, and completions for bash, zsh and fish, are in share/",
+    ),
+    (
+        "-x -vv -q -quiet -verbose",
+        "gomod prints its result or its errors, and nothing else",
+    ),
+    (
+        "-e",
+        "errors of all files are always printed, the first of each, and then no result",
+    ),
+    (
+        "-retracted -retract",
+        "'--retracted' makes versions list those that are retracted, too",
+    ),
+    (
+        "-module -package -path",
+        "PATH needs no option: 'gomod chain PATH --proxy DIR', 'gomod versions PATH --proxy DIR'",
+    ),
+    (
+        "-go -compat",
+        "the go version is that of the main file: 'gomod edit go.mod go=VERSION' prints it with another",
+    ),
+    (
+        "-direct -indirect -depth",
+        "graph begins with the main file's requirements; that file marks indirect ones",
+    ),
+    (
+        "*.mod* -file -manifest-path -main -input -in -gomod",
+        "fmt and edit take one FILE: 'gomod fmt go.mod'\n       graph, list and chain have '--mod FILE' for another main file",
+    ),
+    (
+        "*://*",
+        "PATH is as in a module line, and DIR a folder: neither has 'https://' in front",
+    ),
+    (
+        "*@*",
+        "chain and versions take PATH without a version: 'gomod versions PATH --proxy DIR'\n       'gomod edit go.mod require=PATH@VERSION' requires a version",
+    ),
+    (
+        "*.* */*",
+        "chain and versions take one PATH, graph and list none, and a folder has '--proxy' in front:\n       'gomod chain PATH --proxy ~/go/pkg/mod/cache/download'",
+    ),
 ];
 
 /// What the tables say of the word that an error is about, if they do. Operations are aside if the command takes none.
@@ -147,7 +262,7 @@ pub fn hint_for(
     about: Option<&str>,
     words: &[&str],
 ) -> Result<Option<&'static str>, AllocError>
-    ensures { Advises (IsHintOf (texts_of words.now)) result }
+    ensures { Advises (IsHintOf takes_operations (texts_of words.now)) result }
 {
     match word_about(about, words) {
         Some(word) => hint_on(alloc, takes_operations, word),
@@ -193,7 +308,7 @@ fn hint_on(
     takes_operations: bool,
     word: &str,
 ) -> Result<Option<&'static str>, AllocError>
-    ensures { Advises (IsHintFor word.now) result }
+    ensures { Advises (IsHintFor takes_operations word.now) result }
 {
     let key = key_of(alloc, word)?;
     let said = tables_say(alloc, takes_operations, false, key.as_str())?;
@@ -262,7 +377,7 @@ fn form_of(word: &str) -> Option<&'static str>
 }
 
 /// The rows of a table.
-type Rows = &'static [(&'static [&'static str], &'static str)];
+type Rows = &'static [(&'static str, &'static str)];
 
 /// The rows of the first table.
 fn rows() -> Rows
@@ -285,7 +400,7 @@ fn tables_say(
     is_near: bool,
     key: &str,
 ) -> Result<Option<&'static str>, AllocError>
-    ensures { Advises (HasSaid is_near key.now) result }
+    ensures { Advises (HasSaid takes_operations is_near key.now) result }
 {
     let said = rows_say(alloc, rows(), takes_operations, is_near, key)?;
     if said.is_some() {
@@ -294,7 +409,7 @@ fn tables_say(
     rows_say(alloc, other_rows(), takes_operations, is_near, key)
 }
 
-/// What the first of these rows says that has this key, or a name near to it. Operations may be aside.
+/// What the first of these rows says that has this key, or a name near to it.
 fn rows_say(
     alloc: Global,
     rows: Rows,
@@ -302,20 +417,38 @@ fn rows_say(
     is_near: bool,
     key: &str,
 ) -> Result<Option<&'static str>, AllocError>
-    ensures { Advises (HasSaidIn (rows_in rows.now) is_near key.now) result }
+    ensures { Advises (HasSaidIn (rows_in rows.now) takes_operations is_near key.now) result }
 {
     for (names, text) in rows {
-        for name in *names {
-            let plain = name_before(name);
-            if plain.len() == name.len() || takes_operations {
-                let is = is_alike(alloc, is_near, key, plain)?;
-                if is {
-                    return Ok(Some(*text));
-                }
-            }
+        let is = is_named(alloc, names, takes_operations, is_near, key)?;
+        if is {
+            return Ok(Some(*text));
         }
     }
     Ok(None)
+}
+
+/// Whether one of these names is this key, or near to it. Those of operations are aside unless the command takes any.
+fn is_named(
+    alloc: Global,
+    names: &str,
+    takes_operations: bool,
+    is_near: bool,
+    key: &str,
+) -> Result<bool, AllocError>
+    ensures { IfOk result
+        (λ is. is ≡ true → HasName (split_names names.now) takes_operations is_near key.now) }
+{
+    for name in names.split(' ') {
+        let plain = name_before(name);
+        if takes_operations || plain == name {
+            let is = is_alike(alloc, is_near, key, plain)?;
+            if is {
+                return Ok(true);
+            }
+        }
+    }
+    Ok(false)
 }
 
 /// Whether a name is this key, or is near to it: both have four letters or more, and differ by one letter, or by two

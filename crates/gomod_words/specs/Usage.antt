@@ -182,6 +182,20 @@ IsReadFault words (BadPath text) =
 IsReadFault words (BadProxy text) =
     AreAccepted words × HasBadProxy (entered (subcommand_of gomod_app words)) (string_bytes text)
 
+-- the command is `edit`
+abbrev pub is_edit : CommandName → Bool
+is_edit n.Edit = true
+is_edit command = false
+
+-- the command that the words of a command line name; the first word is the program's name
+unfoldable pub command_in : List Text → Option CommandName
+command_in (program ∷ name ∷ words) = command_named name
+command_in _ = None
+
+-- operations may stand in these words: after `edit`, and in the place of a command
+abbrev pub takes_operations : List Text → Bool
+takes_operations words = option_map_or (λ command. is_edit command) (command_in words) true
+
 -- the usage line of the command with this name, or that of the program if there is no such command
 abbrev pub usage_line : Text → List ℕ
 usage_line name = option_map_or usage_for (command_named name) (codes "gomod <COMMAND>")
@@ -205,7 +219,7 @@ tip_mark = codes "\n\n  tip: "
 
 -- the text is this message, and what the table of hints says of a word among these, if anything
 abbrev pub HasHintOf : List Text → List ℕ → List ℕ → Type 0
-HasHintOf words message text = (hint : Option Text) × IfSome hint (IsHintOf words)
+HasHintOf words message text = (hint : Option Text) × IfSome hint (IsHintOf (takes_operations words) words)
     × (text ≡ option_map_or (λ h. message ++ (tip_mark ++ h)) hint message)
 
 -- the text is this message, at most one hint, which a table has for a word among these, and their usage line

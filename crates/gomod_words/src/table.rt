@@ -5,7 +5,7 @@ ghost use Rattle.std.specs.Prelude.{◌≡◌};
 ghost use Rattle.gomod_hints.specs.Hints.{texts_of};
 ghost use Rattle.gomod_words.specs.Private.Made.{rule_in};
 ghost use Rattle.gomod_words.specs.Table.{arguments_in, command_named, name_in, rule_for, usage_for};
-ghost use Rattle.gomod_words.specs.Usage.{usage_line, usage_of};
+ghost use Rattle.gomod_words.specs.Usage.{command_in, is_edit, takes_operations, usage_line, usage_of};
 
 use crate::help::{self, Help};
 
@@ -71,7 +71,10 @@ pub(crate) fn command_named(name: &str) -> Option<CommandName>
 }
 
 /// The command that the words of a command line name first. The first word is the program's name.
-pub(crate) fn command_in(words: &[&str]) -> Option<CommandName> {
+#[tactic(auto, unfolding(crate::specs::Usage::command_in))]
+pub(crate) fn command_in(words: &[&str]) -> Option<CommandName>
+    ensures { result ≡ command_in (texts_of words.now) }
+{
     match words {
         [_, name, ..] => command_named(name),
         _ => None,
@@ -79,8 +82,29 @@ pub(crate) fn command_in(words: &[&str]) -> Option<CommandName> {
 }
 
 /// Whether operations may stand in these words: after `edit`, and in the place of a command.
-pub(crate) fn takes_operations(words: &[&str]) -> bool {
-    matches!(command_in(words), None | Some(CommandName::Edit))
+pub(crate) fn takes_operations(words: &[&str]) -> bool
+    ensures { result ≡ takes_operations (texts_of words.now) }
+{
+    match command_in(words) {
+        Some(command) => command.is_edit(),
+        None => true,
+    }
+}
+
+impl CommandName {
+    /// Whether it is `edit`.
+    fn is_edit(self) -> bool
+        ensures { result ≡ is_edit self }
+    {
+        match self {
+            CommandName::Edit => true,
+            CommandName::Fmt
+            | CommandName::Graph
+            | CommandName::List
+            | CommandName::Chain
+            | CommandName::Versions => false,
+        }
+    }
 }
 
 /// An argument of a command.

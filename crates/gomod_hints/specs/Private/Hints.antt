@@ -5,5 +5,5 @@ use Rattle.clap.specs.Walk.{Text}
 use Rattle.gomod_hints.specs.Hints.{Rows}
 
 -- the rows of a table, as texts
-abbrev pub rows_in : List (Bor (List (Bor Text)) × Bor Text) → Rows
-rows_in rows = map (λ row. (map (λ name. name.now) row.0.now, row.1.now)) rows
+abbrev pub rows_in : List (Bor Text × Bor Text) → Rows
+rows_in rows = map (λ row. (row.0.now, row.1.now)) rows
