@@ -13,8 +13,8 @@ error that Linux has. Each read and write moves fewer bytes than it may, down to
 can't be read has to be the one that is reported, with status 3; one that isn't found is missing; a failed write leaves
 what was written before, with status 3; a close that fails changes nothing, and neither does a short read or write. With
 two faults, allocations among them, the result is one that one of them has, or a beginning of it.
-tools/try/refuse-memory.sh refuses each allocation. Without a fault no stream takes more writes than its bytes need: one
-for each row is too many.
+tools/try/refuse-memory.sh refuses each allocation. Without a fault a stream takes one write, or for each write as many
+whole lines as fit the program's buffer: one for each row is too many, and so is one that cuts a line.
 
 The files that others change are those of a proxy. They are written in place, replaced, cut off, longer, gone, a folder,
 a link. With a go.sum a run has the only right result, or it reports a fault. At last 200 run at once.
@@ -65,8 +65,9 @@ LARGE = "".join(f"require{60 * ' '}local/{it:020} v1.0.0\n" for it in range(5000
 # Two command lines or more of each command, each with its standard input, and some with more errors for the first call
 # on each kind of file. Together those of a command read each kind of file that it has: by name and from standard input,
 # of a proxy and a folder, with and without sums. E is example/, D and V are of the cases. What is printed of L and
-# reported of M takes three writes or more: their paths are long. What is printed of W has 3,000 lines.
-LONG = ["local" + 600 * "/long-name" + f"/{it}" for it in range(6)]
+# reported of M takes three writes or more: their paths are long, and one of L is longer than what waits of lines. What
+# is printed of W has 3,000 lines, of 32 bytes in a list.
+LONG = [f"local{length * '/long-name'}/{it}" for it, length in enumerate([600, 600, 600, 600, 600, 1700])]
 LINES = [
     ("fmt E/hand-written.mod", b"", EVERY),
     ("fmt -", LARGE, EVERY),
@@ -98,7 +99,7 @@ REPLACED = {"./local": "example.com/local@v0.0.0", "example.com/fork@v1.1.0": "e
 REPLACED["./x"] = "local@v1.0.0"
 REPLACED |= {f"./{number}": f"{it}@v1.0.0" for number, it in enumerate(LONG)}
 NO_MEMORY = b"", b"gomod: no memory\n", 3
-# how many bytes of lines wait to be written: two writes in a row have more (crates/gomod_texts/src/reports/buffer.rt)
+# how many bytes of lines wait to be written (crates/gomod_texts/src/reports/buffer.rt)
 WAITING = 16_384
 # how many seconds a run has
 LIMIT = 60
@@ -156,10 +157,14 @@ class Line:
             self.calls.append(Call(call, argument if call == "open" else files.get(argument, argument), int(result)))
 
     def judge_writes(self):
-        """Tells if a stream took more writes than it needs, or one of no bytes."""
+        """Tells if a stream takes more writes than it needs, one of no bytes, or one that cuts a line that fits."""
         for stream, text in zip("12", self.plain):
             sizes = [it.result for it in self.of_kind("write") if it.file == stream]
-            if 0 in sizes or len(sizes) > 1 + 2 * len(text) // WAITING:
+            if any(len(line) >= WAITING for line in text.split(b"\n")):
+                is_right = 0 not in sizes and len(sizes) <= 1 + 2 * len(text) // WAITING
+            else:
+                is_right = sizes in ([len(text)], packed(text))
+            if not is_right:
                 self.trial.judge(f"gomod {self.text}: {len(sizes)} writes of {len(text)} bytes", sizes, False)
 
     def value_of(self, option):
@@ -261,6 +266,16 @@ class Line:
         return Fault(call, at, later, error, length)
 
 
+def packed(text):
+    """How many bytes each write has if lines wait: those of as many whole lines as fit."""
+    sizes = []
+    for line in text.splitlines(keepends=True):
+        if not sizes or sizes[-1] + len(line) > WAITING:
+            sizes.append(0)
+        sizes[-1] += len(line)
+    return sizes
+
+
 class Judged:
     """A program whose runs are judged."""
 
@@ -352,8 +367,9 @@ def try_faults(program, pairs, seed):
         write(os.path.join(folder, "L", "go.mod"), f"module m\n{required[0]}{replaced}")
         for number, it in enumerate(LONG):
             write(os.path.join(folder, "L", str(number), "go.mod"), f"module {it}\n{required[number + 1]}")
-        wide = "".join(f"require example.com/{it} v1.0.0\n" for it in range(3000))
-        write(os.path.join(folder, "W", "go.mod"), "module m\ngo 1.17\nrequire local v1.0.0\nreplace local => ./x\n")
+        wide = "".join(f"require example.com/{it:012} v1.0.0\n" for it in range(3000))
+        main = f"module {31 * 'm'}\ngo 1.17\nrequire local v1.0.0\nreplace local => ./x\n"
+        write(os.path.join(folder, "W", "go.mod"), main)
         write(os.path.join(folder, "W", "x", "go.mod"), f"module local\ngo 1.17\n{wide}")
         trial = Trial(program, compiled(folder), folder)
         lines = [Line(trial, *it) for it in LINES]

@@ -1,5 +1,5 @@
-//! Tests of readers, writers, stores, documents and graphs, and of how faults are shown. The worked examples of the
-//! program are cases of the crate `run_cases`.
+//! Tests of readers, stores, documents and graphs, and of how faults are shown. The worked examples of the program are
+//! cases of the crate `run_cases`.
 //!
 //! The tests run with ample memory. A test that runs out of it anyway ends, and says that this is the reason.
 
@@ -8,8 +8,6 @@ mod faults;
 mod graphs;
 mod opened_files;
 mod readers;
-mod reports;
-mod sinks;
 mod stores;
 
 ghost use Rattle.std.specs.Prelude.{◌≡◌, []};

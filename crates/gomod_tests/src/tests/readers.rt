@@ -1,34 +1,24 @@
-//! Readers that fail once, that give few bytes per call, or that have more bytes than are read.
+//! Readers that give few bytes per call, or that have more bytes than are read.
 
 use super::{OUT_OF_MEMORY, assert_same};
-use gm_store::{LIMIT, ReadFault, read_limited};
+use gm_store::{LIMIT, read_limited};
 use std::alloc::Global;
 use std::io;
-use std::io::{ErrorKind, Read};
+use std::io::Read;
 use std::process::Abort;
 
-/// A reader over bytes in memory. It gives at most `step` bytes per call. After `calls` calls one call fails, and the
-/// calls after that one succeed, so that a caller which tries again is seen.
-#[derive(Clone, Copy)]
+/// A reader over bytes in memory. It gives at most `step` bytes per call.
+#[derive(Drop)]
 struct LimitedReader<'a> {
     /// The bytes that are left to read.
     bytes: &'a [u8],
     /// The most bytes that one call gives.
     step: usize,
-    /// How many more calls succeed before one fails.
-    calls: usize,
-    /// How that one fails.
-    fault: ErrorKind,
 }
 
 impl Read for LimitedReader<'_> {
-    /// Gives the next bytes, or fails if it is the call that does.
+    /// Gives the next bytes.
     fn read(&mut self, piece: &mut [u8]) -> io::Result<usize> {
-        if self.calls == 0 {
-            self.calls = NEVER;
-            return Err(io::Error::from(self.fault));
-        }
-        self.calls -= 1;
         let count = piece.len().min(self.bytes.len()).min(self.step);
         let (front, rest) = self.bytes.split_at(count);
         piece[..count].copy_from_slice(front);
@@ -37,8 +27,8 @@ impl Read for LimitedReader<'_> {
     }
 }
 
-/// As a number of calls or bytes: without limit.
-const NEVER: usize = usize::MAX;
+/// As a number of bytes per call: without limit.
+const ANY: usize = usize::MAX;
 
 /// This many bytes `x`, followed by six others.
 fn long_file(rt: &impl Abort, alloc: Global, length: usize) -> Vec<u8> {
@@ -50,12 +40,7 @@ fn long_file(rt: &impl Abort, alloc: Global, length: usize) -> Vec<u8> {
 /// Reads bytes, at most `step` of them per call. Says whether these were the first ones, how many they were,
 /// and how many the reader has left.
 fn read_front(rt: &impl Abort, alloc: Global, bytes: &[u8], step: usize) -> (bool, usize, usize) {
-    let mut reader = LimitedReader {
-        bytes,
-        step,
-        calls: NEVER,
-        fault: ErrorKind::Other,
-    };
+    let mut reader = LimitedReader { bytes, step };
     let read = read_limited(alloc, &mut reader).expect(rt, OUT_OF_MEMORY);
     let is_front = bytes.starts_with(&read) && bytes.ends_with(reader.bytes);
     (is_front, read.len(), reader.bytes.len())
@@ -63,13 +48,13 @@ fn read_front(rt: &impl Abort, alloc: Global, bytes: &[u8], step: usize) -> (boo
 
 /// The lengths of files, how many bytes a call gives, and how many bytes are read.
 const LENGTHS: &'static [(usize, usize, usize)] = &[
-    (0, NEVER, 0),
+    (0, ANY, 0),
     (1, 1, 1),
     (1_000, 1, 1_000),
     (100_000, 50_000, 100_000),
-    (LIMIT, NEVER, LIMIT),
-    (LIMIT + 1, NEVER, LIMIT + 1),
-    (LIMIT + 6, NEVER, LIMIT + 1),
+    (LIMIT, ANY, LIMIT),
+    (LIMIT + 1, ANY, LIMIT + 1),
+    (LIMIT + 6, ANY, LIMIT + 1),
     (LIMIT + 6, 4_099, LIMIT + 1),
 ];
 
@@ -95,49 +80,5 @@ fn reads_up_to_the_limit_and_leaves_the_rest(rt: HostRuntime) {
     let bytes = long_file(&rt, rt.alloc(), LIMIT);
     for (length, step, taken) in LENGTHS {
         read_part(&rt, rt.alloc(), &bytes, *length, *step, *taken);
-    }
-}
-
-/// Reads ten bytes, two per call, from a reader that fails in this way after this many calls, and compares the
-/// number of bytes, or the fault.
-fn read_until(
-    rt: &impl Abort,
-    alloc: Global,
-    fault: ErrorKind,
-    calls: usize,
-    wanted: Result<usize, ReadFault>,
-) {
-    let mut reader = LimitedReader {
-        bytes: b"0123456789",
-        step: 2,
-        calls,
-        fault,
-    };
-    let got = read_limited(alloc, &mut reader).map(|bytes| bytes.len());
-    assert_same(
-        rt,
-        format_args!("{fault:?} after {calls} reads"),
-        &got,
-        &wanted,
-    );
-}
-
-/// The number of calls after which a reader fails, and what comes of it. The call after the fifth finds the end.
-const CALLS: &'static [(usize, Result<usize, ReadFault>)] = &[
-    (0, Err(ReadFault::Device)),
-    (1, Err(ReadFault::Device)),
-    (2, Err(ReadFault::Device)),
-    (3, Err(ReadFault::Device)),
-    (4, Err(ReadFault::Device)),
-    (5, Err(ReadFault::Device)),
-    (6, Ok(10)),
-    (7, Ok(10)),
-];
-
-#[test]
-fn fails_where_a_read_fails(rt: HostRuntime) {
-    for (calls, wanted) in CALLS {
-        read_until(&rt, rt.alloc(), ErrorKind::Interrupted, *calls, *wanted);
-        read_until(&rt, rt.alloc(), ErrorKind::Other, *calls, *wanted);
     }
 }
