@@ -18,12 +18,12 @@ ghost use Rattle.gomod_outcomes.specs.Versions.{list_refusal, versions_line};
 ghost use Rattle.gomod_outcomes.specs.Private.VersionsRuns.{AreVersionsAnswered, IsListAnswered, IsVersionsRun};
 
 use crate::asking::ask_for;
-use gomod_texts::Report;
 use gm_file::{Interval, shown_versions};
 use gm_graph::{Class, FileReading};
 use gm_name::{BorrowedVersion, ModPath, ModVersion, NoMemory};
 use gm_name_table::KnownNames;
 use gm_store::{Answer, Asks, FileName, latest, versions_of};
+use gomod_texts::Report;
 use std::alloc::Global;
 
 /// Appends a space and a version.

@@ -1,8 +1,8 @@
 -- What holds of the outcome of a run holds of its writing.
 use Rattle.std.proofs.Common.{◌≡◌, ◌∙◌, ℕ, List, Option, arith, inl, inr, sym}
-use Rattle.gm_store.specs.Asked.{Name, Reply}
-use Rattle.gm_store.specs.States.{StoreState}
-use Rattle.gm_store.specs.Taken.{SinkState}
+use Rattle.gm_store_parts.specs.Asked.{Name, Reply}
+use Rattle.gm_store_parts.specs.States.{StoreState}
+use Rattle.gm_store_parts.specs.Taken.{SinkState}
 use Rattle.gomod_texts.specs.Outcome.{Outcome, failure_outcome}
 use Rattle.gomod_texts.specs.Reports.{device_line}
 use Rattle.gomod_outcomes.specs.Runs.{HoldsAtAnyEnd}

@@ -10,9 +10,9 @@ ghost use Rattle.gomod_texts.specs.Outcome.{OrNoMemory, report_outcome};
 ghost use Rattle.gomod_run.specs.Program.{FileGives, IsInput, CommandEnds, IsUnread, bytes_read, main_input, sums_input, versions_path};
 ghost use Rattle.gomod_outcomes.specs.Runs.{is_query};
 
-use gomod_texts::Report;
 use gm_name::ModPath;
 use gm_store::{FileSystem, ReadFault, StandardInput, read_file, read_input};
+use gomod_texts::Report;
 use gomod_words::{Command, Places};
 use std::alloc::Global;
 

@@ -5,8 +5,8 @@ ghost use Rattle.gm_store_parts.specs.Taken.{SinkState};
 ghost use Rattle.gomod_texts.specs.Outcome.{code_of, ended_view, report_outcome, text_outcome};
 ghost use Rattle.gomod_run.specs.Written.{IsWritten};
 
-use gomod_texts::{Report, Status, Text, write_whole};
 use gm_store::Sink;
+use gomod_texts::{Report, Status, Text, write_whole};
 
 /// Writes a text to the output, and returns the status of the run: `Done`, or `Device` if the sink fails.
 pub(crate) fn write_text<O: Sink>(out: &mut O, text: &str) -> Status

@@ -4,7 +4,7 @@ use Rattle.std.specs.Fmt.{decimal}
 use Rattle.std.specs.List.{flat_map}
 use Rattle.page.specs.ModuleVersion.{ModuleVersion}
 use Rattle.page.specs.Asked.{Name, mod_file, folder_file, list_file}
-use Rattle.page.specs.Types.{Class, Malformed, Misreading, misreading_word, Fault}
+use Rattle.page.specs.Types.{Misreading, Malformed, Class, misreading_word, Fault}
 use Rattle.page.specs.ClassWords.{class_word}
 use Rattle.page.specs.LineParts.{line, vertex_text}
 

@@ -11,14 +11,14 @@ use Rattle.std.proofs.lemmas.Bool.{and_parts, eqb-true, false≢true, le-ltb, lt
 use Rattle.std.proofs.lemmas.Fmt.{decimal_by_steps}
 use Rattle.std.proofs.lemmas.List.{append-nil, append_assoc, nil_from_length, take-append-drop}
 use Rattle.std.proofs.lemmas.Option.{same_Some}
-use Rattle.page_commands.specs.Fit.{Fits, FitsMajor, build_of, major_of}
+use Rattle.page_commands.specs.Fit.{Fits, FitsMajor}
 use Rattle.page_commands.specs.Listed.{IsListable, IsPseudoVersion}
 use Rattle.page_commands.specs.Names.{does_fit, fits_major, has_plain_build, is_version}
 use Rattle.page_commands.specs.Path.{EndsInNumber, EndsInSlashVersion, IsUnderGopkg, is_digit_or_dot}
 use Rattle.page_commands.specs.Pseudo.{IsFront, IsStamp}
 use Rattle.page_commands.specs.Types.{Error, Parts, parts_text, version_parts}
 use Rattle.page_commands.specs.Types.Major.{Dot, NoSuffix, Slash}
-use Rattle.page_commands.specs.Version.{IsVersion, HasPlainBuild, parts_in, version_text}
+use Rattle.page_commands.specs.Version.{HasPlainBuild, IsVersion, build_of, major_of, parts_in, version_text}
 use Rattle.page_commands.specs.Worlds.Versions.{m}
 use Rattle.page_commands.proofs.Members.{appended, text_same}
 

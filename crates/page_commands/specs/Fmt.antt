@@ -6,8 +6,8 @@ use Rattle.page_commands.specs.Document.{Line}
 use Rattle.page_commands.specs.Layout.{layout}
 use Rattle.page_commands.specs.LineViews.{plain_lines}
 use Rattle.page_commands.specs.Files.{IsParsedAs}
-use Rattle.page_commands.specs.Outcome.{Outcome, text_outcome, refusal_outcome}
 use Rattle.page_commands.specs.Reports.{FaultPlace, main_line, syntax_place}
+use Rattle.page_commands.specs.Outcome.{Outcome, text_outcome, refusal_outcome}
 
 -- How `fmt FILE` ends over the bytes of the file, if memory doesn't run out: the syntax fault is reported, or the
 -- layout of the document is printed.

@@ -5,10 +5,10 @@ use Rattle.page_commands.specs.ModuleVersion.{ModuleVersion}
 use Rattle.page_commands.specs.Types.SyntaxFault.{SyntaxFault}
 use Rattle.page_commands.specs.Types.SyntaxFault as syntax
 use Rattle.page_commands.specs.Asked.{Name, mod_file, folder_file, list_file}
-use Rattle.page_commands.specs.Types.Class.{Class, Malformed}
 use Rattle.page_commands.specs.Types.Misreading.{Misreading}
 use Rattle.page_commands.specs.Types.Misreading as misreading
 use Rattle.page_commands.specs.ClassWords.{class_word}
+use Rattle.page_commands.specs.Types.Class.{Malformed, Class}
 use Rattle.page_commands.specs.Misreading.{misreading_word}
 use Rattle.page_commands.specs.LineParts.{line, vertex_text}
 

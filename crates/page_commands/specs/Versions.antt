@@ -10,8 +10,8 @@ use Rattle.page_commands.specs.Fields.{Dependency}
 use Rattle.page_commands.specs.Shown.{shown_of}
 use Rattle.page_commands.specs.Types.Class.{Class}
 use Rattle.page_commands.specs.Reading.{AreRetractedBy, IsFileReading}
-use Rattle.page_commands.specs.Outcome.{Outcome, failure_outcome, text_outcome, refusal_outcome}
 use Rattle.page_commands.specs.Reports.{device_line, fault_line, list_line}
+use Rattle.page_commands.specs.Outcome.{Outcome, failure_outcome, text_outcome, refusal_outcome}
 use Rattle.page_commands.specs.Needs.{AnswersByName}
 
 -- the path and the versions, separated by single spaces

@@ -9,8 +9,8 @@ ghost use Rattle.gm_store_parts.specs.Asked.{Name};
 
 use crate::cache::naming::right_name;
 use crate::cache::place_history::PlaceHistory;
-use gm_graph_files::{Kept, ListSpan};
 use gm_file::MainModule;
+use gm_graph_files::{Kept, ListSpan};
 use gm_name::NoMemory;
 use gm_name_table::OptionalPlace;
 use gm_store::FileName;
