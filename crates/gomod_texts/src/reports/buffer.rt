@@ -6,7 +6,7 @@ ghost use Rattle.std.specs.List.{flat_map};
 ghost use Rattle.gomod_texts.specs.Private.Giving.{IsGiven, IsEnded};
 ghost use Rattle.gomod_texts.specs.LineParts.{line};
 
-use arrayvec::ArrayVec;
+use arrayvec::ArrayString;
 use gm_store::{Sink, WriteFault, write_all};
 use std::marker::Model;
 
@@ -16,8 +16,8 @@ const ROOM: usize = 16_384;
 /// Lines that have not been written yet.
 #[derive(Drop)]
 pub(crate) struct LineBuffer {
-    /// Their bytes.
-    bytes: ArrayVec<u8, ROOM>,
+    /// Their text.
+    text: ArrayString<ROOM>,
 }
 
 impl Model for LineBuffer {
@@ -25,7 +25,7 @@ impl Model for LineBuffer {
 
     ghost Value = { List ℕ };
 
-    ghost view = { λ buffer. buffer.bytes.items };
+    ghost view = { λ buffer. buffer.text.bytes };
 }
 
 impl LineBuffer {
@@ -34,7 +34,7 @@ impl LineBuffer {
         ensures { result ≡ [] }
     {
         LineBuffer {
-            bytes: ArrayVec::new(),
+            text: ArrayString::new(),
         }
     }
 
@@ -49,13 +49,13 @@ impl LineBuffer {
             (line (flat_map (λ piece. piece.now) pieces.now)) result }
     {
         let size = length_of(pieces);
-        if self.bytes.remaining_capacity() < size {
+        if self.text.remaining_capacity() < size {
             self.end(sink)?;
         }
-        if self.bytes.remaining_capacity() < size {
+        if self.text.remaining_capacity() < size {
             return self.give_long(sink, pieces);
         }
-        push_line(&mut self.bytes, pieces);
+        push_line(&mut self.text, pieces);
         Ok(())
     }
 
@@ -65,20 +65,20 @@ impl LineBuffer {
             (line (flat_map (λ piece. piece.now) pieces.now)) result }
     {
         'pieces: for piece in pieces {
-            self.give(sink, piece.as_bytes())?;
+            self.give(sink, piece)?;
         }
-        self.give(sink, b"\n")
+        self.give(sink, "\n")
     }
 
     /// Gives a piece of a line.
-    fn give<R: Sink>(&mut self, sink: &mut R, piece: &[u8]) -> Result<(), WriteFault>
+    fn give<R: Sink>(&mut self, sink: &mut R, piece: &str) -> Result<(), WriteFault>
         ensures { IsGiven (R.state sink.old) self.old (R.state sink.new) self.new piece.now result }
     {
-        if self.bytes.try_extend_from_slice(piece).is_ok() {
+        if self.text.try_push_str(piece).is_ok() {
             return Ok(());
         }
         self.end(sink)?;
-        write_all(sink, piece)
+        write_all(sink, piece.as_bytes())
     }
 
     /// Writes what waits.
@@ -86,22 +86,22 @@ impl LineBuffer {
         ensures ended { IsEnded (R.state sink.old) self.old (R.state sink.new) result }
         ensures empty { OnOk result (self.new ≡ []) }
     {
-        write_all(sink, self.bytes.as_slice())?;
-        self.bytes.clear();
+        write_all(sink, self.text.as_str().as_bytes())?;
+        self.text.clear();
         Ok(())
     }
 }
 
 /// Appends a line of these pieces, for which there must be room. No sink is looked at between two pieces, so that a
 /// line of many short ones takes little time.
-fn push_line(bytes: &mut ArrayVec<u8, ROOM>, pieces: &[&str])
-    requires { length (bytes.old.items ++ line (flat_map (λ piece. piece.now) pieces.now)) ≤ 16384 }
-    ensures { bytes.new.items ≡ bytes.old.items ++ line (flat_map (λ piece. piece.now) pieces.now) }
+fn push_line(text: &mut ArrayString<ROOM>, pieces: &[&str])
+    requires { length (text.old.bytes ++ line (flat_map (λ piece. piece.now) pieces.now)) ≤ 16384 }
+    ensures { text.new.bytes ≡ text.old.bytes ++ line (flat_map (λ piece. piece.now) pieces.now) }
 {
     'pieces: for piece in pieces {
-        let _fits = bytes.try_extend_from_slice(piece.as_bytes());
+        let _fits = text.try_push_str(piece);
     }
-    let _fits = bytes.try_push(b'\n');
+    let _fits = text.try_push_str("\n");
 }
 
 /// How many bytes a line of these pieces has, with its line feed. Saturates.

@@ -4,4 +4,4 @@ use Rattle.gomod_texts.proofs.reports.buffer.push_line.Given as goal
 
 -- the pieces so far were appended
 abbrev pub invariant-pieces : goal.invariant-pieces
-invariant-pieces l = l.bytes.items ≡ l.fn.bytes.items ++ flat_map (λ piece. piece.now) (take l.piece-index l.pieces)
+invariant-pieces l = l.text.bytes ≡ l.fn.text.bytes ++ flat_map (λ piece. piece.now) (take l.piece-index l.pieces)

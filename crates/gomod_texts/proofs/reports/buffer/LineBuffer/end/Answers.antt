@@ -8,4 +8,4 @@ returns-in_err-write_all-clause-ended g c =
     let wrote = c.in_err-write_all.ensures in
     let fault = c.in_err-write_all.field-0.0 in
     no_end _ _ c.args.self.now _ fault c.from_residual.result (cc) c.from_residual.ensures.0
-    (took_piece _ _ c.as_slice.result.now (Err fault) wrote.whole wrote.part wrote.fits wrote.cause) wrote.cause.later
+    (rw (c.as_bytes.ensures.value, c.as_str.ensures.value) at (took_piece _ _ _ (Err fault) wrote.whole wrote.part wrote.fits wrote.cause)) wrote.cause.later

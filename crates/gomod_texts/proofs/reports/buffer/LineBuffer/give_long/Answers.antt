@@ -11,13 +11,13 @@ returns-in_err-give g c =
     (flat_map (λ piece. piece.now) (drop (suc at) pieces) ++ codes "\n") _
     c.in_err-give.field-0.0 c.from_residual.result c.from_residual.ensures.0
     (around (λ piece. piece.now) pieces at (record { ref_ptr = (0, 0); now = [] }) (codes "\n") c.pieces-test.true)
-    c.pieces.invariant (rw c.as_bytes.ensures.value at c.in_err-give.ensures)
+    c.pieces.invariant c.in_err-give.ensures
 
 pub pieces-preserved : goal.pieces-preserved
 pieces-preserved g c =
     gives_more _ _ _ c.args.self.now c.pieces.self c.give.new.self _ _ _ (Ok tt)
     (one_more (λ piece. piece.now) c.args.pieces.now c.pieces.piece-index (record { ref_ptr = (0, 0); now = [] }) c.pieces-test.true)
-    c.pieces.invariant (rw c.as_bytes.ensures.value at c.in_ok-give.ensures)
+    c.pieces.invariant c.in_ok-give.ensures
 
 pub returns : goal.returns
 returns g c =
