@@ -43,7 +43,7 @@ GROWS = {"push", "push_str", "extend_from_slice", "insert", "write_str", "append
 KNOWN = GROWS | {
     "as_ref", "clone", "encode_string", "from_slice", "from_str", "from_utf8", "into_owned", "osa_distance",
     "split_first", "split_once", "strip_prefix", "strip_suffix", "to_ascii_lowercase", "to_string",
-    "try_extend_from_slice", "vec", "format"}
+    "try_push_str", "vec", "format"}
 ARGUMENTS = r"[^()]*"
 for _ in range(9):
     ARGUMENTS = rf"(?:[^()]|\({ARGUMENTS}\))*"
