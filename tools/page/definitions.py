@@ -1,7 +1,7 @@
 """Reads the definitions of crates/page and page_commands: trees that know their place in the file, and what a module
 has and imports.
 
-For tools/page/evaluate.py, which computes them, and tools/page/page_rules.py, which changes them.
+For tools/page/evaluate.py, which computes them, and tools/page/change_page.py, which changes them.
 """
 
 import functools
