@@ -8,19 +8,18 @@
     tools/check/documents.py --trusted LOG    whether docs/proof/PROVED.md has the `axioms` lines and the verdict of
                                               gomod in a log of `rt ci`, or of `rt check` in crates/gomod
 
-What a document names is a table in docs/dev/DEVELOPING.md ("What a document names"). How long one may be is a table
-below, without bars of tables, fenced code, comments, quotes (`>`), and what scripts write between marks (`<!-- show`).
-README.md has at most 600 words outside examples and tables, and eight sentences of 30 on what is verified; a release
-has 500 in CHANGELOG.md. README.md's figures of speed are those of docs/dev/BENCHMARKS.md, and both name the commit that
-was measured, which changed a source. What another file has too, as versions and counts, is compared (ALIKE). Other
-facts have a comment below them, `<!-- read beside OTHERS: CHECKSUM -->`, or a page has one, `page read beside`: if the
-text changes, read it beside these again, and write the checksum that is printed. Types derive no Hash, and Debug if
-they are errors or docs/lib/LIBRARY.md names them.
+What a document names is a table in docs/dev/DEVELOPING.md. How long one may be, and README.md and a release of
+CHANGELOG.md, is told below (BUDGETS, keep_budgets), without bars of tables, fenced code, comments, quotes (`>`), and
+what scripts write between marks (`<!-- show`). README.md's figures of speed are those of docs/dev/BENCHMARKS.md, and
+both name the commit that was measured, which changed a source. What another file has too, as versions and counts, is
+compared (ALIKE). Other facts have a comment below them, `<!-- read beside OTHERS: CHECKSUM -->`, or a page has one,
+`page read beside`: if the text changes, read it beside these again, and write the checksum that is printed. Types
+derive no Hash, and Debug if they are errors or docs/lib/LIBRARY.md names them.
 
-If a sentence on what is proved, or what its law states, isn't the one of its checksum (tools/check/sentences.py), both
-are printed. Who changes one compares them before --accept. Then come the lines that cases print
-(tools/check/messages.py), names of options (tools/check/names.py), what no contract says of a body
-(tools/check/bodies.py), and whether each edit that must fail names its clause, has a twin, and changes src/ alone.
+If a sentence on what is proved, or what its law states, isn't the one of its checksum (sentences.py), both are printed.
+Who changes one compares them before --accept. Then come the lines that cases print (messages.py), names of options
+(names.py), what no contract says of a body (bodies.py), and whether each edit that must fail names its clause, has a
+twin, and changes src/ alone.
 
 It needs git and python3, but no program. In a clone without its whole history no commits are looked for. The status is
 1 if something is wrong.

@@ -17,8 +17,9 @@ The commands of COMMANDS.md and RECIPES.md run once more, on a stranger's projec
 outside their scratch folders may change, no text may run, and what is fetched has to have the bytes of the proxy.
 
 The pieces of code of docs/lib/LIBRARY.md, fenced as rust, have to stand in the sources of the crate that is named
-before them (`From CRATE:`). The commands of "A whole program" compile it and run it in a fresh folder. Each link to a file of the repository, or to a heading of one, has to lead there, and in
-README.md and docs/use no comment may follow a command, since zsh takes one that is typed for words.
+before them (`From CRATE:`). The commands of "A whole program" compile it and run it in a fresh folder. Each link to a
+file of the repository, or to a heading of one, has to lead there, and in README.md and docs/use no comment may follow a
+command, since zsh takes one that is typed for words.
 
 It needs bin/gomod (./build makes it), and unless --quick is given the toolchain of Rattle and 3.4 GB of memory. The
 last lines count what was right and wrong, and the examples that were skipped for want of which commands. The status is
@@ -38,7 +39,7 @@ import tempfile
 
 sys.path.append(f"{sys.path[0]}/..")
 import script
-from case_files import content_of
+from case_files import changed, content_of
 from completions import HOSTILE
 from script import Tally, read, run_within, write
 
@@ -141,8 +142,8 @@ class Documents:
                              stdout=subprocess.PIPE, stderr=subprocess.STDOUT, env={
                                  **os.environ, "PATH": f"{self.program}:{os.environ['PATH']}", "TMPDIR": f"{room}/tmp"})
             after = files_in(room)
-        changed = [it for it in {*before, *after} if before.get(it) != after.get(it) and not it.startswith("tmp/")]
-        return ran.stdout.decode("utf-8", "replace").split("\036")[1:], after, changed
+        wrong = [it for it in changed(before, after) if not it.startswith("tmp/")]
+        return ran.stdout.decode("utf-8", "replace").split("\036")[1:], after, wrong
 
     def run_examples(self, name, text):
         """Runs the examples of a document in order and backwards, each time all in one shell."""
@@ -157,12 +158,12 @@ class Documents:
                 self.skipped[shell[0]] += sum(map(len, found))
                 shell = BASH
             examples = sum(sorted(order, key=only_makes_a_folder, reverse=True), [])
-            got, _, changed = self.run([command for _, command, _ in examples], shell)
+            got, _, wrong = self.run([command for _, command, _ in examples], shell)
             for (number, command, wanted), came in zip(examples, got + ["(it did not run)\n"] * len(examples)):
                 message = f"{name}:{number}: $ {command}\n    prints in {shell[0]}\n{quoted(came)}"
                 self.tally.tell("examples", came == wanted, f"{message}    and should print\n{quoted(wanted)}")
-            message = f"{name}: the examples leave changed: {', '.join(sorted(changed))}"
-            self.tally.tell("folders left as they were", not changed, message)
+            message = f"{name}: the examples leave changed: {', '.join(wrong)}"
+            self.tally.tell("folders left as they were", not wrong, message)
 
     def run_on_stranger(self):
         """Runs the commands of two pages on a stranger's project, which cp copies."""
