@@ -223,7 +223,8 @@ class Page:
 
     def holder(self, module, name, given):
         """The page that keeps what is found of a definition: the one that was changed, if that is the same there."""
-        return self if (module.name, name) in self.touched or is_own(given) else self.base
+        is_here = self is self.base or (module.name, name) in self.touched or is_own(given)
+        return self if is_here else self.base
 
     def call_anew(self, module, name, given):
         """What the first clause is that matches; for a fact all clauses may, if that depends on an unknown."""
