@@ -9,7 +9,8 @@
     tools/go/compare_go.py --texts [COUNT [SEED]]  texts with one odd character, word or line, of tools/go/go_texts.py
                                                    (2000)
     tools/go/compare_go.py --go COMMAND ..         with this go, as /usr/lib/go-1.19/bin/go
-    tools/go/compare_go.py --check                 the check of this script that .ci/run runs, which needs no go
+    tools/go/compare_go.py --check [--quick]       the check of this script that .ci/run runs, which needs no go, or
+                                                   with fewer texts beside go
     tools/go/compare_go.py --record COMMAND        writes what go answers in that check anew
 
 First a module that `go mod tidy` and `go mod download` made ready, with packages, is compared; it isn't counted. A
@@ -537,19 +538,19 @@ class Check(script.Tally):
         with mock.patch.dict(globals(), MORE=0):
             expect(mute, "a row that no text shows", texts, 1, f"shows the row '{go_rows.DASH}'")
 
-    def compare_beside(self, real, version):
-        """Compares texts, others for each commit, and random worlds with a real go, and leaves a record for
+    def compare_beside(self, real, version, count):
+        """Compares texts, others for each commit, and random worlds with a real go, and leaves a record of TEXTS for
         tools/release/release.sh."""
         expect, seed = functools.partial(self.expect, "comparisons beside go"), script.git("rev-parse", "HEAD")
         seed = TEXTS * int(seed[:6] or "0", 16)
-        what = f"{TEXTS} texts from {seed}"
-        said = expect(Programs(real), what, ["--texts", TEXTS, seed], 0, NONE)
+        what = f"{count} texts from {seed}"
+        said = expect(Programs(real), what, ["--texts", count, seed], 0, NONE)
         judged = sum(map(int, re.findall(r"(?m)^ +(\d+) ", said)))
-        self.tell("texts that are judged", judged >= TEXTS, f"{judged} of {what} were judged")
+        self.tell("texts that are judged", judged >= count, f"{judged} of {what} were judged")
         expect(Programs(real), f"{WORLDS} random worlds", [WORLDS], 0, NONE)
         without = Programs(real, ("fmt", "\n\n", "\n"))
         expect(without, "gomod fmt without blank lines", [3], 1, f": fmt{NO_ROW}")
-        if all(is_right for _, is_right in self):
+        if count == TEXTS and all(is_right for _, is_right in self):
             program = hashlib.sha256(GOMOD.read_bytes()).hexdigest()
             write(f"{TOP}/bin/texts.txt", f"{what} beside {version}\n{program}  bin/gomod\n")
 
@@ -564,9 +565,9 @@ def drawn():
     return script.checksum(json.dumps(found))
 
 
-def check(real, version, is_checked=True):
-    """Makes the comparisons of --check, or of --record, and returns the status. What a real go answers is compared with
-    the recorded answers, or written."""
+def check(real, version, count):
+    """Makes the comparisons of --check with so many texts, or of --record, and returns the status. What a real go
+    answers is compared with the recorded answers, or written."""
     tally, recorded = Check(), {} if real else json.loads(read(ANSWERS))
     answers = {key: it for keys, it in recorded.get("answers", {}).items() for key in keys.split()}
     programs = Recorded(answers, real)
@@ -576,14 +577,14 @@ def check(real, version, is_checked=True):
         texts = [json.dumps(it) for it in answers.values()]
         groups = {" ".join(key for key, it in zip(answers, texts) if it == text): json.loads(text) for text in texts}
         text = json.dumps({"version": version, "drawn": drawn(), "answers": groups}, indent=0) + "\n"
-        tally.tell("files of answers that go gives", not script.keep(ANSWERS, text, is_checked, "--record"))
+        tally.tell("files of answers that go gives", not script.keep(ANSWERS, text, count > 0, "--record"))
     else:
         unasked = answers.keys() - programs.asked
         tally.tell("files of answers that are asked for", not unasked, f"nothing asks for {sorted(unasked)}")
         tally.tell("random worlds and texts", recorded["drawn"] == drawn(), "the first ones are others than recorded")
     tally.compare_without()
-    if real and is_checked:
-        tally.compare_beside(real, version)
+    if real and count:
+        tally.compare_beside(real, version, count)
     return tally.status()
 
 
@@ -607,16 +608,16 @@ def main(*words):
     if not os.access(GOMOD, os.X_OK):
         sys.exit("compare-go: there is no bin/gomod: run ./build")
     match words:
-        case ["--check"]:
+        case ["--check"] | ["--check", "--quick"]:
             version = json.loads(read(ANSWERS))["version"]
             real = go_of(version)
             if not real:
                 print(f"skipped, for want of {version}: comparisons beside go")
-            return check(real, version)
+            return check(real, version, TEXTS // 10 if words[1:] else TEXTS)
         case ["--record", command]:
-            return check(*real_go(command), False)
+            return check(*real_go(command), 0)
         case ["--check" | "--record", *_]:
-            script.misused("--check takes nothing, --record the name of a go command")
+            script.misused("--check takes --quick, --record the name of a go command")
     asked = parsed(words)
     go, version = real_go(asked.go)
     print(version)
