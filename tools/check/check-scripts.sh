@@ -181,10 +181,10 @@ check_quick() {
   machine 2500
   lay "$RT" ""
   lay tools/try/readme.py "echo 'skipped, for want of dot: 3 examples'"
-  quick "0:*14 checks passed, 0 failed, skipped for want of dot: 3 examples" "$can"
+  quick "0:*13 checks passed, 0 failed, skipped for want of dot: 3 examples" "$can"
   quick "1:*
 wrong
-run: tools/release/unproved.sh --both run_cases failed, *5 checks passed, 1 failed, 8 did not run" \
+run: tools/release/unproved.sh --both run_cases failed, *5 checks passed, 1 failed, 7 did not run" \
     'echo wrong && exit 1'
   quick "0:*2 checks passed, 0 failed" "$can" documents layout
   ends "2:run: --quick has no check 'x'; '*.ci/run --help' says what it takes" .ci/run --quick x
@@ -225,9 +225,9 @@ check_unproved() {
     "$(tail -n 1 "$work/installed/bin/gomod") $(cd "$work/installed/share/doc/gomod" && echo *)"
 }
 
-# Compares how tools/try/refuse-memory.sh ends where each call of tools/try/program.sh does this, and its record.
+# Compares how tools/try/refuse-memory.sh ends where each call of tools/try/program.py does this, and its record.
 refuse_memory() {
-  lay tools/try/program.sh "echo \"\$REFUSE_LATER:\$#:\$*\"; $1"
+  lay tools/try/program.py "echo \"\$REFUSE_LATER:\$#:\$*\"; $1"
   ends "$2" tools/try/refuse-memory.sh "${@:4}"
   leaves refused.txt "$3"
 }
@@ -250,24 +250,25 @@ check_refused_memory() {
   CC=no-cc refuse_memory "" "1:refuse-memory: there is no command no-cc*" ""
 }
 
-# Compares how tools/try/program.sh ends where tools/try/program.py prints this line and ends with this status, and its
-# record.
+# Compares how tools/try/program.py ends where in both worlds so many cases pass and fail and so many commands are seen,
+# and its record.
 program() {
-  printf 'import sys\nprint("%s")\nsys.exit(%d)\n' "$1" "$2" > tools/try/program.py
-  ends "$2:$1" tools/try/program.sh "${@:4}"
+  sed "s/^if __name__/run_in, chosen_cases, prints_large_graph = lambda *_: ($1), lambda *_: [1], bool\n&/" \
+    "$FROM/tools/try/program.py" > tools/try/program.py
+  ends "$2" tools/try/program.py "${@:4}"
   leaves opened.txt "$3"
 }
 
 check_opened() {
-  local passes="2 passed, 0 failed, 5 commands open nothing else" head
-  scratch tools/try/program.sh
-  head=$(git rev-parse HEAD)
-  program "$passes" 0 "" a.txt
-  program "$passes" 0 "5 commands, none opens more than it names, on $(date -u +%F) at commit $head with changes
+  local passes="0:2 passed, 0 failed; in the other world 1 passed, 0 failed, 5 commands open nothing else"
+  scratch tools/try/program.py
+  program 1,0,5 "0:*" "" a.txt
+  program 1,0,5 "$passes" "5 commands, none opens more than it names, on $(date -u +%F) at commit $(git rev-parse HEAD) \
+with changes
 $(sha256sum bin/gomod)"
-  program "2 passed, 0 failed; what they open was not looked at" 0 ""
+  program 1,0,0 "0:skipped, *2 passed, *; what they open was not looked at" ""
   echo before > bin/opened.txt
-  program "$passes" 1 ""
+  program 1,1,5 "1:*1 failed*" ""
 }
 
 check_release() {

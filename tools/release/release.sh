@@ -153,7 +153,7 @@ while IFS='|' read -r name how label; do
   records+=$'\n'"$label: $record"
 done << 'RECORDS'
 refused|tools/try/refuse-memory.sh|each allocation refused
-opened|tools/try/program.sh, where strace is|what each command opens
+opened|tools/try/program.py, where strace is|what each command opens
 checked|tools/try/cases.sh --checked|cases with checks
 mistakes|tools/try/mistakes.py|wrong bodies
 texts|tools/go/compare_go.py --check, where go 1.19.8 is|texts beside go

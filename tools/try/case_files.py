@@ -72,6 +72,11 @@ def moderate_sizes(least, sizes):
     return [it for it in sizes if it <= 20_000] or [min(sizes)]
 
 
+def quick_sizes(least, sizes):
+    """The same for quick runs: in a range an eighth of what is over 131,072, but no less than that."""
+    return sizes if least is None else [min(it, max(it // 8, 131_072)) for it in sizes]
+
+
 def sizes_of(lines, choose):
     found = lines[1:] and re.fullmatch(rb"% sizes (?:(\d+) to )?(\d+(?:, \d+)*)", lines[1])
     if not found:
@@ -202,11 +207,15 @@ class Case:
 
     def is_hungry(self):
         """Whether a command takes much memory for it, so that no other such case should run beside it."""
-        return any(it.kind == b"repeat" and int(it.argument) > 900_000 for it in self.pieces)
+        return self.has_over(900_000, 1 << 30)
 
     def is_large(self):
         """Whether its commands ask for memory so often that refusing each time would take hours."""
-        most = {b"repeat": 64, b"fill": 100_000}
+        return self.has_over(64, 100_000)
+
+    def has_over(self, repeats, size):
+        """Whether something is repeated more often than so, or a line is filled to more than a size."""
+        most = {b"repeat": repeats, b"fill": size}
         return any(it.kind in most and int(it.argument) > most[it.kind] for it in self.pieces)
 
     def end(self):

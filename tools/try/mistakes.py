@@ -19,7 +19,7 @@ A file has the mistakes of its crate, with a blank line between them:
 
 All bodies stand in one program, which isn't proved (tools/release/unproved.sh --both). A changed function does what the
 wrong body does if a number in the program is that of the mistake, so a body may change nothing but what functions do. A
-case is run by run_cases and, if it passes there, by tools/try/program.sh. It fails, too, if a signal ends it, 100
+case is run by run_cases and, if it passes there, by tools/try/program.py. It fails, too, if a signal ends it, 100
 seconds of CPU time, or a wait as long in which no CPU is used.
 
 It prints each body on which its case passes, or which isn't needed for it to fail, and each whose text isn't in the
@@ -29,7 +29,6 @@ cases.
 """
 
 import concurrent.futures
-import datetime
 import os
 import pathlib
 import re
@@ -37,6 +36,7 @@ import shutil
 import subprocess
 import sys
 import tempfile
+import time
 
 sys.path.append(f"{sys.path[0]}/..")
 import script
@@ -206,9 +206,9 @@ class Trial:
         self.room.chmod(0o777)
 
     def run(self, file, part, is_itself):
-        """Runs a case by tools/try/program.sh, or by run_cases, as nobody if root starts it."""
+        """Runs a case by tools/try/program.py, or by run_cases, as nobody if root starts it."""
         given = {}
-        words = [sys.executable, "-B", "tools/try/program.py", self.room / "gomod", "--unproved", CASES / file, part]
+        words = ["tools/try/program.py", "--program", self.room / "gomod", "--unproved", CASES / file, part]
         if not is_itself:
             words = ["prlimit", f"--as={BYTES}", f"--cpu={SECONDS}", "--", *(AS_NOBODY if os.getuid() == 0 else []),
                      self.program, os.path.basename(file), part]
@@ -284,8 +284,7 @@ def main(*words):
     if not words:
         if shared("checksum_of_program") != sources:
             sys.exit("mistakes: the sources aren't those at the start")
-        day = datetime.datetime.now(datetime.timezone.utc).date()
-        write(RECORD, f"{said}, on {day} at commit {commit}\n{sources}\n")
+        write(RECORD, f"{said}, on {time.strftime('%F', time.gmtime())} at commit {commit}\n{sources}\n")
     return 0
 
 

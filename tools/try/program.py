@@ -1,22 +1,50 @@
-"""Runs the cases of command lines, as program.sh says, in this world, and then in another one.
+#!/usr/bin/env -S python3 -B
+"""Runs bin/gomod itself over the cases of command lines, and compares standard output, standard error and the status.
 
-    program.py PROGRAM [--unproved] [--this | --other] [FILE.txt..] [TITLE..]
+    tools/try/program.py                     the cases of crates/run_cases/data and its folders sizes and program
+    tools/try/program.py FILE.txt.. TITLE..  those of these files, or those whose titles have one of these texts
+    tools/try/program.py --unproved ..       the same with a program that unproved.sh made: where a case has the version
+                                             of a proved one, what it prints has to say that nothing is proved
+    tools/try/program.py --quick ..          that with an eighth of a size over 131,072, but no less than that, and in
+                                             the other world without large cases and those about memory
+    tools/try/program.py --program FILE ..   the same with another program
 
-case_files.py reads the cases. The other world's program is nobody's, if root starts it, so that permissions
-count. Its environment is full of variables that the go command, a library or a terminal reads, and for every eighth
-command empty. Standard output and standard error are terminals, both for half of the commands, else one of them.
-Standard input is a terminal at which nobody types or, where the words name it, a file, or a terminal at which the text
-was typed. Output, report and status have to be those of the case all the same. A case with a range of sizes runs at
-about 1,000, one with a list at those up to 20,000, or at the least. If strace is there, each command runs under it, and
-opened.py says what is wrong with what it saw.
+What this adds to the merge gate, which runs the same cases inside a process, is standard error and the whole way from
+the words to the system. case_files.py reads the cases. Calls, cases with a file at the root of the system, and those of
+files without permission for root are left out.
+
+Of a case with a range of sizes it runs the greatest, of one with a list each. Each command then has an address space
+of 64 MiB and a hundred times the bytes of its words and of the files of the case, or what a line `% memory N` gives,
+and always the stack that README.md names. Standard input stays open, unless it is read. A command that only waits for
+100 seconds ends the script.
+
+The program's name is not UTF-8. The folder of a case, the one above, HOME and TMPDIR must be the same after its
+commands as before. In a case with a line `% streams` each command runs with each mixture of standard streams that are
+open, closed, /dev/full or open the wrong way, and with a socket or a folder as an input that it reads: if the stream
+that it needs takes no byte, the status must be 3, and the other one empty.
+
+Then all cases run once more in another world. Its program is nobody's, if root starts it, so that permissions count.
+Its environment is full of variables that the go command, a library or a terminal reads, and for every eighth command
+empty. Standard output and standard error are terminals, both for half of the commands, else one of them. Standard input
+is a terminal at which nobody types or, where the words name it, a file, or a terminal at which the text was typed.
+Output, report and status have to be those of the case all the same. A case with a range of sizes runs at about 1,000,
+one with a list at those up to 20,000, or at the least. If strace may look at processes, it shows what each command
+opens and calls (opened.py); if it doesn't, the last line says so. If refuse-memory.sh sets REFUSE_MEMORY, each command
+runs again with each of its allocations refused, and there is no other world.
+
+Without arguments it removes bin/opened.txt, and if all pass and strace is there makes it anew for release.sh: the
+number of commands, the day and the commit, and the sha256 of bin/gomod. It does neither without git, or in a bin/ that
+it may not write. It needs bin/gomod (./build makes it) and prints each difference. The status is 1 if a case failed.
 """
 
 import concurrent.futures
 import contextlib
 import errno
+import hashlib
 import itertools
 import multiprocessing
 import os
+import pathlib
 import re
 import resource
 import selectors
@@ -28,14 +56,18 @@ import sys
 import tempfile
 import termios
 import threading
+import time
 import tty
 
 sys.path.append(f"{sys.path[0]}/..")
 import script
 import opened
-from case_files import PIPES, bytes_below, case_of, chosen_cases, greatest_sizes, laid, moderate_sizes, shown
+from case_files import (
+    PIPES, bytes_below, case_of, chosen_cases, greatest_sizes, laid, moderate_sizes, quick_sizes, shown
+)
 from script import AT_ONCE, holding, ticks_of, write
 
+RECORD = "bin/opened.txt"
 REFUSE_MEMORY = os.environ.pop("REFUSE_MEMORY", None)
 REFUSE_LATER = os.environ.pop("REFUSE_LATER", None)
 # each way to refuse an allocation, and whether that refuses later ones, too
@@ -125,8 +157,8 @@ class World:
     here = None  # that of this process
     name = ""
 
-    def __init__(self, program, is_proved, scratch, turn):
-        self.program, self.is_proved, self.turn = program, is_proved, turn
+    def __init__(self, program, how, scratch, turn):
+        self.program, self.is_proved, self.is_quick, self.turn = program, not how, how == "--quick", turn
         self.folder = tempfile.mkdtemp(prefix="worker-", dir=scratch)
         self.count = 0  # how many runs had an allocation refused, or were seen by strace
         self.own_process()
@@ -158,8 +190,7 @@ class ThisWorld(World):
         self.starting = threading.Lock()  # limits are those of all threads
         self.environment = {**os.environ, "HOME": self.home, "TMPDIR": self.temporary}
 
-    @staticmethod
-    def takes(case):
+    def takes(self, case):
         """Whether a case is run as this user, with files as its words name them."""
         is_large = REFUSE_MEMORY and (case.is_large() or case.has(*PIPES))
         is_root = not os.geteuid()
@@ -310,10 +341,9 @@ class OtherWorld(World):
             os.setgid(NOBODY)
             os.setuid(NOBODY)
 
-    @staticmethod
-    def takes(case):
-        """Whether a case has no file at the root of the system."""
-        return not case.is_rooted()
+    def takes(self, case):
+        """Whether a case has no file at the root of the system and, in a quick run, takes little time."""
+        return not (case.is_rooted() or (self.is_quick and (case.memory or case.has_over(20_000, 1_000_000))))
 
     @staticmethod
     def terminal():
@@ -447,7 +477,7 @@ def judge(job):
         return world.all_faults(path, case), world.count - before
 
 
-def run_in(world, program, is_proved, jobs):
+def run_in(world, program, how, jobs):
     """Runs cases in a world, and prints what is wrong. Returns how many passed and failed, and what was counted."""
     passed = failed = counted = 0
     context = multiprocessing.get_context("fork")
@@ -455,7 +485,7 @@ def run_in(world, program, is_proved, jobs):
         os.chmod(scratch, 0o711)
         copied = shutil.copy(program, os.path.join(scratch, "gomod"))
         os.chmod(copied, 0o755)
-        given = world, copied, is_proved, scratch, context.Lock()
+        given = world, copied, how, scratch, context.Lock()
         # if allocations are refused, each of these runs beside others
         with concurrent.futures.ProcessPoolExecutor(1 if REFUSE_MEMORY else AT_ONCE, context, begin, given) as pool:
             for said, count in filter(None, pool.map(judge, jobs)):
@@ -464,33 +494,46 @@ def run_in(world, program, is_proved, jobs):
     return passed, failed, counted
 
 
-def main(program, *words):
-    """Runs the cases, in this world and in another one, and prints how many passed and failed."""
-    options = {it for it in words if it in ("--unproved", "--this", "--other")}
-    words = [it for it in words if it not in options]
-    jobs = chosen_cases(words, moderate_sizes)
+def run_all(program, how, words):
+    """Runs the cases that words choose, in this world and in another one, and prints how many passed and failed.
+    Returns the status, and how many commands strace saw if all passed."""
+    jobs = chosen_cases(words, quick_sizes if how == "--quick" else greatest_sizes)
     if words and not jobs:
         script.misused(f"it finds no case by '{' '.join(words)}'")
-    is_proved, said, wrong = "--unproved" not in options, [], 0
-    if "--other" not in options:
-        passed, wrong, refusals = run_in(ThisWorld, program, is_proved, chosen_cases(words, greatest_sizes))
-        if not words and not REFUSE_MEMORY:
-            is_right = prints_large_graph(program)
-            passed, wrong = passed + is_right, wrong + (not is_right)
-        said.append(f"{passed} passed, {wrong} failed")
-        if REFUSE_MEMORY:
-            print(f"{said[0]}, {refusals} runs with an allocation refused")
-            return 1 if wrong else 0
-    if "--this" not in options:
-        passed, failed, seen = run_in(OtherWorld, program, is_proved, jobs)
-        if not seen:
-            print("skipped, for want of strace: what each command opens")
-        looked = f", {seen} commands open nothing else" if seen else "; what they open was not looked at"
-        said.append(f"in the other world {passed} passed, {failed} failed{looked}")
-        wrong += failed
-    print("; ".join(said))
-    return 1 if wrong else 0
+    passed, wrong, refusals = run_in(ThisWorld, program, how, jobs)
+    if REFUSE_MEMORY:
+        print(f"{passed} passed, {wrong} failed, {refusals} runs with an allocation refused")
+        return int(wrong > 0), 0
+    if not words:
+        is_right = prints_large_graph(program)
+        passed, wrong = passed + is_right, wrong + (not is_right)
+    others, failed, seen = run_in(OtherWorld, program, how, chosen_cases(words, moderate_sizes))
+    if not seen:
+        print("skipped, for want of strace: what each command opens")
+    looked = f", {seen} commands open nothing else" if seen else "; what they open was not looked at"
+    print(f"{passed} passed, {wrong} failed; in the other world {others} passed, {failed} failed{looked}")
+    return (1, 0) if wrong + failed else (0, seen)
+
+
+def main(*words):
+    """Runs the cases, and keeps the record."""
+    program, words = script.program_of(words)
+    how, *words = words if words[:1] in (("--unproved",), ("--quick",)) else ("", *words)
+    if sys.argv[1:] or REFUSE_MEMORY or not os.access("bin", os.W_OK) or not script.git("rev-parse", "HEAD"):
+        return run_all(program, how, words)[0]
+    pathlib.Path(RECORD).unlink(missing_ok=True)
+    commit, checksum = script.shared("commit_here"), checksum_of(program)
+    status, seen = run_all(program, how, words)
+    if seen and checksum_of(program) == checksum:
+        when = time.strftime("%F", time.gmtime())
+        said = f"{seen} commands, none opens more than it names, on {when} at commit {commit}"
+        write(RECORD, f"{said}\n{checksum}  bin/gomod\n")
+    return status
+
+
+def checksum_of(program):
+    return hashlib.sha256(pathlib.Path(program).read_bytes()).hexdigest()
 
 
 if __name__ == "__main__":
-    script.run(main, r" (?!-)\S+( --unproved)?( --this| --other)?( --unproved)?( (?!-)\S+)*")
+    script.run(main, r"( --program \S+)?( --unproved| --quick)?( (?!-)\S+)*")

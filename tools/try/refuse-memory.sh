@@ -43,7 +43,7 @@ runs=0 failures=0
 # The commands of cases. Those whose files are made large are left out, unless their titles are given.
 refuse_in_cases() {
   local count
-  REFUSE_MEMORY=$work/faults.so tools/try/program.sh "$@" | tee "$work/said" || failures=$((failures + 1))
+  REFUSE_MEMORY=$work/faults.so tools/try/program.py "$@" | tee "$work/said" || failures=$((failures + 1))
   count=$(sed -n '$s/.*, \([0-9]*\) runs .*/\1/p' "$work/said")
   runs=$((runs + ${count:-0}))
 }
