@@ -67,39 +67,39 @@ need_gomod() {
 # A folder that stands for / where the next functions read /proc and /sys: a test gives one with its own files.
 GOMOD_MACHINE=${GOMOD_MACHINE:-}
 
-# Prints the nearest file of this name in this process's control group or those above it, which have the limits of a
-# container.
-of_control_group() {
-  local folder
-  folder=$GOMOD_MACHINE/sys/fs/cgroup$(sed -n 's/^0:://p' "$GOMOD_MACHINE/proc/self/cgroup" 2> /dev/null) || return 0
-  until [ -r "$folder/$1" ] || [ -z "$folder" ]; do folder=${folder%/*}; done
-  echo "${folder:+$folder/$1}"
-}
+# Prints what these files of a controller say in this process's control groups, of both versions, and in those above,
+# which have the limits of a container: a paragraph for each group.
+of_control_groups() {
+  local controller=${1%%.*} folder
+  { sed -En "s|^0::||p; s|^[0-9]+:([^:]*,)?$controller(,[^:]*)?:|/$controller|p" "$GOMOD_MACHINE/proc/self/cgroup" ||
+    true; } | while read -r folder; do
+    folder=$GOMOD_MACHINE/sys/fs/cgroup$folder
+    until [ -z "$folder" ]; do
+      cat "${@/#/$folder/}" || true
+      echo
+      folder=${folder%/*}
+    done
+  done
+} 2> /dev/null
 
 # How many MB of memory can be had: what the system has available, or less if a control group has a limit: this less
 # what is in use, but for the pages of files, which it can give back.
 free_memory_mb() {
-  local limit
-  limit=$(of_control_group memory.max)
-  awk '
-    /^MemAvailable:/ { free = $2 * 1024 }
-    FILENAME ~ /max$/ { limit = $1 }
-    FILENAME ~ /current$/ { used = $1 }
-    /^(in)?active_file / { used -= $2 }
-    END { printf "%d\n", (limit ~ /^[0-9]+$/ && limit - used < free ? limit - used : free) / 1048576 }
-  ' "$GOMOD_MACHINE/proc/meminfo" ${limit:+"$limit" "${limit%max}current" "${limit%max}stat"}
+  {
+    awk '/^MemAvailable:/ { printf "%.0f 0\n\n", $2 * 1024 }' "$GOMOD_MACHINE/proc/meminfo"
+    of_control_groups memory.{max,limit_in_bytes,current,usage_in_bytes,stat}
+  } | awk -v RS= '{
+    for (at = 3; at < NF; at += 2) { sub(/^total_/, "", $at); part[$at] = $(at + 1) }
+    if ($1 $2 ~ /^[0-9]+$/) printf "%d\n", ($1 - $2 + part["active_file"] + part["inactive_file"]) / 1048576
+  }' | sort -n | head -n 1
 }
 
 free_disk_mb() { df -Pk . | awk 'NR == 2 { print int($4 / 1024) }'; }
 
 # How many processors there are to use, at least 1: those of this process, or fewer by the quota of a control group.
 processors() {
-  local quota
-  quota=$(of_control_group cpu.max)
-  awk -v own="$(nproc)" '
-    $1 ~ /^[0-9]+$/ && $1 < $2 * own { own = $1 < $2 ? 1 : int($1 / $2) }
-    END { print own }
-  ' "${quota:-/dev/null}"
+  { printf '%d 1\n\n' "$(nproc)" && of_control_groups cpu.{max,cfs_quota_us,cfs_period_us}; } |
+    awk -v RS= '$1 $2 ~ /^[0-9]+$/ { print ($1 < $2 ? 1 : int($1 / $2)) }' | sort -n | head -n 1
 }
 
 # Refuses what the first argument says if it lacks here the toolchain, so many MB of memory or so many of disk.

@@ -79,11 +79,13 @@ scratch() {
   commit
 }
 
-# Makes the files of a machine anew, with so many MB available, and in /a of its control groups these limits.
+# Makes the files of a machine anew, with so many MB available, and in /a of its control groups these limits. The group
+# of this process is below, and has none.
 machine() {
   local group=$MACHINE/sys/fs/cgroup/a
   rm -rf "$MACHINE"
   mkdir -p "$MACHINE/proc/self" "$group/b"
+  tee "$group/b/memory.max" "$group/b/cpu.max" <<< max > /dev/null
   printf 'MemTotal: 99999999 kB\nMemAvailable: %d kB\n' $(($1 * 1024)) > "$MACHINE/proc/meminfo"
   echo 0::/a/b > "$MACHINE/proc/self/cgroup"
   [ $# -eq 1 ] || echo $(($2 << 20)) > "$group/memory.max"
@@ -121,6 +123,11 @@ check_limits() {
   ends $'0:1140\n1' limits
   machine 5000 9000
   ends $'0:5000\n4' limits
+  machine 5000 1200
+  echo 4:cpu,memory:/a/b > "$MACHINE/proc/self/cgroup"
+  (cd "$MACHINE/sys/fs/cgroup" && mkdir memory && mv a memory && cd memory/a &&
+    mv memory.max memory.limit_in_bytes && mv memory.current memory.usage_in_bytes)
+  ends $'0:1140\n4' limits
   rm "$MACHINE/proc/self/cgroup"
   ends $'0:5000\n4' limits
   ends "1:check-scripts: x needs 9001 MB of disk, and 9000 MB are free" need_room x 5000 9001
