@@ -257,7 +257,8 @@ check_refused_memory() {
   refuse_memory "$passes" "0:*" "61 runs, none wrong, on $(date -u +%F) at commit $head"$'\n'"$(sha256sum bin/gomod)"
   same "PROVED.md" "at ${head:0:8} none of 61 runs was wrong" "$(cat docs/proof/PROVED.md)"
   refuse_memory 'exit 1' "1:*2 failures*" ""
-  refuse_memory 'echo "# x" >> bin/gomod' "1:*refuse-memory: bin/gomod isn't the program*" ""
+  refuse_memory 'echo "2 passed, 0 failed"' "1:*2 failures*" ""
+  refuse_memory "$passes; echo '# x' >> bin/gomod" "1:*refuse-memory: bin/gomod isn't the program*" ""
   CC=no-cc refuse_memory "" "1:refuse-memory: there is no command no-cc*" ""
 }
 

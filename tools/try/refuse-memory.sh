@@ -43,8 +43,8 @@ runs=0 failures=0
 # The commands of cases. Those whose files are made large are left out, unless their titles are given.
 refuse_in_cases() {
   local count
-  REFUSE_MEMORY=$work/faults.so tools/try/program.py "$@" | tee "$work/said" || failures=$((failures + 1))
-  count=$(sed -n '$s/.*, \([0-9]*\) runs .*/\1/p' "$work/said")
+  { REFUSE_MEMORY=$work/faults.so tools/try/program.py "$@" | tee "$work/said" &&
+    count=$(grep -oP '\d+(?= runs with an allocation refused$)' "$work/said"); } || failures=$((failures + 1))
   runs=$((runs + ${count:-0}))
 }
 
