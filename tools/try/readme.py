@@ -195,7 +195,7 @@ class Documents:
 
     def follow_links(self, name, text):
         """Looks each link to a file, or to a heading of one, up."""
-        for link, path, anchor in re.findall(r"\]\((((?![a-z]+:)[^)#\s]*)(?:#([^)\s]*))?)\)", text):
+        for link, path, anchor in re.findall(r"\]\((((?![a-z]+:)[^)#]*)(?:#([^)]*))?)\)", text):
             path = os.path.join(os.path.dirname(name), path) if path else name
             is_right = os.path.exists(path) and (not anchor or anchor in anchors(path))
             self.tally.tell("links", is_right, f"{name}: there is no {link}")
