@@ -80,6 +80,12 @@ def wide(count):
     return {"go.mod": main_of(numbered(count)), "go.sum": sums} | files
 
 
+def missing(count):
+    """A main file that requires so many modules, and so many versions of one in whose place is a path as long."""
+    more = f"\nreplace a.c => {'x' * 10 * count} v1.0.0\n"
+    return {"go.mod": main_of(numbered(count) + numbered(count, "a.c v1.0.{}"), more)}
+
+
 def pruned(count):
     """The files of a main module that requires one, which requires so many."""
     return {
@@ -121,8 +127,7 @@ def spread():
 
 def lists_of_one_tag(count, base):
     """So many lists of eight of the numbers from `base` on whose tag is 0, as `tag_of` of gm_graph_files makes it. Six
-    are
-    chosen; the last two must cancel what these leave, and are looked up by their exclusive or."""
+    are chosen; the last two must cancel what these leave, and are looked up by their exclusive or."""
     factor = spread()
     inverse = pow(factor, -1, 1 << 32)
     before_last = {}
@@ -203,7 +208,7 @@ ROWS = [
     Row("lines and operations", 20, "edit go.mod *droprequire=a.c/x", long_lines),
     Row("modules", 1000, f"list {PROXY}", wide),
     Row("modules with sums", 1000, f"list {PROXY} --sum go.sum --limit 1", wide),
-    Row("missing modules", 1000, f"list {PROXY}", lines, 1),
+    Row("missing modules and versions", 500, f"list {PROXY}", missing, 1),
     Row("requirements of a dependency", 2000, f"list {PROXY}", pruned),
     Row("lists of one tag", 1000, f"list {PROXY}", one_tag),
     Row("excludes and replaces", 1000, f"list {PROXY}", replaced),
