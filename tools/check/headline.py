@@ -43,13 +43,16 @@ from sources import (
 )
 
 FOLDER = pathlib.Path("docs/proof")
-GRAPH = ("gm_graph_files", "gm_graph_cache", "gm_graph_select", "gm_graph", "gomod_run")  # the crates that know module graphs
+# the crates that know module graphs
+GRAPH = (
+    "gm_graph_files", "gm_graph_cache", "gm_graph_select", "gm_graph", "gomod_texts", "gomod_outcomes", "gomod_run")
 RUNNING = CRATES / "gomod_run/src/running.rt"
 LIST = ["gomod_texts.specs.ListQuery.ListEnds", "gomod_run.specs.Written.EndsAsStated"]
 # the crates of copies, with the definitions that reach theirs
 COPIES = {"page": LIST[:1], "page_commands": [
     "gomod_outcomes.specs.Versions.VersionsEnds", "gomod_texts.specs.ChainQuery.PrintsChain",
-    "gomod_texts.specs.GraphQuery.PrintsGraph", "gomod_outcomes.specs.Fmt.FmtEnds", "gomod_outcomes.specs.Edit.EditEnds",
+    "gomod_texts.specs.GraphQuery.PrintsGraph", "gomod_outcomes.specs.Fmt.FmtEnds",
+    "gomod_outcomes.specs.Edit.EditEnds",
     "gm_store_sums.specs.Hash.file_hash", "gm_store_sums.specs.Sums.SaysOfHash",
     "gm_store_sums.specs.Sums.IsFirstInvalid", "gm_store_sums.specs.Sums.HasValidLines",
     "gm_store_parts.specs.Asked.answer_in", "gm_store.specs.Relative.relative_text", "gm_name.specs.Path.IsPath",
