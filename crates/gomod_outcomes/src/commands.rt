@@ -28,8 +28,10 @@ fn whole<'c>(ended: Result<String, Report<'c>>) -> Result<Text, Report<'c>>
     }
 }
 
-/// What a command ends with over the main file, a go.sum if one is given, and a store that has not been asked yet:
-/// a text or a report.
+/// What a command ends with over the bytes of the main file, those of a go.sum if one is given, and a store that has
+/// not been asked yet: a text or a report. `run` of gomod_run writes it, and its doc comment says which report comes
+/// when, and which of them `gomod: no memory` may replace. The store is asked only for files that are needed, each at
+/// most once.
 pub fn outcome<'c, F: Asks>(
     alloc: Global,
     command: &'c Command,

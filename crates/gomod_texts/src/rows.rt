@@ -56,8 +56,7 @@ fn give_row<O: Sink>(
 
 /// Writes the rows as `go list -m all` prints them (Go Modules Reference, "go list -m"): one per line, in the given
 /// order. The main module is written as its path `main`, another module as `PATH VERSION`. If it is replaced, ` => `
-/// and
-/// `NEWPATH NEWVERSION` or the text of the folder follow. It takes no memory.
+/// and `NEWPATH NEWVERSION` or the text of the folder follow. It takes no memory.
 pub(crate) fn write_rows<O: Sink>(
     sink: &mut O,
     main: &ModPath,

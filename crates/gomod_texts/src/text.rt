@@ -133,7 +133,7 @@ impl Text {
     }
 }
 
-/// Writes a text that is one string, likewise.
+/// Writes a text that is one string to a sink, up to the first failure of the sink. It takes no memory.
 pub fn write_whole<O: Sink>(sink: &mut O, text: &str) -> Result<(), WriteFault>
     ensures { Took (O.state sink.old) (O.state sink.new) text.now result }
 {
