@@ -116,6 +116,9 @@ class Run:
         elif line == b"@" or line.startswith(b"@ "):
             self.opened = [*(self.opened or []), *([line[2:]] if line[2:] else [])]
 
+    def told(self, what=""):
+        return f"line {self.line}{what}: $ {self.text.decode()}"
+
     def wanted(self, is_proved):
         """The output, the report and the status, given whether the program says that it is proved."""
         return self.out if is_proved else PROVED.sub(UNPROVED, self.out), self.report, self.status

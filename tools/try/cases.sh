@@ -66,11 +66,12 @@ fi
 cases_of() { if [ "$1" = gate ]; then echo "$CRATE/data"; else echo "$CRATE/data/$1"; fi; }
 run_of() { if [ "$1" = gate ]; then echo "$CRATE"; else echo "$CRATE/data/$1"; fi; }
 
-# Prints the files of cases that a folder has, and the file of arguments doesn't name.
+# Prints the files of cases of a name that the arguments don't have.
 unnamed() {
-  local folder=$1 file
-  for file in "$folder"/*.txt; do
-    grep -qxF -- "$(basename "$file")" "$2" || echo "cases: $2 doesn't name $(basename "$file")"
+  local args file
+  args=$(run_of "$1")/args
+  for file in "$(cases_of "$1")"/*.txt; do
+    grep -qxF -- "$(basename "$file")" "$args" || echo "cases: $args doesn't name $(basename "$file")"
   done
 }
 
@@ -137,9 +138,8 @@ for number in "${!programs[@]}"; do
   install -m 755 "${programs[$number]}" "$work/$number.run_cases"
 done
 passed=0 failed=0
-lacking=$(unnamed "$CRATE/data" "$CRATE/args")
+lacking=$(for name in gate sizes wrong; do unnamed "$name"; done)
 for name in "${names[@]}"; do
-  [ "$name" = gate ] || lacking+=$(unnamed "$CRATE/data/$name" "$CRATE/data/$name/args")
   for number in "${!programs[@]}"; do
     run_on "$name" "$number" &
   done

@@ -226,7 +226,7 @@ class ThisWorld(World):
                 try:
                     out, report = script.finish(command, text, LIMIT)
                 except subprocess.TimeoutExpired:
-                    sys.exit(f"program: line {run.line} only waits, for {LIMIT} seconds: $ {run.text.decode()}")
+                    only_waits(run)
         return out or b"", report or b"", command.returncode
 
     def refused(self, run, case, folder, stdin):
@@ -251,7 +251,7 @@ class ThisWorld(World):
                 for number, (out, report, status) in zip(numbers, pool.map(refused_at, numbers)):
                     if report.endswith(PASSED):
                         if number == 1 or (out, report.removesuffix(PASSED), status) != self.wanted(run):
-                            sys.exit(f"program: line {run.line}: no allocation was refused: $ {run.text.decode()}")
+                            sys.exit(f"program: {run.told(': no allocation was refused')}")
                         return
                     self.count += 1
                     yield number, (out, report, status)
@@ -304,7 +304,11 @@ def wanted_with(kinds, run, wanted):
 
 def differing(run, got, wanted, over=""):
     """What a run came to and what is wanted, in lines."""
-    return [f"  line {run.line}{over}: $ {run.text.decode()}", shown("got", *got), shown("wanted", *wanted)]
+    return [f"  {run.told(over)}", shown("got", *got), shown("wanted", *wanted)]
+
+
+def only_waits(run):
+    sys.exit(f"program: {run.told(f' only waits, for {LIMIT} seconds')}")
 
 
 class OtherWorld(World):
@@ -397,7 +401,7 @@ class OtherWorld(World):
             os.close(own_report)
             texts = read_all([out, report], command)
             if texts is None:
-                sys.exit(f"program: line {run.line} only waits, for {LIMIT} seconds: $ {run.text.decode()}")
+                only_waits(run)
             return *texts, command.wait()
 
     def faults_of(self, run, case, folder):
@@ -408,7 +412,7 @@ class OtherWorld(World):
         if self.tracer:
             self.count += 1
             faults = [f"  {it}" for it in opened.faults_of(self.log, allowed)]
-            said += [f"  line {run.line}: $ {run.text.decode()}", *faults] if faults else []
+            said += [f"  {run.told()}", *faults] if faults else []
         return said
 
 
