@@ -27,7 +27,6 @@ It needs git and python3, but no program. In a clone without its whole history n
 
 import collections
 import fnmatch
-import functools
 import glob
 import itertools
 import os
@@ -42,6 +41,7 @@ import messages
 import names
 import refusals
 import sentences
+from readme import FENCED, blanked
 from script import Tally, checksum, git, read
 from sources import code_of, functions, items_of, plain, scope_of
 
@@ -182,7 +182,7 @@ class Sources:
         if kind == "edits that went":
             return thing not in self.known["edits"]
         if kind == "commits":
-            return is_shallow() or f"\n{thing}" in f"\n{git('log', '--format=%H')}"
+            return has_commit(thing)
         if kind.endswith("paths of names"):
             *owners, last = thing.split("::")
             return any(it.issuperset(owners) for it in self.owners[kind, last])
@@ -192,9 +192,10 @@ class Sources:
         return thing in self.known[kind] or kind == "names in proofs" and thing in self.known["names"]
 
 
-@functools.cache
-def is_shallow():
-    return git("rev-parse", "--is-shallow-repository") == "true"
+def has_commit(commit, *words):
+    """Whether the log of these words has a commit, or isn't all there."""
+    log = git("log", "--format=%H", *words)
+    return f"\n{commit}" in f"\n{log}" or git("rev-parse", "--is-shallow-repository") == "true"
 
 
 def mentioned(line, page, tops):
@@ -234,8 +235,7 @@ def keep_names(tally):
     """Looks up all that the documents name."""
     sources = Sources()
     for page in pages():
-        text = re.sub(r"(?ms)^```.*?^```$", lambda it: "\n" * it[0].count("\n"), read(page))
-        for number, line in enumerate(text.split("\n"), 1):
+        for number, line in enumerate(blanked(FENCED, read(page)).split("\n"), 1):
             for kind, thing in mentioned(line, page, sources.tops):
                 tally.tell(kind, sources.has(kind, thing), f"{page}:{number}: {thing} isn't one of the {kind}")
 
@@ -245,7 +245,7 @@ def keep_names(tally):
 
 def words_of(text):
     """How many words of a text count."""
-    text = re.sub(rf"(?ms)^```.*?^```$|{SHOWN}|<!--.*?-->|^>[^\n]*$|^\|[-:| ]+\|$", "", text)
+    text = re.sub(rf"{FENCED}|{SHOWN}|<!--.*?-->|^>[^\n]*$|^\|[-:| ]+\|$", "", text)
     return sum(len((re.sub(r"(?<!\\)\|", " ", it) if it.startswith("|") else it).split()) for it in text.split("\n"))
 
 
@@ -295,9 +295,8 @@ def keep_figures(tally):
     shown, page = "".join(re.findall(SHOWN, read("README.md"), re.M | re.S)), read(FIGURES)
     wrong = [it for it in shown.split("\n") if f"\n{it}" not in page]
     tally.tell("figures", not wrong, f"README.md: {FIGURES} has no {wrong}; bench/tables.sh --write writes both")
-    for commit in re.findall(MEASURED, page) if not is_shallow() else []:
-        is_right = f"\n{commit}" in f"\n{git('log', '--format=%H', '--', '*.rt')}"
-        tally.tell("figures", is_right, f"{FIGURES}: {commit} is no commit that changed a .rt file")
+    for commit in re.findall(MEASURED, page):
+        tally.tell("figures", has_commit(commit, "--", "*.rt"), f"{FIGURES}: {commit} is no commit that changed a .rt file")
 
 
 def keep_derives(tally):

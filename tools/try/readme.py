@@ -6,12 +6,12 @@
     tools/try/readme.py --quick [FILE..]  the same without compiling the program of docs/lib/LIBRARY.md
     tools/try/readme.py --archive FOLDER  the documents of a release that was unpacked into FOLDER, with its program
 
-An example is a block of lines that are indented by four spaces, the first of which begins `$ `: each such line is a
-command of a shell, and the lines up to the next one are what it prints, on both streams. All blocks of a document run
-in one shell: in bash in their order, and backwards in zsh, or in bash if there is no zsh. A block that only makes a
-scratch folder (`NAME=$(mktemp -d)`) is the first in both. They run at the top of a scratch folder with the files of the
-repository, which they have to leave as it was, and with bin/ on the PATH. A block is skipped if it, or a script that it
-runs, calls bwrap, curl, dot, git, jq or vim and there is no such command, or bwrap may not make a sandbox.
+An example is a block of lines indented by four spaces that begins with `$ `: each such line is a command of a shell,
+and the lines up to the next one are what it prints, on both streams. All blocks of a document run in one shell: in bash
+in their order, and backwards in zsh, or in bash if there is no zsh. A block that only makes a scratch folder
+(`NAME=$(mktemp -d)`) is the first in both. They run at the top of a scratch folder with the files of the repository,
+which has to stay as it was, with bin/ on the PATH. A block is skipped if it, or a script that it runs, calls bwrap,
+curl, dot, git, jq or vim and there is no such command, or bwrap may not make a sandbox.
 
 The commands of COMMANDS.md and RECIPES.md run once more, on a stranger's project with hostile texts and links: no file
 outside their scratch folders may change, no text may run, and what is fetched has to have the bytes of the proxy.
@@ -21,9 +21,9 @@ before them (`From CRATE:`). The commands of "A whole program" compile it and ru
 file of the repository, or to a heading of one, has to lead there, and in README.md and docs/use no comment may follow a
 command, since zsh takes one that is typed for words.
 
-It needs bin/gomod (./build makes it), and unless --quick is given the toolchain of Rattle and 3.4 GB of memory. The
-last lines count what was right and wrong, and the examples that were skipped for want of which commands. The status is
-1 if one was wrong.
+It needs bin/gomod (./build makes it), and without --quick the toolchain of Rattle and 3.4 GB of memory. The
+last lines count what was right, what was wrong, and what was skipped for want of which commands. The status is 1 if one
+was wrong.
 """
 
 import collections
@@ -138,9 +138,9 @@ class Documents:
             lay_files(room)
             lay(room)
             before = files_in(room)
-            ran = run_within([*shell, text], SECONDS, cwd=f"{room}/top", stdin=subprocess.DEVNULL,
-                             stdout=subprocess.PIPE, stderr=subprocess.STDOUT, env={
-                                 **os.environ, "PATH": f"{self.program}:{os.environ['PATH']}", "TMPDIR": f"{room}/tmp"})
+            own = {"PATH": f"{self.program}:{os.environ['PATH']}", "TMPDIR": f"{room}/tmp"}
+            ran = run_within([*shell, text], SECONDS, cwd=f"{room}/top", env=os.environ | own,
+                             stdin=subprocess.DEVNULL, stderr=subprocess.STDOUT)
             after = files_in(room)
         wrong = [it for it in changed(before, after) if not it.startswith("tmp/")]
         return ran.stdout.decode("utf-8", "replace").split("\036")[1:], after, wrong
