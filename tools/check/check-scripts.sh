@@ -5,7 +5,7 @@
 #   tools/check/check-scripts.sh
 #
 # It prints each difference, and how many things were compared. The status is 1 if there is a difference. It needs git,
-# python3 and a C compiler. .ci/run runs it before the merge gate.
+# python3 and a C compiler.
 
 # shellcheck disable=SC2016,SC2053
 set -euo pipefail
@@ -32,8 +32,8 @@ same() {
   wrong=$((wrong + 1))
 }
 
-# Runs a command, and compares its status, a colon, its output and its errors with a pattern. It may take 300 seconds of
-# CPU time.
+# Runs a command for at most 300 seconds of CPU time, and compares its status, a colon, its output and its errors with a
+# pattern.
 ends() {
   local status=0
   (ulimit -t 300 && "${@:2}") > "$work/output" 2> "$work/errors" || status=$?
@@ -41,33 +41,27 @@ ends() {
 }
 
 # Lays a program of these lines.
-lay() {
-  mkdir -p "$(dirname "$1")"
-  printf '#!/usr/bin/env bash\n%s\n' "$2" > "$1"
-  chmod +x "$1"
-}
+lay() { printf '#!/usr/bin/env bash\n%s\n' "$2" | install -D /dev/stdin "$1"; }
 
 # Whether a record is as wanted: a pattern, or nothing if there must be none.
 leaves() { same "bin/$1" "$2" "$(cat "bin/$1" 2> /dev/null || true)"; }
 
 commit() {
   git add .
-  git -c user.name=x -c user.email=x@example.com commit -qm x
+  git -c user.name=x -c user.email=x commit -qm x
 }
 
 # Makes the scratch folder anew, and goes to the repository there. Its only crate is gomod, with a program that says it
-# is proved. It has all scripts: those of tools/ that are run only say what .ci/run calls them, but for these. A command
-# rt leaves a file and fails. There are 4 processors, and 9 GB of disk.
+# is proved. Scripts of tools/ that are run only say what .ci/run calls them. A command rt leaves a file and fails. It
+# has 4 processors, and 9 GB of memory and disk.
 scratch() {
   local name
   cd "$FROM"
   rm -rf "${work:?}"/*
-  mkdir -p "$TOP/crates/gomod/src" "$TOP/$DATA"
+  mkdir -p "$TOP"/{crates/gomod/src,$DATA}
   cp --parents -t "$TOP" "${files[@]}"
   cd "$TOP"
-  for name in tools/*/*; do
-    [ ! -x "$name" ] || [[ " $* " == *" $name "* ]] || lay "$name" 'echo "$GATE_CHECK"'
-  done
+  for name in tools/*/*; do [ ! -x "$name" ] || lay "$name" 'echo "$GATE_CHECK"'; done
   echo "gomod: std" > crates.txt
   touch crates/gomod/src/main.rt
   lay bin/gomod "$PROVED"
@@ -77,22 +71,27 @@ scratch() {
   lay "$work/path/df" 'printf "\n- - - 9216000\n"'
   git init -q
   commit
+  machine 9000
 }
+
+# Lays these scripts as they are.
+real() { (cd "$FROM" && cp --parents -t "$TOP" "$@") && commit; }
 
 # Makes the files of a machine anew, with so many MB available, and in /a of its control groups these limits. The group
 # of this process is below, and has none.
-machine() {
-  local group=$MACHINE/sys/fs/cgroup/a
+machine() (
   rm -rf "$MACHINE"
-  mkdir -p "$MACHINE/proc/self" "$group/b"
-  tee "$group/b/memory.max" "$group/b/cpu.max" <<< max > /dev/null
-  printf 'MemTotal: 99999999 kB\nMemAvailable: %d kB\n' $(($1 * 1024)) > "$MACHINE/proc/meminfo"
-  echo 0::/a/b > "$MACHINE/proc/self/cgroup"
-  [ $# -eq 1 ] || echo $(($2 << 20)) > "$group/memory.max"
-  echo $((100 << 20)) > "$group/memory.current"
-  printf 'anon 1\ninactive_file %d\n' $((40 << 20)) > "$group/memory.stat"
-  echo "${3:-max 100000}" > "$group/cpu.max"
-}
+  mkdir -p "$MACHINE"/{proc/self,sys/fs/cgroup/a/b}
+  cd "$MACHINE"
+  printf 'MemTotal: 99999999 kB\nMemAvailable: %d kB\n' $(($1 * 1024)) > proc/meminfo
+  echo 0::/a/b > proc/self/cgroup
+  cd sys/fs/cgroup/a
+  tee b/{memory,cpu}.max <<< max > /dev/null
+  [ $# -eq 1 ] || echo $(($2 << 20)) > memory.max
+  echo $((100 << 20)) > memory.current
+  printf 'anon 1\ninactive_file %d\n' $((40 << 20)) > memory.stat
+  echo "${3:-max 100000}" > cpu.max
+)
 
 # Whether a command says nothing of the files that git has with these names, if it is there.
 says_nothing() {
@@ -106,7 +105,7 @@ says_nothing() {
 # What each script says of --help and an argument that none takes. It writes nothing.
 check_words() {
   local script
-  scratch "${scripts[@]}"
+  real "${scripts[@]}"
   for script in "${scripts[@]}"; do
     ends "0:$(sed -n '/^#!/d;s/^"""//;s/"""$//;s/^# //;p;q' "$script")*" "./$script" --help
     [[ $script == example/* ]] || ends "2:*@(--nosuch|--help)*" "./$script" --nosuch
@@ -118,15 +117,13 @@ check_words() {
 limits() { free_memory_mb && processors; }
 
 check_limits() {
-  scratch
-  machine 5000 1200 "100000 100000"
-  ends $'0:1140\n1' limits
   machine 5000 9000
   ends $'0:5000\n4' limits
-  machine 5000 1200
+  machine 5000 1200 "100000 100000"
+  ends $'0:1140\n1' limits
   echo 4:cpu,memory:/a/b > "$MACHINE/proc/self/cgroup"
   (cd "$MACHINE/sys/fs/cgroup" && mkdir memory && mv a memory && cd memory/a &&
-    mv memory.max memory.limit_in_bytes && mv memory.current memory.usage_in_bytes)
+    mv memory.{max,limit_in_bytes} && mv memory.{current,usage_in_bytes})
   ends $'0:1140\n4' limits
   rm "$MACHINE/proc/self/cgroup"
   ends $'0:5000\n4' limits
@@ -135,21 +132,20 @@ check_limits() {
 }
 
 check_refusals() {
-  scratch tools/release/unproved.sh
+  real tools/release/unproved.sh
   rm bin/gomod
   echo before > bin/gate.txt
-  machine 9000
   CC=no-cc ends "1:run: the gate needs the command no-cc" .ci/run
   RT_JOBS=0 ends "1:run: RT_JOBS is '0', and not a number*" .ci/run
   machine 9000 1260
-  ends "1:build: a build needs 4000 MB of memory*" ./build
+  ends "1:build: a build needs 4000 MB of memory, and 1200 MB are free here" ./build
   ends "1:run: the gate needs 4200 MB of memory*" .ci/run
+  ends "1:run: --quick needs 2500 MB of memory*" .ci/run --quick
   ends "125:*unproved: an unproved program needs 2500 MB of memory*" ./build --try list
   leaves gate.txt before
 }
 
 check_gate() {
-  scratch
   unset RT_JOBS
   lay "$RT" 'echo "$RT_JOBS jobs"; echo "1 passed, 0 failed"'
   machine 7300
@@ -175,7 +171,7 @@ tools/release/release.sh
   RT_JOBS=2 ends "1:*1 passed, 0 failed" .ci/run
 }
 
-# Compares how .ci/run --quick ends if tools/release/unproved.sh has this line, with these names.
+# Compares how .ci/run --quick ends if unproved.sh has this line, with these names.
 quick() {
   lay tools/release/unproved.sh "$2"
   ends "$1; nothing was proved" .ci/run --quick "${@:3}"
@@ -183,7 +179,6 @@ quick() {
 
 check_quick() {
   local can='install -m 755 /dev/null "$2"' how
-  scratch
   cp -r bin "$work/before"
   machine 2500
   lay "$RT" ""
@@ -201,15 +196,12 @@ run: tools/release/unproved.sh --both run_cases failed, *5 checks passed, 1 fail
   machine 9000
   for how in "" --quick; do
     rm -f "$work/begun"
-    .ci/run ${how:+"$how"} > /dev/null 2>&1 &
+    .ci/run $how > /dev/null 2>&1 &
     until [ -s "$work/begun" ] || ! kill -0 $! 2> /dev/null; do sleep 0.1; done
-    kill $! || true
-    wait $! || true
-    same "a signal ends what .ci/run $how has begun" "" "$(ps -o stat= -p "$(cat "$work/begun")" | grep -v ^Z)"
+    kill $! && wait $! || true
+    same "a signal ends what .ci/run $how has begun" "" "$(ps -o stat= -p "$(< "$work/begun")" | grep -v ^Z)"
   done
   same ".ci/run --quick leaves bin/ as it was" "" "$(diff -r "$work/before" bin)"
-  machine 2400
-  ends "1:run: --quick needs 2500 MB of memory, and 2400 MB are free here" .ci/run --quick
 }
 
 # Compares why a release is refused.
@@ -217,7 +209,7 @@ refuses() { ends "1:release: $1" tools/release/release.sh "$work/released" "${@:
 
 check_unproved() {
   local install=(./build --install "$work/installed")
-  scratch tools/release/unproved.sh tools/release/release.sh
+  real tools/release/{unproved,release}.sh
   ends "1:unproved: $TOP/program is in the repository*" tools/release/unproved.sh "$TOP/program"
   touch -d "1 hour" crates/gomod/PROOFS.md
   ends "0:$work/installed/bin/gomod*/example" "${install[@]}"
@@ -236,7 +228,7 @@ check_unproved() {
     "$(tail -n 1 "$work/installed/bin/gomod") $(cd "$work/installed/share/doc/gomod" && echo *)"
 }
 
-# Compares how tools/try/refuse-memory.sh ends where each call of tools/try/program.py does this, and its record.
+# Compares how refuse-memory.sh ends if each call of program.py does this, and its record.
 refuse_memory() {
   lay tools/try/program.py "echo \"\$REFUSE_LATER:\$#:\$*\"; $1"
   ends "$2" tools/try/refuse-memory.sh "${@:4}"
@@ -245,25 +237,24 @@ refuse_memory() {
 
 check_refused_memory() {
   local passes='echo "2 passed, 0 failed, 30 runs with an allocation refused"' head
-  scratch tools/try/refuse-memory.sh
+  real tools/try/refuse-memory.sh
   refuse_memory "" "1:refuse-memory: there is no case 'selection.txt: The*" "" --check
   cp "$FROM/$DATA"/*.txt $DATA
   mkdir -p crates/run_cases/out
-  "${CC:-cc}" -x c -o crates/run_cases/out/run_cases - <<< 'int main(void) { return 0; }'
+  "${CC:-cc}" -x c -o crates/run_cases/out/run_cases - <<< 'int main(void) {}'
   echo "at 01234567 none of 1,234 runs was wrong" > docs/proof/PROVED.md
   refuse_memory "$passes" "0:yes:*:$DATA/chains.txt *calls of libraries, 1 runs" "" --check
   commit
   head=$(git rev-parse HEAD)
   refuse_memory "$passes" "0:*" "61 runs, none wrong, on $(date -u +%F) at commit $head"$'\n'"$(sha256sum bin/gomod)"
   same "PROVED.md" "at ${head:0:8} none of 61 runs was wrong" "$(cat docs/proof/PROVED.md)"
-  refuse_memory 'exit 1' "1:*2 failures*" ""
-  refuse_memory 'echo "2 passed, 0 failed"' "1:*2 failures*" ""
+  refuse_memory "$passes; exit 1" "1:*2 failures*" ""
+  refuse_memory "" "1:*2 failures*" ""
   refuse_memory "$passes; echo '# x' >> bin/gomod" "1:*refuse-memory: bin/gomod isn't the program*" ""
   CC=no-cc refuse_memory "" "1:refuse-memory: there is no command no-cc*" ""
 }
 
-# Compares how tools/try/program.py ends where in both worlds so many cases pass and fail and so many commands are seen,
-# and its record.
+# Compares how program.py ends if in both worlds so many cases pass, fail and are seen by strace, and its record.
 program() {
   sed "s/^if __name__/run_in, chosen_cases, prints_large_graph = lambda *_: ($1), lambda *_: [1], bool\n&/" \
     "$FROM/tools/try/program.py" > tools/try/program.py
@@ -272,11 +263,9 @@ program() {
 }
 
 check_opened() {
-  local passes="0:2 passed, 0 failed; in the other world 1 passed, 0 failed, 5 commands open nothing else"
-  scratch tools/try/program.py
   program 1,0,5 "0:*" "" a.txt
-  program 1,0,5 "$passes" "5 commands, none opens more than it names, on $(date -u +%F) at commit $(git rev-parse HEAD) \
-with changes
+  program 1,0,5 "0:2 passed, 0 failed; in the other world 1 passed, 0 failed, 5 commands open nothing else" \
+    "5 commands, none opens more than it names, on $(date -u +%F) at commit $(git rev-parse HEAD) with changes
 $(sha256sum bin/gomod)"
   program 1,0,0 "0:skipped, *2 passed, *; what they open was not looked at" ""
   echo before > bin/opened.txt
@@ -285,7 +274,7 @@ $(sha256sum bin/gomod)"
 
 check_release() {
   local records='' name line right number=0
-  scratch tools/release/release.sh
+  real tools/release/release.sh
   printf '%s\n' "glibc 2.34" "## Try it" "## When to use it" > README.md
   echo "## 1.0 (unreleased)" > CHANGELOG.md
   refuses "this is no gate that passed: '5 passed, 1 failed'" --gate "5 passed, 1 failed"
@@ -312,9 +301,7 @@ check_release() {
 
 check_build() {
   local how
-  scratch
   rm bin/gomod
-  machine 9000
   for how in 'kill -9 $$' 'exit 247' 'echo "clang failed with signal: 9 (SIGKILL)"; exit 1' \
     'echo "rt: the check was killed, most likely for memory: once more"; exit 1'; do
     lay "$RT" "$how"
@@ -333,14 +320,13 @@ try() {
 }
 
 check_try() {
-  scratch
   mkdir "$work/a b"
   lay "$work/tried" 'IFS="|"; echo "$PWD|$*"; cat; echo a.mod:2: OpenBlock >&2; exit 3'
   lay tools/release/unproved.sh "echo \"\$1\" >> '$work/compiled'; cp '$work/tried' \"\$2\""
   try "3:$work/a b|fmt|go.mod||a  b
 given
 build: *nothing is proved*a.mod:2: OpenBlock" 1 fmt go.mod "" "a  b" < <(echo given)
-  same "build --try: what is compiled" --checked "$(cat "$work/compiled")"
+  same "build --try: what is compiled" --checked "$(< "$work/compiled")"
   touch crates/gomod/PROOFS.md
   try "3:$TOP|list|--mod|example/go.mod|--proxy|example/cache/download*" 1 < /dev/null
   echo >> crates/gomod/src/main.rt
@@ -354,6 +340,7 @@ build: *nothing is proved*a.mod:2: OpenBlock" 1 fmt go.mod "" "a  b" < <(echo gi
 says_nothing "shellcheck -x -S warning" '*.sh' build .ci/run
 says_nothing pyflakes3 '*.py'
 for check in $(compgen -A function check_); do
+  scratch
   "$check"
   same "$check calls no rt but its own" "" "$(find "$work" -name called)"
 done
