@@ -21,8 +21,7 @@ Who changes one compares them before --accept. Then come the lines that cases pr
 (names.py), what no contract says of a body (bodies.py), and whether each edit that must fail names its clause, has a
 twin, and changes src/ alone.
 
-It needs git and python3, but no program. In a clone without its whole history no commits are looked for. The status is
-1 if something is wrong.
+It needs git. In a clone without its whole history no commits are looked for. The status is 1 if something is wrong.
 """
 
 import collections
@@ -296,7 +295,8 @@ def keep_figures(tally):
     wrong = [it for it in shown.split("\n") if f"\n{it}" not in page]
     tally.tell("figures", not wrong, f"README.md: {FIGURES} has no {wrong}; bench/tables.sh --write writes both")
     for commit in re.findall(MEASURED, page):
-        tally.tell("figures", has_commit(commit, "--", "*.rt"), f"{FIGURES}: {commit} is no commit that changed a .rt file")
+        is_right = has_commit(commit, "--", "*.rt")
+        tally.tell("figures", is_right, f"{FIGURES}: {commit} is no commit that changed a .rt file")
 
 
 def keep_derives(tally):

@@ -3,14 +3,6 @@
 
     tools/check/sources.py NAME  prints the crates to copy to use a library: those below it and itself, lowest first
 
-    files, crates, with_below    which sources and crates there are
-    scope_of, paths_of           what the names mean that a text imports, of definitions and of the code
-    definitions, plain           what an .antt file declares; its text without comments and strings
-    items_of, members, functions the items of a .rt file, those of its blocks, and its functions
-    code_of                      its text without comments
-    place, cited, reached_from   the graph of definitions: what a name means, what a definition or clause names and
-                                 reaches
-
 It relies on the layout of `rt fmt`: an item ends with the first line at its margin that ends with `}` or `;`, or before
 the next item; a definition ends before a blank line that no indented line follows, with comments directly above it.
 """

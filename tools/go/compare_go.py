@@ -20,8 +20,8 @@ network, with all that it writes in a scratch folder. If go updates the main fil
 
 It prints the version of go, each difference that docs/use/GO.md does not name in full, with the number of its world,
 and for each command how many results were the same, refused by both, or differ in a way that has a row in the table of
-docs/use/GO.md (tools/go/go_differences.py), which is called by its first words; a result can differ in several. The
-status is 1 if there is a difference without a name.
+docs/use/GO.md (tools/go/go_differences.py); a result can differ in several. The status is 1 if there is a difference
+without a name.
 
 --rows asks both in worlds made by hand. The status is 1 unless each row of the table has a world, each world has a
 difference of its row and of no other, and both programs say what tools/go/go_rows.py has of them.
@@ -34,11 +34,10 @@ shown, if one is shown and they don't differ, or answer another way, or if no te
 worlds of --rows, with the answers of go 1.19.8 in tools/go/go_answers.json, each of which has to be asked for. Mistakes
 have to be found, too: output of gomod that is changed, another command in go's place, a proxy without the .info of a
 pruned-out module, and a row, a world or a difference without the others. The first random worlds and texts have to be
-those that there were as answers were recorded. If there is a go 1.19.8, it has to give these answers, and 2000 texts,
-from a number that the commit gives, and 40 random worlds are compared.
+those of then. If there is a go 1.19.8, it has to give these answers, and 2000 texts, from a number that the commit
+gives, and 40 random worlds are compared.
 
-It needs bin/gomod (./build makes it), a go command of 1.19 or later (in Debian: apt-get install golang-go) and python3.
-300 worlds take about 35 s of CPU time.
+It needs bin/gomod, and a go command of 1.19 or later (in Debian: apt-get install golang-go).
 """
 
 import argparse

@@ -13,9 +13,9 @@
 
 Changes are made by rule (RULES). tools/page/page_changes.txt has those that no rule for all definitions makes, each by
 a rule for one: the definition, what goes and what comes at the first place that fits, and ` -- ` with a title. They
-stand below what refuses them, or below `== OPEN` if that can't be told. After `== equal forms` come changes that say
-the same in other words. After `== no witness` come reasons, each with changes by rule that no world shows: the name of
-the definition, and a piece of the change as it is listed.
+stand below what refuses them, or below `== OPEN`. After `== equal forms` come changes that say the same in other words.
+After `== no witness` come reasons, each with changes by rule that no world shows: the name of the definition, and a
+piece of the change as it is listed.
 
 tools/page/evaluate.py judges: it computes each world's outcomes by the changed definitions. A change is refused by a
 value (another outcome), a second outcome, an outcome of a run that has none, a file (that the run needs now and didn't
@@ -24,7 +24,7 @@ a loss (no outcome any more; nothing else shows it). It prints the world with bo
 crates have the definition, the worlds of either may refuse its change.
 
 The status is 1 if a change is not as it should be or can't be made, a claim or a case is otherwise, or a count differs.
-It needs python3, and to prove rt and 2 GB of memory.
+To prove it needs rt and 2 GB of memory.
 """
 
 import collections

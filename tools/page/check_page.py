@@ -10,7 +10,7 @@ hides the list. tools/page/evaluate.py computes by the definitions which files a
 be; what the files say is known, since they are written from that.
 
 It prints each world in which the program and the definitions differ, and a line with the counts. The status is 1 if
-there is one. It needs bin/gomod (./build makes it) and python3. A world takes some 0.4 s of CPU time.
+there is one. It needs bin/gomod.
 """
 
 import dataclasses

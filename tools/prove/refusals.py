@@ -20,8 +20,8 @@ proved. A goal whose answer only names what the edit took away does not count. t
 edit names a clause, has a twin, and changes src/ alone: one that takes answers out of proofs/ may be refused for that
 alone.
 
-It needs rt and python3, and the crates as ./build or `rt all check` leaves them (the libraries below a crate are enough
-for `--only`), and takes about half a minute a check.
+It needs rt, and the crates as ./build or `rt all check` leaves them (for `--only` the libraries below a crate), and
+takes about half a minute a check.
 """
 
 import os

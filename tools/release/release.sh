@@ -17,7 +17,7 @@
 # whose version doesn't say that it is proved. Unless --check is given, it refuses a version that isn't the first one in
 # CHANGELOG.md with its day, or whose tag (as v1.2.0) is at another commit, a program that isn't the one that the last
 # proof left, a gate that failed or ran with another program, changes that aren't committed, and a program without one
-# of the records that are listed below, files of bin/.
+# of the records below.
 #
 # It needs bin/gomod, git, GNU tar, gzip and python3. The status is 1 if it refuses, and 2 for wrong arguments.
 set -euo pipefail

@@ -8,12 +8,12 @@ Of share/man/man1/gomod.1 it reads the forms of SYNOPSIS and the lists of COMMAN
 are those of all help, as are those of README.md and other documents, and what help says of a status the man page says
 of it too. Its EXAMPLES run in a scratch folder: they print what README.md shows, and leave an edited go.mod. What else
 the man page, docs/use/COMMANDS.md and all help say was read side by side, and has a checksum here. It calls the
-completion for bash, and reads those for zsh and fish, so neither of them has to be installed. Then it completes lines
-in bash, and in zsh and fish where they are installed (tools/try/completions.py): folders, also after a comma, go's
-cache, and the paths of a go.mod, also after an operation's `=`.
+completion for bash, and reads those for zsh and fish. Then it completes lines in those of the shells that are installed
+(tools/try/completions.py): folders, also after a comma, go's cache, and the paths of a go.mod, also after an
+operation's `=`.
 
-It needs bin/gomod (./build makes it), bash and python3. It prints each difference, what was compared, and what was
-skipped for want of which shell. The status is 1 if there is a difference.
+It needs bin/gomod and bash. It prints each difference, what was compared, and what was skipped for want of which shell.
+The status is 1 if there is a difference.
 """
 
 import os

@@ -3,7 +3,7 @@
 Each runs in a terminal of its own, in a scratch folder with a go.mod, folders and a home with go's cache. A line is
 typed, then TAB, then a key that this binds to write the line to a file. Beside a hostile path and folder Enter follows
 TAB: gomod is given the right words, and nothing else has run. It prints each line that comes out wrong, how many were
-right and wrong, and how many were skipped for want of which shell. The status is 1 if one was wrong.
+right and wrong, and how many were skipped for want of which shell.
 """
 
 import concurrent.futures

@@ -11,9 +11,9 @@ cost is a product: the lines that `graph` prints if modules share a file, operat
 which a row has few, and one file under many names. What many operations on many lines may take is a number of
 instructions, whatever the names are; without valgrind it isn't measured.
 
-It prints each row, and at last how many were wrong. The status is 1 if one was wrong, or ended with another status
-than it should. It needs python3 and bin/gomod (./build makes it), and takes 80 s of CPU time, on all processors if it
-has valgrind. Without valgrind it takes several minutes. It writes files to /dev/shm, if a gigabyte is free there.
+It prints each row, and at last how many were wrong. The status is 1 if one was wrong, or ended with another status than
+it should. It takes 80 s of CPU time, on all processors if it has valgrind. Without valgrind it takes several minutes.
+It writes files to /dev/shm, if a gigabyte is free there.
 """
 
 import concurrent.futures

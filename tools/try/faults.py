@@ -12,17 +12,16 @@ kind, with every error that Linux documents for it; on some lines the first call
 error that Linux has. Each read and write moves fewer bytes than it may, down to 1, or to none for a write. A file that
 can't be read has to be the one that is reported, with status 3; one that isn't found is missing; a failed write leaves
 what was written before, with status 3; a close that fails changes nothing, and neither does a short read or write. With
-two faults, allocations among them, the result is one that one of them has, or a beginning of it.
-tools/try/refuse-memory.sh refuses each allocation. Without a fault a stream takes one write, or for each write as many
-whole lines as fit the program's buffer: one for each row is too many, and so is one that cuts a line.
+two faults, allocations among them, the result is one that one of them has, or a beginning of it. Without a fault a
+stream takes one write, or for each write as many whole lines as fit the program's buffer: one for each row is too many,
+and so is one that cuts a line.
 
 The files that others change are those of a proxy. They are written in place, replaced, cut off, longer, gone, a folder,
 a link. With a go.sum a run has the only right result, or it reports a fault. At last 200 run at once.
 
 It prints each fault after which a result is wrong, as a value of FAULTS (tools/try/faults.c), and how many runs there
 were. The status is 1 if one was wrong, or if the library sees no call of a command line. It needs a C compiler (`cc`,
-or what CC names), python3 and bin/gomod (./build makes it), and takes 90 s of CPU time on a busy machine, on all
-processors.
+or what CC names) and bin/gomod, and takes 90 s of CPU time.
 """
 
 import concurrent.futures

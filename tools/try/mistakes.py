@@ -23,9 +23,8 @@ case is run by run_cases and, if it passes there, by tools/try/program.py. It fa
 seconds of CPU time, or a wait as long in which no CPU is used.
 
 It prints each body on which its case passes, or which isn't needed for it to fail, and each whose text isn't in the
-sources: these are told, and not dropped. The status is 1 if there is one that has no `passes:`. It needs what
-tools/release/unproved.sh needs, and git; it takes two to three CPU minutes to compile, and about as long to run the
-cases.
+sources. The status is 1 if there is one that has no `passes:`. It needs what unproved.sh needs, and git, and takes four
+to six CPU minutes.
 """
 
 import concurrent.futures

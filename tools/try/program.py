@@ -9,14 +9,12 @@
                                              the other world without large cases and those about memory
     tools/try/program.py --program FILE ..   the same with another program
 
-What this adds to the merge gate, which runs the same cases inside a process, is standard error and the whole way from
-the words to the system. case_files.py reads the cases. Calls, cases with a file at the root of the system, and those of
-files without permission for root are left out.
+The merge gate runs the same cases inside a process, without standard error and the way from the words to the system.
+Calls, cases with a file at the root of the system, and those of files without permission for root are left out.
 
-Of a case with a range of sizes it runs the greatest, of one with a list each. Each command then has an address space
-of 64 MiB and a hundred times the bytes of its words and of the files of the case, or what a line `% memory N` gives,
-and always the stack that README.md names. Standard input stays open, unless it is read. A command that only waits for
-100 seconds ends the script.
+Of a case with a range of sizes it runs the greatest, of one with a list each. Each command then has an address space of
+64 MiB and a hundred times the bytes of its words and of the files of the case, or what a line `% memory N` gives, and
+always the stack that README.md names. A command that only waits for 100 seconds ends the script.
 
 The program's name is not UTF-8. The folder of a case, the one above, HOME and TMPDIR must be the same after its
 commands as before. In a case with a line `% streams` each command runs with each mixture of standard streams that are
@@ -25,16 +23,15 @@ that it needs takes no byte, the status must be 3, and the other one empty.
 
 Then all cases run once more in another world. Its program is nobody's, if root starts it, so that permissions count.
 Its environment is full of variables that the go command, a library or a terminal reads, and for every eighth command
-empty. Standard output and standard error are terminals, both for half of the commands, else one of them. Standard input
-is a terminal at which nobody types or, where the words name it, a file, or a terminal at which the text was typed.
-Output, report and status have to be those of the case all the same. A case with a range of sizes runs at about 1,000,
-one with a list at those up to 20,000, or at the least. If strace may look at processes, it shows what each command
-opens and calls (opened.py); if it doesn't, the last line says so. If refuse-memory.sh sets REFUSE_MEMORY, each command
-runs again with each of its allocations refused, and there is no other world.
+empty. Standard output, standard error or both are terminals, and so is standard input, unless the words name it: then
+it is a file, or the text was typed. Output, report and status have to be those of the case. A case with a range of
+sizes runs at about 1,000, one with a list at those up to 20,000, or at the least. If strace may look at processes, it
+shows what each command opens and calls (opened.py); if it doesn't, the last line says so. If refuse-memory.sh sets
+REFUSE_MEMORY, each command runs again with each of its allocations refused, and there is no other world.
 
 Without arguments it removes bin/opened.txt, and if all pass and strace is there makes it anew for release.sh: the
 number of commands, the day and the commit, and the sha256 of bin/gomod. It does neither without git, or in a bin/ that
-it may not write. It needs bin/gomod (./build makes it) and prints each difference. The status is 1 if a case failed.
+it may not write. It prints each difference. The status is 1 if a case failed.
 """
 
 import concurrent.futures

@@ -21,9 +21,8 @@ before them (`From CRATE:`). The commands of "A whole program" compile it and ru
 file of the repository, or to a heading of one, has to lead there, and in README.md and docs/use no comment may follow a
 command, since zsh takes one that is typed for words.
 
-It needs bin/gomod (./build makes it), and without --quick the toolchain of Rattle and 3.4 GB of memory. The
-last lines count what was right, what was wrong, and what was skipped for want of which commands. The status is 1 if one
-was wrong.
+It needs bin/gomod, and without --quick the toolchain of Rattle and 3.4 GB of memory. The last lines count what was
+right, what was wrong, and what was skipped for want of which commands. The status is 1 if one was wrong.
 """
 
 import collections

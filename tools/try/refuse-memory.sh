@@ -20,9 +20,8 @@
 # the number of runs, the day and the commit, and the sha256 of bin/gomod. The number and the commit are written into
 # PROVED.md.
 #
-# It needs a C compiler (`cc`, or what CC names), bin/gomod (./build makes it) and python3 for the cases, run_cases for
-# the calls (`rt ci` leaves it in out/), and `rt` for a crate whose tests are not built: `rt test` leaves them in
-# out/NAME_tests.
+# It needs a C compiler (`cc`, or what CC names), bin/gomod for the cases, run_cases for the calls (`rt ci` leaves it in
+# out/), and `rt` for a crate whose tests are not built.
 set -euo pipefail
 cd "$(dirname "$0")/../.."
 # shellcheck source=tools/lib.sh
