@@ -192,7 +192,7 @@ class Sources:
 
 
 def has_commit(commit, *words):
-    """Whether the log of these words has a commit, or isn't all there."""
+    """Whether the log of these words has a commit, or isn't whole."""
     log = git("log", "--format=%H", *words)
     return f"\n{commit}" in f"\n{log}" or git("rev-parse", "--is-shallow-repository") == "true"
 
@@ -220,7 +220,8 @@ def mentioned(line, page, tops):
     for text in re.findall(r"`([^`]+)`", line):
         if re.fullmatch(r"\w+(::\w+)+", text) and text.split("::")[0] not in OTHER_ROOTS:
             yield of_paths, text
-        elif re.fullmatch(r"[A-Za-z]\w*" + "(-[a-z]+)*" * (base == "PROOFS.md"), text):
+        elif not COMMIT.match(text) and re.fullmatch(
+                r"[A-Za-z]\w*" + "(-[a-z]+)*" * (base == "PROOFS.md"), text):
             yield of_names, text
     yield from ((of_names, it) for it in re.findall(r"(?<![\w/.@])(?:gm|gomod)_\w+", line))
     for kind, found in re.findall(rf"\b(law|test|edit)s? ({LIST})", line):
