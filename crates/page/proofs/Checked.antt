@@ -456,10 +456,10 @@ module _ (content : List ℕ) (text : Option (List ℕ)) (main : Main) (sums : O
 
   -- ---- faults
 
-  abbrev Said : ModuleVersion → Class → Type 0
-  Said x class = said_of main sums asked x ≡ Some (Err class)
+  abbrev HasFault : ModuleVersion → Class → Type 0
+  HasFault x class = said_of main sums asked x ≡ Some (Err class)
 
-  fault_there : (xs : List ModuleVersion) (x : ModuleVersion) (class : Class) → Contains xs x → Said x class
+  fault_there : (xs : List ModuleVersion) (x : ModuleVersion) (class : Class) → Contains xs x → HasFault x class
       → Contains (faults_among main sums asked xs) (fault_with x class)
   fault_there [] x class there is = absurd (no_member x there)
   fault_there (y ∷ ys) x class there is = by_said (said_of main sums asked y) refl (member_cases y x ys there) (λ later. fault_there ys x class later is)
@@ -468,21 +468,21 @@ module _ (content : List ℕ) (text : Option (List ℕ)) (main : Main) (sums : O
           → (Contains ys x → Contains (faults_among main sums asked ys) (fault_with x class))
           → Contains (fault_row y said (faults_among main sums asked ys)) (fault_with x class)
       by_said (Some (Err own)) e (inl same) rest =
-          let both : Some (Err own) ≡ Some (Err class) = sym e ∙ subst (λ (z : ModuleVersion). Said z class) (sym same) is in
+          let both : Some (Err own) ≡ Some (Err class) = sym e ∙ subst (λ (z : ModuleVersion). HasFault z class) (sym same) is in
           let one : own ≡ class = cc both in
           subst (λ (z : ModuleVersion). Contains (fault_with y own ∷ faults_among main sums asked ys) (fault_with z class)) same
           (subst (λ (c : Class). Contains (fault_with y own ∷ faults_among main sums asked ys) (fault_with y c)) one
           (member_head (fault_with y own) (faults_among main sums asked ys)))
       by_said (Some (Ok file)) e (inl same) rest =
-          absurd (let both : Some (Ok file) ≡ Some (Err class) = sym e ∙ subst (λ (z : ModuleVersion). Said z class) (sym same) is in cc both)
+          absurd (let both : Some (Ok file) ≡ Some (Err class) = sym e ∙ subst (λ (z : ModuleVersion). HasFault z class) (sym same) is in cc both)
       by_said None e (inl same) rest =
-          absurd (let both : None ≡ Some (Err class) = sym e ∙ subst (λ (z : ModuleVersion). Said z class) (sym same) is in cc both)
+          absurd (let both : None ≡ Some (Err class) = sym e ∙ subst (λ (z : ModuleVersion). HasFault z class) (sym same) is in cc both)
       by_said (Some (Err own)) e (inr later) rest = member_tail (fault_with y own) (fault_with x class) _ (rest later)
       by_said (Some (Ok file)) e (inr later) rest = rest later
       by_said None e (inr later) rest = rest later
 
   abbrev IsFrom : List ModuleVersion → Fault → Type 0
-  IsFrom xs one = Contains xs one.vertex × Said one.vertex one.class
+  IsFrom xs one = Contains xs one.vertex × HasFault one.vertex one.class
 
   fault_from : (xs : List ModuleVersion) (one : Fault) → Contains (faults_among main sums asked xs) one → IsFrom xs one
   fault_from [] one there = absurd (no_member one there)

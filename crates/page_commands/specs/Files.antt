@@ -26,10 +26,10 @@ pub data State : Type 0 where
   InGraves : List ℕ → State
 
 -- the words of a line and its comment, or its fault
-abbrev pub Said : Type 0
-Said = Result (List Word × Option (List ℕ)) SyntaxKind
+abbrev pub LineWords : Type 0
+LineWords = Result (List Word × Option (List ℕ)) SyntaxKind
 
-abbrev pub with_word : Kind → List ℕ → Said → Said
+abbrev pub with_word : Kind → List ℕ → LineWords → LineWords
 with_word kind text (Ok said) = Ok (record { kind = kind; spelling = text } ∷ said.0, said.1)
 with_word kind text (Err fault) = Err fault
 
@@ -51,7 +51,7 @@ abbrev pub without_spaces_after : List ℕ → List ℕ
 without_spaces_after text = take (length text - suffix_len is_space text) text
 
 -- what comes between words, from this byte on
-abbrev pub between_words : Bool → ℕ → List ℕ → (State → Said) → Said
+abbrev pub between_words : Bool → ℕ → List ℕ → (State → LineWords) → LineWords
 between_words touching b rest go =
     if b == 47 && starts_with_byte 47 rest then Ok ([], Some (without_spaces_after (b ∷ rest)))
     else (if b == 47 && starts_with_byte 42 rest then Err BlockComment
@@ -62,7 +62,7 @@ between_words touching b rest go =
     else (if b == 34 then go (InQuotes (b ∷ []))
     else (if b == 96 then go (InGraves (b ∷ [])) else go (InBare (b ∷ [])))))))))
 
-abbrev pub words_from : State → List ℕ → Said
+abbrev pub words_from : State → List ℕ → LineWords
 words_from (Between touching) [] = Ok ([], None)
 words_from (Between touching) (b ∷ rest) = between_words touching b rest (λ state. words_from state rest)
 words_from SecondByte [] = Ok ([], None)
@@ -86,7 +86,7 @@ words_from (InGraves word) (b ∷ rest) =
 
 -- ---- lines
 
-abbrev pub line_of : Bool → Said → Result (Line Word) SyntaxKind
+abbrev pub line_of : Bool → LineWords → Result (Line Word) SyntaxKind
 line_of inside (Ok said) = class_of inside said.0 said.1
 line_of inside (Err fault) = Err fault
 

@@ -268,22 +268,22 @@ abbrev pub file_requiring : List ℕ → ℕ × ℕ → List ℕ → List ℕ �
 file_requiring name go other version = file_with name go (at other version ∷ [])
 
 -- a text with what it says
-abbrev pub Said : Type 0
-Said = List ℕ × Dependency
+abbrev pub TextMeaning : Type 0
+TextMeaning = List ℕ × Dependency
 
-abbrev pub bare : List ℕ → Said
+abbrev pub bare : List ℕ → TextMeaning
 bare name = (module_line name, bare_file name)
 
 -- a file without a go directive
-abbrev pub requires : List ℕ → List ℕ → List ℕ → Said
+abbrev pub requires : List ℕ → List ℕ → List ℕ → TextMeaning
 requires name other version = (requiring name other version, file_requiring name (1, 16) other version)
 
 -- a file of go 1.16 or of go 1.17, which requires the first version of another module
-abbrev pub old : List ℕ → List ℕ → Said
+abbrev pub old : List ℕ → List ℕ → TextMeaning
 old name other =
     (going name (codes "1.16") other (codes "v1.0.0"), file_requiring name (1, 16) other (codes "v1.0.0"))
 
-abbrev pub new : List ℕ → List ℕ → Said
+abbrev pub new : List ℕ → List ℕ → TextMeaning
 new name other =
     (going name (codes "1.17") other (codes "v1.0.0"), file_requiring name (1, 17) other (codes "v1.0.0"))
 
@@ -309,11 +309,11 @@ greater_file = file_with (codes "b") (1, 17)
     ∷ first_of (codes "f") ∷ at (codes "g") (codes "v1.1.0-9") ∷ [])
 
 -- a file of a go version, which requires the first version of d
-abbrev pub of_go : List ℕ → List ℕ → ℕ × ℕ → Said
+abbrev pub of_go : List ℕ → List ℕ → ℕ × ℕ → TextMeaning
 of_go name go numbers =
     (going name go (codes "d") (codes "v1.0.0"), file_requiring name numbers (codes "d") (codes "v1.0.0"))
 
-abbrev pub valid_files : List Said
+abbrev pub valid_files : List TextMeaning
 valid_files =
     ([], empty_file)
     ∷ bare (codes "a") ∷ bare (codes "b") ∷ bare (codes "c") ∷ bare (codes "d") ∷ bare (codes "k")
@@ -331,13 +331,13 @@ valid_files =
     ∷ of_go (codes "a") (codes "1.18") (1, 18) ∷ of_go (codes "b") (codes "1.22") (1, 22)
     ∷ of_go (codes "c") (codes "2.0") (2, 0) ∷ (lesser_text, lesser_file) ∷ (greater_text, greater_file) ∷ table_files
 
-abbrev pub said_among : List Said → List ℕ → Result Dependency (ℕ × Misreading)
-said_among [] content = if bytes_eq content wide_text then Ok wide_file else Err (1, Unknown)
-said_among (one ∷ others) content = if bytes_eq content one.0 then Ok one.1 else said_among others content
+abbrev pub meaning_among : List TextMeaning → List ℕ → Result Dependency (ℕ × Misreading)
+meaning_among [] content = if bytes_eq content wide_text then Ok wide_file else Err (1, Unknown)
+meaning_among (one ∷ others) content = if bytes_eq content one.0 then Ok one.1 else meaning_among others content
 
 -- what the bytes of another module's file say
 abbrev pub said_of_rows : List ℕ → Result Dependency (ℕ × Misreading)
 said_of_rows content =
     if bytes_eq content malformed_text then Err (3, WrongArguments)
     else (if bytes_eq content late_text then Err (12, BadVersion)
-    else (if bytes_eq content huge_text then Err (0, TooMany) else said_among valid_files content))
+    else (if bytes_eq content huge_text then Err (0, TooMany) else meaning_among valid_files content))
