@@ -67,7 +67,7 @@ escaped-encode c = elim (cases_lt c 128) [
 
 -- one character more
 pub escaped-push : (bytes : List ℕ) (c : ℕ) → escaped_text (bytes ++ encode_utf8 c) ≡ escaped_text bytes ++ escaped_char c
-escaped-push bytes c = flat_map-append escaped_byte bytes (encode_utf8 c) ∙ ap (λ (t : List ℕ). escaped_text bytes ++ t) (escaped-encode c)
+escaped-push bytes c = flat_map-append escaped_byte bytes (encode_utf8 c) ∙ ap (escaped_text bytes ++◌) (escaped-encode c)
 
 -- one character more of a text that is escaped in order, after `front`
 pub escaped-more : (front name new cs : List ℕ) (c : ℕ) → name ≡ front ++ escaped_text (encode_utf8_all cs) → new ≡ name ++ escaped_char c
@@ -75,32 +75,32 @@ pub escaped-more : (front name new cs : List ℕ) (c : ℕ) → name ≡ front +
 escaped-more front name new cs c so_far step =
     let one : encode_utf8_all (c ∷ []) ≡ encode_utf8 c = append-nil (encode_utf8 c) in
     let whole : encode_utf8_all (cs ++ c ∷ []) ≡ encode_utf8_all cs ++ encode_utf8 c =
-    encodes-append cs (c ∷ []) ∙ ap (λ (t : List ℕ). encode_utf8_all cs ++ t) one in
+    encodes-append cs (c ∷ []) ∙ ap (encode_utf8_all cs ++◌) one in
     let more : escaped_text (encode_utf8_all (cs ++ c ∷ [])) ≡ escaped_text (encode_utf8_all cs) ++ escaped_char c =
     ap escaped_text whole ∙ escaped-push (encode_utf8_all cs) c in
-    step ∙ ap (λ (t : List ℕ). t ++ escaped_char c) so_far
+    step ∙ ap (◌++ escaped_char c) so_far
     ∙ append_assoc front (escaped_text (encode_utf8_all cs)) (escaped_char c)
-    ∙ sym (ap (λ (t : List ℕ). front ++ t) more)
+    ∙ sym (ap (front ++◌) more)
 
 -- the whole text, after all characters
 pub escaped-whole : (front name text cs : List ℕ) → map (λ x. x) cs ≡ chars text → IsUtf8 text
     → name ≡ front ++ escaped_text (encode_utf8_all cs) → name ≡ front ++ escaped_text text
 escaped-whole front name text cs all utf8 so_far =
     let same : cs ≡ chars text = sym (map-id cs) ∙ all in
-    so_far ∙ ap (λ (t : List ℕ). front ++ escaped_text t) (ap encode_utf8_all same ∙ encodes-chars text utf8)
+    so_far ∙ ap (λ t. front ++ escaped_text t) (ap encode_utf8_all same ∙ encodes-chars text utf8)
 
 -- a text without upper-case letters is its own escaped form
 pub escaped-lower : (text : List ℕ) → list_any is_ascii_uppercase text ≡ false → escaped_text text ≡ text
 escaped-lower [] none = refl
 escaped-lower (b ∷ text) none =
     let e = or_parts (is_ascii_uppercase b) (list_any is_ascii_uppercase text) none in
-    rw e.0 (ap (λ (t : List ℕ). b ∷ t) (escaped-lower text e.1))
+    rw e.0 (ap (b ∷◌) (escaped-lower text e.1))
 
 -- the mark of an upper-case letter is a beginning of its escaped form
 pub mark-begins : (old marked new : List ℕ) (c : ℕ) → is_ascii_uppercase c ≡ true → marked ≡ old ++ encode_utf8 33 → new ≡ marked
     → AppendsBeginning old new (escaped_char c)
 mark-begins old marked new c upper mark same =
-    (33 ∷ [], (c + 32) ∷ [], rw upper refl, same ∙ mark ∙ ap (λ (t : List ℕ). old ++ t) (encode_ascii 33 (omega arith)))
+    (33 ∷ [], (c + 32) ∷ [], rw upper refl, same ∙ mark ∙ ap (old ++◌) (encode_ascii 33 (omega arith)))
 
 -- a beginning of the next character, after all before it were escaped, is a beginning of the whole
 pub begins-more : (front name new text cs rest : List ℕ) (c : ℕ) → name ≡ front ++ escaped_text (encode_utf8_all cs)
@@ -110,11 +110,11 @@ begins-more front name new text cs rest c so_far split part =
     let more = escaped_text rest in
     let whole : escaped_text text ≡ done ++ escaped_char c ++ more =
     ap escaped_text split ∙ flat_map-append escaped_byte (encode_utf8_all cs ++ encode_utf8 c) rest
-    ∙ ap (λ (t : List ℕ). t ++ more) (escaped-push (encode_utf8_all cs) c) in
+    ∙ ap (◌++ more) (escaped-push (encode_utf8_all cs) c) in
     let grouped : done ++ escaped_char c ++ more ≡ (done ++ part.0) ++ (part.1 ++ more) =
-    ap (λ (t : List ℕ). done ++ t ++ more) part.2 ∙ ap (λ (t : List ℕ). t ++ more)
+    ap (λ t. done ++ t ++ more) part.2 ∙ ap (◌++ more)
     (sym (append_assoc done part.0 part.1)) ∙ append_assoc (done ++ part.0) part.1 more in
-    (done ++ part.0, part.1 ++ more, whole ∙ grouped, part.3 ∙ ap (λ (t : List ℕ). t ++ part.0) so_far ∙ append_assoc front done part.0)
+    (done ++ part.0, part.1 ++ more, whole ∙ grouped, part.3 ∙ ap (◌++ part.0) so_far ∙ append_assoc front done part.0)
 
 -- ---- what the start of an escaped text determines
 
@@ -223,8 +223,8 @@ pub read-push : (old new : List ℕ) (c : ℕ) → is_ascii_uppercase c ≡ fals
     → read_so_far new false ≡ read_so_far old false ++ encode_utf8 c
 read-push old new c small e =
     let piece : escaped_char c ≡ encode_utf8 c = rw small refl in
-    append-nil (escaped_text new) ∙ ap escaped_text e ∙ escaped-push old c ∙ ap (λ (p : List ℕ). escaped_text old ++ p) piece
-    ∙ ap (λ (t : List ℕ). t ++ encode_utf8 c) (sym (append-nil (escaped_text old)))
+    append-nil (escaped_text new) ∙ ap escaped_text e ∙ escaped-push old c ∙ ap (escaped_text old ++◌) piece
+    ∙ ap (◌++ encode_utf8 c) (sym (append-nil (escaped_text old)))
 
 no_bang_high : (b : ℕ) → 128 ≤ b → not (b == 33) ≡ true
 no_bang_high b le = grind (arith, nat_tests)
@@ -269,10 +269,10 @@ name-split name cs c utf8 front inside at =
     let rest = drop (length cs + 1) (chars name) in
     let so_far : take (length cs) (chars name) ≡ cs = sym front ∙ map-id cs in
     let taken : take (length cs + 1) (chars name) ≡ cs ++ c ∷ [] = take_more (chars name) (length cs) c inside ∙ rw (so_far, ← at) refl in
-    let whole : chars name ≡ (cs ++ c ∷ []) ++ rest = sym (take-append-drop (length cs + 1) (chars name)) ∙ ap (λ (t : List ℕ). t ++ rest) taken in
+    let whole : chars name ≡ (cs ++ c ∷ []) ++ rest = sym (take-append-drop (length cs + 1) (chars name)) ∙ ap (◌++ rest) taken in
     let one : encode_utf8_all (c ∷ []) ≡ encode_utf8 c = append-nil (encode_utf8 c) in
     sym (encodes-chars name utf8) ∙ ap encode_utf8_all whole ∙ encodes-append (cs ++ c ∷ []) rest
-    ∙ ap (λ (t : List ℕ). t ++ encode_utf8_all rest) (encodes-append cs (c ∷ []) ∙ ap (λ (t : List ℕ). encode_utf8_all cs ++ t) one)
+    ∙ ap (◌++ encode_utf8_all rest) (encodes-append cs (c ∷ []) ∙ ap (encode_utf8_all cs ++◌) one)
 
 -- ---- laws
 
@@ -330,12 +330,12 @@ upper-from c rest lower from =
     let mark : not (c - 32 == 33) ≡ true = grind (arith, nat_tests) in
     let low : 97 ≤ c = grind (arith, nat_tests) in
     let back : c - 32 + 32 ≡ c = omega arith in
-    ((c - 32) ∷ from.0, (and_from _ _ mark from.1.0, rw (upper-piece (c - 32) upper, back) (ap (λ (l : List ℕ). 33 ∷ c ∷ l) from.1.1)))
+    ((c - 32) ∷ from.0, (and_from _ _ mark from.1.0, rw (upper-piece (c - 32) upper, back) (ap (λ l. 33 ∷ c ∷ l) from.1.1)))
 
 other-from : (b : ℕ) (rest : List ℕ) → (b == 33) ≡ false → is_ascii_uppercase b ≡ false
     → (text : List ℕ) × IsUnescaped text rest → (text : List ℕ) × IsUnescaped text (b ∷ rest)
 other-from b rest mark small from =
-    (b ∷ from.0, (rw mark from.1.0, rw (other-piece b small) (ap (λ (l : List ℕ). b ∷ l) from.1.1)))
+    (b ∷ from.0, (rw mark from.1.0, rw (other-piece b small) (ap (b ∷◌) from.1.1)))
 
 not_upper : (b : ℕ) → not (is_ascii_uppercase b) ≡ true → is_ascii_uppercase b ≡ false
 not_upper b h = by (is_ascii_uppercase b) h

@@ -14,7 +14,7 @@ pub all-append : (p : ℕ → Bool) (xs ys : List ℕ) → list_all p xs ≡ tru
 all-append p xs ys a b = rw (list_all-append p xs ys) (and_from _ _ a b)
 
 pub all-join : (p : ℕ → Bool) (c : ℕ) (pieces : List (List ℕ)) → p c ≡ true
-    → list_all (λ piece. list_all p piece) pieces ≡ true → list_all p (join_with_byte c pieces) ≡ true
+    → list_all (list_all p) pieces ≡ true → list_all p (join_with_byte c pieces) ≡ true
 all-join p c [] mark each = refl
 all-join p c (x ∷ []) mark each = first_so _ _ each
 all-join p c (x ∷ y ∷ rest) mark each =

@@ -49,7 +49,7 @@ part-no_plus part h = weaker is_identifier_byte (λ b. not (b == 43)) identifier
 pre-no_plus : (pre : List ℕ) → is_pre_release pre ≡ true → lacks 43 pre ≡ true
 pre-no_plus [] h = refl
 pre-no_plus (b ∷ rest) h =
-    let each = weaker is_pre_identifier (λ p. lacks 43 p) part-no_plus (parts (b ∷ rest)) h in
+    let each = weaker is_pre_identifier (lacks 43) part-no_plus (parts (b ∷ rest)) h in
     rw (join_with_byte-slice_split 46 (b ∷ rest)) at (all-join (λ b. not (b == 43)) 46 (parts (b ∷ rest)) refl each)
 
 -- the text of a version before its pre-release
@@ -64,8 +64,8 @@ numbers-no_dash major minor patch a b c =
 numbers-first : (major minor patch : ℕ) (rest : List ℕ)
     → 118 ∷ (decimal major ++ (46 ∷ (decimal minor ++ (46 ∷ (decimal patch ++ rest))))) ≡ numbers_text major minor patch ++ rest
 numbers-first major minor patch rest =
-    sym (ap (λ (t : List ℕ). 118 ∷ t) (append_assoc (decimal major) (46 ∷ (decimal minor ++ (46 ∷ decimal patch))) rest
-    ∙ ap (λ (t : List ℕ). decimal major ++ (46 ∷ t)) (append_assoc (decimal minor) (46 ∷ decimal patch) rest)))
+    sym (ap (118 ∷◌) (append_assoc (decimal major) (46 ∷ (decimal minor ++ (46 ∷ decimal patch))) rest
+    ∙ ap (λ t. decimal major ++ (46 ∷ t)) (append_assoc (decimal minor) (46 ∷ decimal patch) rest)))
 
 -- after the first dash there are the pre-release and the build; without a dash there is no pre-release
 after_dash : (major minor patch : ℕ) (pre build text : List ℕ) (r : Option (Bor (List ℕ) × Bor (List ℕ)))

@@ -24,7 +24,7 @@ pub version-read : (text rest : List ℕ) (parts : Parts) → text ≡ 118 ∷ r
     → IsValid parts × (text ≡ version_text parts)
 version-read text rest parts v read =
     let sound = version_parts-sound rest parts read in
-    (sound.1, v ∙ ap (λ (t : List ℕ). 118 ∷ t) (sym sound.0))
+    (sound.1, v ∙ ap (118 ∷◌) (sym sound.0))
 
 -- the text of valid parts is parsed into these parts
 pub version-complete : (text rest : List ℕ) (parts : Parts) → text ≡ 118 ∷ rest → IsValid parts → text ≡ version_text parts → version_parts rest ≡ Ok parts
@@ -70,7 +70,7 @@ version-built text rest parts v read built =
       λ version.
           let again = version-complete text rest version.0 v version.1 version.3 in
           let same : version.0 ≡ parts = cc (sym again ∙ read) in
-          built (subst (λ (p : Parts). HasPlainBuild p) same version.2),
+          built (subst HasPlainBuild same version.2),
     )
 
 -- ---- short versions
@@ -91,7 +91,7 @@ short-cut text a b cut =
         both.1.0,
         both.0.1.0,
         both.1.1.0,
-        ap (λ (t : List ℕ). 118 ∷ t) (parts.0 ∙ ap (λ (t : List ℕ). t ++ 46 ∷ b.now) both.0.1.1 ∙ ap (λ (t : List ℕ). decimal both.0.0 ++ 46 ∷ t) both.1.1.1),
+        ap (118 ∷◌) (parts.0 ∙ ap (λ t. t ++ 46 ∷ b.now) both.0.1.1 ∙ ap (λ t. decimal both.0.0 ++ 46 ∷ t) both.1.1.1),
       ),
       λ short. elim short [
         | inl one ↦
@@ -111,7 +111,7 @@ short-cut text a b cut =
 -- a text without a dot
 pub short-whole : (text : List ℕ) → IsSplitOnceResult 46 text None → ((n : ℕ) × IsNumber text n) ↔ IsShortVersion (118 ∷ text)
 short-whole text uncut = (
-  λ one. inl (one.0, one.1.0, ap (λ (t : List ℕ). 118 ∷ t) one.1.1),
+  λ one. inl (one.0, one.1.0, ap (118 ∷◌) one.1.1),
   λ short. elim short [
     | inl one ↦
         let same : text ≡ decimal one.0 = cc one.2 in
@@ -139,7 +139,7 @@ pub build-cases : (text : List ℕ) (parts : Parts) (empty : Bool) → IsVersion
     → empty ≡ (length parts.4 == 0) → MatchBool empty (build_of text ≡ []) (build_of text ≡ codes "incompatible")
 build-cases text parts true version read says =
     let same = parts-read text parts read in
-    subst (λ (p : Parts). p.4 ≡ []) (sym same) (nil_from_length parts.4 (eqb-true _ _ (sym says)))
+    subst (λ p. p.4 ≡ []) (sym same) (nil_from_length parts.4 (eqb-true _ _ (sym says)))
 build-cases text parts false version read says =
     let same = parts-read text parts read in
     elim (version-parts text version).1 [

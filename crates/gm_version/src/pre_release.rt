@@ -58,10 +58,8 @@ fn compare_by_identifiers(one: &[u8], other: &[u8]) -> Ordering
     if one == other {
         return Ordering::Equal;
     }
-    let mut our_start = 0;
-    let mut their_start = 0;
-    'identifiers: for round in 0..one.len() + 1 {
-        let (ours, theirs) = (&one[our_start..], &other[their_start..]);
+    let (mut ours, mut theirs) = (one, other);
+    'identifiers: loop {
         let (our_len, their_len) = (identifier_len(ours), identifier_len(theirs));
         let ordering = compare_identifiers(&ours[..our_len], &theirs[..their_len]);
         if ordering != Ordering::Equal {
@@ -77,10 +75,9 @@ fn compare_by_identifiers(one: &[u8], other: &[u8]) -> Ordering
         if their_len == theirs.len() {
             return Ordering::Greater;
         }
-        our_start += our_len + 1;
-        their_start += their_len + 1;
+        ours = &ours[our_len + 1..];
+        theirs = &theirs[their_len + 1..];
     }
-    Ordering::Equal
 }
 
 /// The order of two pre-releases. One that is empty, as that of a release is, comes after all others.

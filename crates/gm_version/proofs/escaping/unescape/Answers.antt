@@ -1,4 +1,4 @@
-use Rattle.std.proofs.Common.{Err, ◌≡◌, ◌+◌, ◌∷◌, ◌++◌, List, ℕ, [], length, drop, sym, ap, subst, ◌∙◌, append-nil}
+use Rattle.std.proofs.Common.{Err, ◌≡◌, ◌+◌, ◌∷◌, ◌++◌, [], length, drop, sym, ap, subst, ◌∙◌, append-nil}
 use Rattle.std.proofs.lemmas.Iterator.{YieldsList-from_chars}
 use Rattle.std.proofs.lemmas.Iterator.Consumers.{YieldsList-end, YieldsList-so_far, YieldsList-turn}
 use Rattle.std.proofs.lemmas.Result.{err_from_is_err_and}
@@ -21,18 +21,18 @@ returns-in_err-after_bang-clause-bad c =
     let rest = encode_utf8_all (drop (length c.loop-c.yielded + 1) (chars c.args.name.now)) in
     let split = name-split c.args.name.now c.loop-c.yielded c.in-Some.c c.utf8.name front turn.0 turn.1 in
     let whole : c.args.name.now ≡ read_so_far (string_bytes c.loop-c.text) c.loop-c.after_bang ++ encode_utf8 c.in-Some.c ++ rest =
-    split ∙ ap (λ (t : List ℕ). t ++ encode_utf8 c.in-Some.c ++ rest) (sym c.loop-c.invariant.read) in
+    split ∙ ap (λ t. t ++ encode_utf8 c.in-Some.c ++ rest) (sym c.loop-c.invariant.read) in
     let p = err_from_is_err_and c.from_residual.result c.from_residual.ensures.1 in
     rw (p.1, p.2) (λ bad text is.
     let fault : c.in_err-after_bang.field-0.0 ≡ BadEscape = cc bad in
-    c.in_err-after_bang.ensures.bad (ap Err fault) c.loop-c.invariant.no_bang text rest (subst (λ (t : List ℕ). IsUnescaped text t) whole is))
+    c.in_err-after_bang.ensures.bad (ap Err fault) c.loop-c.invariant.no_bang text rest (subst (IsUnescaped text) whole is))
 
 pub loop-c-preserved : goal.loop-c-preserved
 loop-c-preserved c = record {
   read =
-      c.in_ok-after_bang.ensures.ok ∙ ap (λ (t : List ℕ). t ++ encode_utf8 c.in-Some.c) c.loop-c.invariant.read
+      c.in_ok-after_bang.ensures.ok ∙ ap (◌++ encode_utf8 c.in-Some.c) c.loop-c.invariant.read
       ∙ sym (encodes-append c.loop-c.yielded (c.in-Some.c ∷ [])
-      ∙ ap (λ (t : List ℕ). encode_utf8_all c.loop-c.yielded ++ t) (append-nil (encode_utf8 c.in-Some.c)));
+      ∙ ap (encode_utf8_all c.loop-c.yielded ++◌) (append-nil (encode_utf8 c.in-Some.c)));
   no_bang = c.in_ok-after_bang.ensures.no_bang c.loop-c.invariant.no_bang;
 }
 

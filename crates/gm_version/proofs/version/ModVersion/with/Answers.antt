@@ -1,4 +1,4 @@
-use Rattle.std.proofs.Common.{◌≡◌, ℕ, List, rules, ap, ◌∙◌}
+use Rattle.std.proofs.Common.{◌≡◌, rules, ap, ◌∙◌}
 use Rattle.semver.proofs.Grammar.{only_identifier-pre}
 use Rattle.semver.specs.Identifiers.{build_text, parts_of, pre_text}
 use Rattle.gm_version.specs.NameText.{text_bytes}
@@ -12,7 +12,7 @@ invariant_of-result c =
     let read = c.self.inside.shared.value.read in
     let build : build_text c.in_ok-clone.field-0 ≡ build_text read.build = search rules in
     let spelled = (rw c.deref.ensures at c.in_ok-shared_of_parts.ensures.text)
-    ∙ ap (λ (b : List ℕ). version_text (read.major, read.minor, c.args.patch, pre_text c.in-Ok.pre, b)) build in
+    ∙ ap (λ b. version_text (read.major, read.minor, c.args.patch, pre_text c.in-Ok.pre, b)) build in
     let new = version-with _ (text_bytes c.in_ok-shared_of_parts.field-0.value.text) (parts_of read) c.args.patch
     (pre_text c.in-Ok.pre) c.self.invariant.0 c.self.invariant.1 c.ranges.patch.fits (rw pre.0 at pre.1) spelled in
     rw (c.in_ok-shared_of_parts.ensures.read, c.deref.ensures) (new.0, rw build new.1)
@@ -23,7 +23,7 @@ returns c =
     let read = c.self.inside.shared.value.read in
     let build : build_text c.in_ok-clone.field-0 ≡ build_text read.build = search rules in
     let spelled = (rw c.deref.ensures at c.in_ok-shared_of_parts.ensures.text)
-    ∙ ap (λ (b : List ℕ). version_text (read.major, read.minor, c.args.patch, pre_text c.in-Ok.pre, b)) build in
+    ∙ ap (λ b. version_text (read.major, read.minor, c.args.patch, pre_text c.in-Ok.pre, b)) build in
     let new = version-with _ (text_bytes c.in_ok-shared_of_parts.field-0.value.text) (parts_of read) c.args.patch
     (pre_text c.in-Ok.pre) c.self.invariant.0 c.self.invariant.1 c.ranges.patch.fits (rw pre.0 at pre.1) spelled in
     rw (← c.self.view_is, pre.0) new.2
