@@ -21,7 +21,7 @@ use Rattle.gm_version.proofs.Versions.{parts-read, version-parts}
 pub identifiers-append : (xs ys : List ℕ) → parts (xs ++ 46 ∷ ys) ≡ parts xs ++ parts ys
 identifiers-append [] ys = refl
 identifiers-append (b ∷ xs) ys = elim (cases_Bool (b == 46)) [
-  | inl dot ↦ rw dot (ap (λ (l : List (List ℕ)). [] ∷ l) (identifiers-append xs ys))
+  | inl dot ↦ rw dot (ap ([] ∷◌) (identifiers-append xs ys))
   | inr other ↦
       let shape = parts-shape xs in
       rw (other, identifiers-append xs ys, shape.2) refl
@@ -37,8 +37,8 @@ front-identifiers pre before time revision stamp =
   where
     regroup : (b t r : List ℕ) → b ++ codes ".0." ++ t ++ codes "-" ++ r ≡ b ++ 46 ∷ (codes "0." ++ t ++ codes "-" ++ r)
     regroup b t r =
-        ap (λ (l : List ℕ). l ++ codes "-" ++ r) (append_assoc b (codes ".0.") t)
-        ∙ ap (λ (l : List ℕ). l ++ r) (append_assoc b (codes ".0." ++ t) (codes "-"))
+        ap (λ l. l ++ codes "-" ++ r) (append_assoc b (codes ".0.") t)
+        ∙ ap (◌++ r) (append_assoc b (codes ".0." ++ t) (codes "-"))
         ∙ append_assoc b (codes ".0." ++ t ++ codes "-") r
 
 pub pre-identifiers : (pre : List ℕ) → is_pre_release pre ≡ true → 0 < length pre → list_all is_pre_identifier (parts pre) ≡ true
@@ -112,7 +112,7 @@ base-parts version base is_version is =
       | inl second ↦
           let cut = front-identifiers p.3 second.0 is.0 is.1 second.2 in
           let shape = parts-shape cut.0 in
-          let longer : parts p.3 ≡ parts second.0 ++ shape.0 ∷ shape.1 = cut.1 ∙ ap (λ (l : List (List ℕ)). parts second.0 ++ l) shape.2 in
+          let longer : parts p.3 ≡ parts second.0 ++ shape.0 ∷ shape.1 = cut.1 ∙ ap (parts second.0 ++◌) shape.2 in
           let lower : IsLowerList IsLowerIdentifier (parts second.0) (parts p.3) = (parts second.0, inr (shape.0, shape.1, refl, longer)) in
           let some : 0 < length p.3 = omega (
             arith,
@@ -153,7 +153,7 @@ pub base-lower : (version base : List ℕ) → IsVersion version → IsBase vers
 base-lower version base is_version is =
     let b = base-parts version base is_version is in
     let same = parts-spelled base b.0 b.1 b.3 in
-    subst (λ (q : Parts). HasLowerPrecedence q (parts_in version)) (sym same) b.4
+    subst (λ q. HasLowerPrecedence q (parts_in version)) (sym same) b.4
 
 -- the pseudo-versions with a base are those of the second and third form
 pub base-forms : (version : List ℕ) → ((base : List ℕ) × IsBase version base)
@@ -167,10 +167,10 @@ base-forms version = (
         | inl first ↦ absurd (omega (arith, some.3, first.0))
         | inr others ↦ elim others [
           | inl second ↦
-              let stamp = subst (λ (f : List ℕ). IsStamp p.3 f some.1 some.2) second.3 pseudo.2 in
+              let stamp = subst (λ f. IsStamp p.3 f some.1 some.2) second.3 pseudo.2 in
               (version_text (p.0, p.1, p.2, second.1, p.4), (some.1, some.2, inl (second.1, second.2, stamp, refl)))
           | inr third ↦
-              let stamp = subst (λ (f : List ℕ). IsStamp p.3 f some.1 some.2) third.2 pseudo.2 in
+              let stamp = subst (λ f. IsStamp p.3 f some.1 some.2) third.2 pseudo.2 in
               (version_text (p.0, p.1, p.2 - 1, [], p.4), (some.1, some.2, inr (third.1, stamp, refl)))
         ]
       ],

@@ -25,14 +25,14 @@ path-byte b h = rw h refl
 -- the bytes of elements and of the slashes between them
 pub elements-bytes : (text : List ℕ) → list_all is_element (elements text) ≡ true → list_all is_byte_of_path text ≡ true
 elements-bytes text all =
-    let each = weaker is_element (λ e. list_all is_byte_of_path e)
+    let each = weaker is_element (list_all is_byte_of_path)
     (λ e h. weaker is_path_byte is_byte_of_path path-byte e (element-bytes e h)) (elements text) all in
     rw (join_with_byte-slice_split 47 text) at (all-join is_byte_of_path 47 (elements text) refl each)
 
 -- a path has only letters, digits, `-`, `.`, `_`, `~` and `/`
 pub path-bytes : (text : List ℕ) → IsPath text → list_all is_byte_of_path text ≡ true
 path-bytes text path =
-    let each = weaker is_element (λ e. list_all is_byte_of_path e)
+    let each = weaker is_element (list_all is_byte_of_path)
     (λ e h. weaker is_path_byte is_byte_of_path path-byte e (element-bytes e h)) path.elements path.each in
     rw path.joined (all-join is_byte_of_path 47 path.elements refl each)
 
@@ -53,7 +53,7 @@ identifier-bytes part h = weaker is_identifier_byte is_byte_of_version identifie
 pre-bytes : (pre : List ℕ) → is_pre_release pre ≡ true → list_all is_byte_of_version (marked 45 pre) ≡ true
 pre-bytes [] h = refl
 pre-bytes (b ∷ rest) h =
-    let each = weaker is_pre_identifier (λ p. list_all is_byte_of_version p) identifier-bytes (parts (b ∷ rest)) h in
+    let each = weaker is_pre_identifier (list_all is_byte_of_version) identifier-bytes (parts (b ∷ rest)) h in
     rw (join_with_byte-slice_split 46 (b ∷ rest)) at (all-join is_byte_of_version 46 (parts (b ∷ rest)) refl each)
 
 -- a version has only letters, digits, `+`, `-` and `.`

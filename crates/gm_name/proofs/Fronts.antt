@@ -79,8 +79,8 @@ front-stem text =
     let n = prefix_len is_path_byte text in
     let within = stem-within text in
     let len = length-prefix_len is_path_byte text in
-    let first : position_or_len (λ b. b == 46) (take n text) ≡ m =
-    position_or_len_is (λ b. b == 46) (take n text) m 0 (omega arith)
+    let first : position_or_len (◌== 46) (take n text) ≡ m =
+    position_or_len_is (◌== 46) (take n text) m 0 (omega arith)
     (λ k lt.
     let inside : k < n = omega arith in
     rw (get_or-take n text k 0 inside) (stem_byte-no_dot _ (prefix_len_passes is_stem_byte text k 0 lt)))
@@ -97,7 +97,7 @@ pub elements-whole : (text : List ℕ) → length text ≤ prefix_len is_path_by
     → list_all is_element (elements text) ≡ is_element (take_while is_path_byte text)
 elements-whole text end =
     let whole = take_all (prefix_len is_path_byte text) text end in
-    let one = slice_split_none (λ b. b == 47) text (λ k d lt. path_byte-no_slash _ (prefix_len_passes is_path_byte text k d (omega arith))) in
+    let one = slice_split_none (◌== 47) text (λ k d lt. path_byte-no_slash _ (prefix_len_passes is_path_byte text k d (omega arith))) in
     rw (one, whole) (and-true (is_element text))
 
 -- a slash follows the front
@@ -106,11 +106,11 @@ pub at-slash : (text : List ℕ) → prefix_len is_path_byte text < length text 
     (elements (drop (prefix_len is_path_byte text + 1) text)))
 at-slash text inside slash =
     let n = prefix_len is_path_byte text in
-    let first : position_or_len (λ b. b == 47) text ≡ n =
-    position_or_len_is (λ b. b == 47) text n 0 (omega arith)
+    let first : position_or_len (◌== 47) text ≡ n =
+    position_or_len_is (◌== 47) text n 0 (omega arith)
     (λ k lt. path_byte-no_slash _ (prefix_len_passes is_path_byte text k 0 lt)) (λ lt. rw slash refl) in
-    let cut = slice_split_first (λ b. b == 47) text 0 (rw first inside) in
-    ap (λ (pieces : List (List ℕ)). list_all is_element pieces) (rw first at cut)
+    let cut = slice_split_first (◌== 47) text 0 (rw first inside) in
+    ap (list_all is_element) (rw first at cut)
 
 -- another byte follows it
 pub at-other : (text : List ℕ) → prefix_len is_path_byte text < length text → get_or text (prefix_len is_path_byte text) 0 ≢ 47
@@ -152,4 +152,4 @@ rest-none text rest n e none =
 
 -- the text after its first byte
 pub rest-after : (text rest : List ℕ) (n : ℕ) → rest ≡ drop n text → take (length rest - 1) (drop 1 rest) ≡ drop (n + 1) text
-rest-after text rest n e = take_rest rest 1 ∙ ap (λ (xs : List ℕ). drop 1 xs) e ∙ drop-drop 1 n text
+rest-after text rest n e = take_rest rest 1 ∙ ap (drop 1) e ∙ drop-drop 1 n text

@@ -102,7 +102,7 @@ unstable-some : (text stable : List ℕ) (n : ℕ) (b : Bool) → b ≡ nat_lt n
     → Tells (if b then None else Some n) (EndsSoDot text)
 unstable-some text stable n true is joined ends =
     let e : n ≡ 0 = grind (arith, nat_tests) in
-    λ m dot. dot_unstable_zero text stable joined (subst (λ (k : ℕ). EndsInNumber stable (codes ".v") k) e ends.1) m dot.0 dot.1
+    λ m dot. dot_unstable_zero text stable joined (subst (EndsInNumber stable (codes ".v")) e ends.1) m dot.0 dot.1
 unstable-some text stable n false is joined ends =
     let positive : 0 < n = grind (arith, nat_tests) in
     (ends.0, inr (positive, stable, joined, ends.1))
@@ -223,12 +223,12 @@ build-by parts = (
 read-by : (rest : List ℕ) (r : Result Parts Error) → r ≡ version_parts rest → has_plain_build r ≡ true → IsVersion (118 ∷ rest)
 read-by rest (Ok parts) read plain =
     let sound = version_parts-sound rest parts (sym read) in
-    (parts, sound.1, (build-by parts).0 plain, ap (λ (t : List ℕ). 118 ∷ t) (sym sound.0))
+    (parts, sound.1, (build-by parts).0 plain, ap (118 ∷◌) (sym sound.0))
 read-by rest (Err error) read plain = absurd cc
 
 begins-v : (text : List ℕ) → (get_or text 0 0 == 118) ≡ true → text ≡ 118 ∷ drop 1 text
 begins-v [] e = absurd cc
-begins-v (b ∷ rest) e = ap (λ (x : ℕ). x ∷ rest) (eqb-true b 118 e)
+begins-v (b ∷ rest) e = ap (◌∷ rest) (eqb-true b 118 e)
 
 -- `is_version` decides `IsVersion`
 pub version-tested : (text : List ℕ) → is_version text ≡ true ↔ IsVersion text
@@ -294,7 +294,7 @@ major-fit version (Dot n) =
 fit-by : (path version : List ℕ) (r : Option Major) → Tells r (HasMajor path) → (option_map_or (fits_major version) r false ≡ true) ↔ Fits path version
 fit-by path version (Some major) named = (
   λ e. (major, named, (major-fit version major).0 e),
-  λ fit. (major-fit version major).1 (subst (λ (m : Major). FitsMajor m version) (major-unique path fit.0 major fit.1 named) fit.2),
+  λ fit. (major-fit version major).1 (subst (λ m. FitsMajor m version) (major-unique path fit.0 major fit.1 named) fit.2),
 )
 fit-by path version None none = (λ e. absurd cc, λ fit. absurd (none fit.0 fit.1))
 

@@ -25,8 +25,8 @@ use Rattle.gm_name.proofs.NumericIdentifiers.{cmp-lt, numeric-by_number}
 -- one item more in front of both
 lower-cons : {X : Type 0} (R : X → X → Type 0) (x y : X) (xs ys : List X) → x ≡ y → IsLowerList R xs ys → IsLowerList R (x ∷ xs) (y ∷ ys)
 lower-cons R x y xs ys same lower = elim lower.1 [
-  | inl d ↦ (x ∷ lower.0, inl (d.0, d.1, d.2, d.3, ap (λ l. x ∷ l) d.4, rw (sym same) (ap (λ l. x ∷ l) d.5), d.6))
-  | inr d ↦ (x ∷ lower.0, inr (d.0, d.1, ap (λ l. x ∷ l) d.2, rw (sym same) (ap (λ l. x ∷ l) d.3)))
+  | inl d ↦ (x ∷ lower.0, inl (d.0, d.1, d.2, d.3, ap (x ∷◌) d.4, rw (sym same) (ap (x ∷◌) d.5), d.6))
+  | inr d ↦ (x ∷ lower.0, inr (d.0, d.1, ap (x ∷◌) d.2, rw (sym same) (ap (x ∷◌) d.3)))
 ]
 
 -- the first items of two lists decide, or are equal

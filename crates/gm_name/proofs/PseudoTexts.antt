@@ -47,7 +47,7 @@ first-whole x time revision build fourteen =
     let rest = marked 43 build in
     let some : 0 < length pre = omega (arith, length-append (time ++ codes "-") revision, length-append time (codes "-")) in
     pre-text x 0 0 pre build some
-    ∙ ap (λ (o : List ℕ). codes "v" ++ decimal x ++ codes "." ++ o ++ codes "." ++ o ++ codes "-" ++ pre ++ rest) zero
+    ∙ ap (λ o. codes "v" ++ decimal x ++ codes "." ++ o ++ codes "." ++ o ++ codes "-" ++ pre ++ rest) zero
     ∙ regroup (codes "v") (decimal x) (codes ".") (codes "0") (codes "-") time (codes "-") revision rest
   where
     regroup : (v x p o d t e r m : List ℕ) → v ++ x ++ p ++ o ++ p ++ o ++ d ++ (t ++ e ++ r) ++ m
@@ -151,7 +151,7 @@ third-pre : (time revision : List ℕ) → is_pre_identifier (time ++ codes "-" 
 third-pre time revision is =
     let cut : parts (codes "0." ++ time ++ codes "-" ++ revision) ≡ codes "0" ∷ parts (time ++ codes "-" ++ revision) =
     identifiers-append (codes "0") (time ++ codes "-" ++ revision) in
-    ap (λ (l : List (List ℕ)). list_all is_pre_identifier l) cut ∙ first-pre time revision is
+    ap (list_all is_pre_identifier) cut ∙ first-pre time revision is
 
 second-pre : (before time revision : List ℕ) → 0 < length before → is_pre_release before ≡ true
     → is_pre_identifier (time ++ codes "-" ++ revision) ≡ true
@@ -199,8 +199,8 @@ third-of : (p : Parts) (version time revision : List ℕ) → version ≡ versio
     → version ≡ third_text p.0 p.1 (p.2 - 1) (time ++ codes "-" ++ revision ++ marked 43 p.4)
 third-of (x, y, z, pre, build) version time revision spelled positive stamp =
     let more : z ≡ z - 1 + 1 = omega arith in
-    spelled ∙ ap (λ (n : ℕ). version_text (x, y, n, pre, build)) more
-    ∙ ap (λ (t : List ℕ). version_text (x, y, z - 1 + 1, t, build)) stamp.joined
+    spelled ∙ ap (λ n. version_text (x, y, n, pre, build)) more
+    ∙ ap (λ t. version_text (x, y, z - 1 + 1, t, build)) stamp.joined
     ∙ third-whole x y (z - 1) time revision build
 
 pseudo-to : (version : List ℕ) (form : ℕ) (time revision : List ℕ)
@@ -215,11 +215,11 @@ pseudo-to version form time revision is =
       end-of p.3 is.1.0 time revision p.4 stamp v.1,
       elim is.1.1 [
         | inl first ↦
-            let at = subst (λ (f : List ℕ). IsStamp p.3 f time revision) first.3 stamp in
+            let at = subst (λ f. IsStamp p.3 f time revision) first.3 stamp in
             inl (first.0, p.0, v.0.0, first-of p version time revision v.2 first.1 first.2 at)
         | inr others ↦ elim others [
           | inl second ↦
-              let at = subst (λ (f : List ℕ). IsStamp p.3 f time revision) second.3 stamp in
+              let at = subst (λ f. IsStamp p.3 f time revision) second.3 stamp in
               let valid = pre-before p.3 second.1 time revision v.0.3 at in
               inr (inl (
                 second.0,
@@ -232,7 +232,7 @@ pseudo-to version form time revision is =
                 second-of p version second.1 time revision v.2 second.2 at,
               ))
           | inr third ↦
-              let at = subst (λ (f : List ℕ). IsStamp p.3 f time revision) third.2 stamp in
+              let at = subst (λ f. IsStamp p.3 f time revision) third.2 stamp in
               inr (inr (
                 third.0,
                 p.0,
@@ -317,7 +317,7 @@ first-from version x end time revision build part small is plain good same spell
     let one = end-identifier time revision is.fourteen is.digits is.letters_or_digits in
     let valid : is_pre_release pre ≡ true = pre-from pre (first-pre time revision one) in
     version-of version (x, 0, 0, pre, part) (small, omega arith, omega arith, valid, good) plain
-    (spelled ∙ ap (first_text x) (is.joined ∙ ap (λ (t : List ℕ). time ++ codes "-" ++ revision ++ t) (sym same))
+    (spelled ∙ ap (first_text x) (is.joined ∙ ap (time ++ codes "-" ++ revision ++◌) (sym same))
     ∙ sym (first-whole x time revision part is.fourteen))
 
 second-from : (version : List ℕ) (x y z : ℕ) (before end time revision build part : List ℕ) → AreNumbers x y z
@@ -329,7 +329,7 @@ second-from version x y z before end time revision build part small tagged is pl
     let one = end-identifier time revision is.fourteen is.digits is.letters_or_digits in
     let valid : is_pre_release pre ≡ true = pre-from pre (second-pre before time revision tagged.0 tagged.1 one) in
     version-of version (x, y, z, pre, part) (small.0, small.1, small.2, valid, good) plain
-    (spelled ∙ ap (second_text x y z before) (is.joined ∙ ap (λ (t : List ℕ). time ++ codes "-" ++ revision ++ t) (sym same))
+    (spelled ∙ ap (second_text x y z before) (is.joined ∙ ap (time ++ codes "-" ++ revision ++◌) (sym same))
     ∙ sym (second-whole x y z before time revision part tagged.0))
 
 third-from : (version : List ℕ) (x y z : ℕ) (end time revision build part : List ℕ) → AreNumbers x y (z + 1)
@@ -341,7 +341,7 @@ third-from version x y z end time revision build part small is plain good same s
     let one = end-identifier time revision is.fourteen is.digits is.letters_or_digits in
     let valid : is_pre_release pre ≡ true = pre-from pre (third-pre time revision one) in
     version-of version (x, y, z + 1, pre, part) (small.0, small.1, small.2, valid, good) plain
-    (spelled ∙ ap (third_text x y z) (is.joined ∙ ap (λ (t : List ℕ). time ++ codes "-" ++ revision ++ t) (sym same))
+    (spelled ∙ ap (third_text x y z) (is.joined ∙ ap (time ++ codes "-" ++ revision ++◌) (sym same))
     ∙ sym (third-whole x y z time revision part))
 
 pseudo-from : (version : List ℕ) (form : ℕ) (time revision : List ℕ)
@@ -394,7 +394,7 @@ base-from version base is =
           let v = second-from version f.0 f.1 f.2 f.3 end time revision build b.0 f.4 f.5 is.4 b.1 b.2 b.3 f.6 in
           let stamp = stamp-of (f.3 ++ codes ".0.") end time revision build is.4 in
           let spelled : base ≡ version_text (f.0, f.1, f.2, f.3, b.0) =
-          f.7 ∙ ap (λ (t : List ℕ). release f.0 f.1 f.2 ++ codes "-" ++ f.3 ++ t) (sym b.3)
+          f.7 ∙ ap (release f.0 f.1 f.2 ++ codes "-" ++ f.3 ++◌) (sym b.3)
           ∙ sym (pre-text f.0 f.1 f.2 f.3 b.0 f.5.0) in
           (v.0, at (sym v.1) (time, revision, inl (f.3, f.5.0, stamp, spelled)))
       | inr f ↦
@@ -402,9 +402,9 @@ base-from version base is =
           let stamp = stamp-of (codes "0.") end time revision build is.4 in
           let less : f.2 + 1 - 1 ≡ f.2 = omega arith in
           let spelled : base ≡ version_text (f.0, f.1, f.2 + 1 - 1, [], b.0) =
-          f.5 ∙ ap (λ (t : List ℕ). release f.0 f.1 f.2 ++ t) (sym b.3)
+          f.5 ∙ ap (release f.0 f.1 f.2 ++◌) (sym b.3)
           ∙ sym (release-text f.0 f.1 f.2 b.0)
-          ∙ ap (λ (n : ℕ). version_text (f.0, f.1, n, [], b.0)) (sym less) in
+          ∙ ap (λ n. version_text (f.0, f.1, n, [], b.0)) (sym less) in
           (v.0, at (sym v.1) (time, revision, inr (omega arith, stamp, spelled)))
     ]
   where

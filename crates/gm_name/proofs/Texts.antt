@@ -15,7 +15,7 @@ pub bytes_eq-same : (a b : List ℕ) → bytes_eq a b ≡ true → a ≡ b
 bytes_eq-same a b e = (bytes_eq-Decides a b).0 e
 
 pub bytes_eq-differ : (a b : List ℕ) → bytes_eq a b ≡ false → a ≢ b
-bytes_eq-differ a b e is = false≢true (sym e ∙ subst (λ (t : List ℕ). bytes_eq a t ≡ true) is (bytes_eq-self a))
+bytes_eq-differ a b e is = false≢true (sym e ∙ subst (λ t. bytes_eq a t ≡ true) is (bytes_eq-self a))
 
 pub slice_cmp-same : (a b : List ℕ) → slice_cmp nat_cmp a b ≡ Equal → a ≡ b
 slice_cmp-same a b e = bytes_eq-same a b (sym (is_eq-slice_cmp a b) ∙ ap is_eq e)

@@ -1,4 +1,4 @@
-use Rattle.std.proofs.Common.{ℕ, List, codes, inl, sym, subst, arith}
+use Rattle.std.proofs.Common.{codes, inl, sym, subst, arith}
 use Rattle.gm_name.specs.Pseudo.{IsFront, IsStamp}
 use Rattle.gm_version.specs.Version.{parts_in}
 use Rattle.gm_name.proofs.BaseVersions.{pre-before}
@@ -11,14 +11,14 @@ returns-in_default-clause-none c = λ text is.
     let p = parts_in c.args.version.now in
     let b = base-pseudo c.args.version.now text is in
     c.in_default.ensures.none b.5.0 b.1 b.2 (front-dot b.0 p.1 p.2 b.5.0 b.5.1)
-    (subst (λ (pre : List ℕ). IsStamp pre b.5.0 b.1 b.2) (sym c.pre.ensures.text) b.5.2)
+    (subst (λ pre. IsStamp pre b.5.0 b.1 b.2) (sym c.pre.ensures.text) b.5.2)
 
 pub returns-in_default-form_of-clause-none : goal.returns-in_default-form_of-clause-none
 returns-in_default-form_of-clause-none c = λ text is.
     let p = parts_in c.args.version.now in
     let b = base-pseudo c.args.version.now text is in
     let only = c.in-Some.ensures.only b.5.0 b.1 b.2 (front-dot b.0 p.1 p.2 b.5.0 b.5.1)
-    (subst (λ (pre : List ℕ). IsStamp pre b.5.0 b.1 b.2) (sym c.pre.ensures.text) b.5.2) in
+    (subst (λ pre. IsStamp pre b.5.0 b.1 b.2) (sym c.pre.ensures.text) b.5.2) in
     let is_front : IsFront b.0 c.minor.result c.patch.result c.as_bytes.result.now =
     rw (c.minor.ensures, c.patch.ensures, c.as_bytes.ensures.value, only.0) b.5.1 in
     c.in_default-form_of.ensures.none b.0 is_front
@@ -43,7 +43,7 @@ returns-clause-none c = λ text is.
     let p = parts_in c.args.version.now in
     let b = base-pseudo c.args.version.now text is in
     let only = c.in-Some.ensures.only b.5.0 b.1 b.2 (front-dot b.0 p.1 p.2 b.5.0 b.5.1)
-    (subst (λ (pre : List ℕ). IsStamp pre b.5.0 b.1 b.2) (sym c.pre.ensures.text) b.5.2) in
+    (subst (λ pre. IsStamp pre b.5.0 b.1 b.2) (sym c.pre.ensures.text) b.5.2) in
     let is_front : IsFront b.0 c.minor.result c.patch.result c.as_bytes.result.now =
     rw (c.minor.ensures, c.patch.ensures, c.as_bytes.ensures.value, only.0) b.5.1 in
     let same = front-unique b.0 c.in-Some-form_of.form c.minor.result c.patch.result c.as_bytes.result.now is_front c.in-Some-form_of.ensures.some in

@@ -28,16 +28,16 @@ split_at-requires-2 c =
 pub returns-clause-bytes : goal.returns-clause-bytes
 returns-clause-bytes c =
     let end = end-len c.args.text.now _ _ _ c.stem_len-stem_end.ensures c.split_at.ensures.back c.path_bytes_len.ensures in
-    c.split_at-2.ensures.front ∙ ap (λ (n : ℕ). take n c.args.text.now) end
+    c.split_at-2.ensures.front ∙ ap (λ n. take n c.args.text.now) end
 
 pub returns-clause-stem : goal.returns-clause-stem
 returns-clause-stem c =
     let end = end-len c.args.text.now _ _ _ c.stem_len-stem_end.ensures c.split_at.ensures.back c.path_bytes_len.ensures in
-    let bytes = c.split_at-2.ensures.front ∙ ap (λ (n : ℕ). take n c.args.text.now) end in
-    let front = c.split_at.ensures.front ∙ ap (λ (n : ℕ). take n c.args.text.now) c.stem_len-stem_end.ensures in
+    let bytes = c.split_at-2.ensures.front ∙ ap (λ n. take n c.args.text.now) end in
+    let front = c.split_at.ensures.front ∙ ap (λ n. take n c.args.text.now) c.stem_len-stem_end.ensures in
     rw bytes (front ∙ front-stem c.args.text.now)
 
 pub returns-clause-rest : goal.returns-clause-rest
 returns-clause-rest c =
     let end = end-len c.args.text.now _ _ _ c.stem_len-stem_end.ensures c.split_at.ensures.back c.path_bytes_len.ensures in
-    c.split_at-2.ensures.back ∙ ap (λ (n : ℕ). drop n c.args.text.now) end
+    c.split_at-2.ensures.back ∙ ap (λ n. drop n c.args.text.now) end

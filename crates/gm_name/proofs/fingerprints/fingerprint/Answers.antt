@@ -1,4 +1,4 @@
-use Rattle.std.proofs.Common.{◌∙◌, ℕ, List, ap}
+use Rattle.std.proofs.Common.{◌∙◌, ap}
 use Rattle.gm_name.specs.Fingerprint.{fingerprint, first_eight, number_with_word}
 use Rattle.gm_name.proofs.Words.{after_eight, no_word}
 use Rattle.gm_name.proofs.fingerprints.fingerprint.Goals as goal
@@ -6,8 +6,8 @@ use Rattle.gm_name.proofs.fingerprints.fingerprint.Goals as goal
 pub words-preserved : goal.words-preserved
 words-preserved c =
     let was = c.words.rest.now in
-    ap (λ (number : ℕ). fingerprint number c.after_eight-rest.result.now) (c.mixed-number.ensures ∙ ap (number_with_word c.words.number) c.first_eight.ensures)
-    ∙ ap (λ (rest : List ℕ). fingerprint (number_with_word c.words.number (first_eight was)) rest) c.after_eight-rest.ensures
+    ap (λ number. fingerprint number c.after_eight-rest.result.now) (c.mixed-number.ensures ∙ ap (number_with_word c.words.number) c.first_eight.ensures)
+    ∙ ap (fingerprint (number_with_word c.words.number (first_eight was))) c.after_eight-rest.ensures
     ∙ after_eight c.words.number was c.words-test.true
     ∙ c.words.invariant
 
