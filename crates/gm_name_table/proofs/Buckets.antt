@@ -1,5 +1,5 @@
 -- What buckets of any kind hold after one of them was changed, and that a number chooses one of them.
-use Rattle.std.proofs.Common.{◌≡◌, ◌∙◌, ◌+◌, ◌<◌, ◌≤◌, ◌*◌, ℕ, zero, suc, Bool, cond, List, [], ◌∷◌, ◌++◌, ◌/◌, Option, None, Some, length, get_or, length-append, replicate, nat_eq, ap, refl, sym, subst, inl, inr, arith}
+use Rattle.std.proofs.Common.{◌≡◌, ◌∙◌, ◌+◌, ◌<◌, ◌≤◌, ◌*◌, ℕ, zero, suc, cond, List, [], ◌∷◌, ◌++◌, ◌/◌, Option, None, Some, length, get_or, length-append, replicate, nat_eq, ap, refl, sym, subst, inl, inr, arith}
 use Rattle.std.specs.Prelude.{slice_get}
 use Rattle.std.specs.Option.{option_and_then}
 use Rattle.std.proofs.Math.ListN.{set}
@@ -24,36 +24,36 @@ elsewhere (y ∷ ys) (suc i) (suc j) x apart = elsewhere ys i j x (λ e. apart (
 
 -- A bucket that was put back as it was changes nothing.
 pub set_there : {B : Type 0} (buckets : List B) (old new : B) (at : ℕ) → old ≡ get_or buckets at old → new ≡ old → set buckets at new ≡ buckets
-set_there {B} buckets old new at is same = ap (λ (b : B). set buckets at b) (same ∙ is) ∙ set-get_or buckets at old
+set_there {B} buckets old new at is same = ap (set buckets at) (same ∙ is) ∙ set-get_or buckets at old
 
 -- What the bucket at a place holds is what they hold there.
 pub value_there : {B : Type 0} (holds : B → ℕ → Option ℕ) (buckets : List B) (old : B) (at n : ℕ) → at < length buckets → old ≡ get_or buckets at old
     → value_at holds buckets at n ≡ holds old n
 value_there {B} holds buckets old at n within is =
-    ap (λ (o : Option B). option_and_then (λ bucket. holds bucket n) o) (slice_get_read buckets (length buckets) at old refl within is)
+    ap (λ o. option_and_then (λ bucket. holds bucket n) o) (slice_get_read buckets (length buckets) at old refl within is)
 
 -- What is put in the bucket of its number is put in all.
 pub put_in : {B : Type 0} (holds : B → ℕ → Option ℕ) (choice : ℕ → ℕ → ℕ) (buckets : List B) (old new : B) (at number value : ℕ)
     → at ≡ choice number (length buckets) → at < length buckets → old ≡ get_or buckets at old → PutsIn holds old new number value
     → (n : ℕ) → value_in holds choice (set buckets at new) n ≡ cond (nat_eq number n) (Some value) (value_in holds choice buckets n)
 put_in {B} holds choice buckets old new at number value chosen within is puts n =
-    ap (λ (many : ℕ). value_at holds (set buckets at new) (choice n many) n) (length-set buckets at new)
+    ap (λ many. value_at holds (set buckets at new) (choice n many) n) (length-set buckets at new)
     ∙ elim (cases_eq at (choice n (length buckets))) [ inl same ↦ here same | inr apart ↦ other apart ]
   where
     here : at ≡ choice n (length buckets)
         → value_at holds (set buckets at new) (choice n (length buckets)) n ≡ cond (nat_eq number n) (Some value) (value_in holds choice buckets n)
     here same =
-        subst (λ (m : ℕ). value_at holds (set buckets at new) m n ≡ cond (nat_eq number n) (Some value) (value_at holds buckets m n)) same
-        (ap (λ (o : Option B). option_and_then (λ bucket. holds bucket n) o) (there buckets at new within)
+        subst (λ m. value_at holds (set buckets at new) m n ≡ cond (nat_eq number n) (Some value) (value_at holds buckets m n)) same
+        (ap (λ o. option_and_then (λ bucket. holds bucket n) o) (there buckets at new within)
         ∙ puts n
-        ∙ ap (λ (o : Option ℕ). cond (nat_eq number n) (Some value) o) (sym (value_there holds buckets old at n within is)))
+        ∙ ap (cond (nat_eq number n) (Some value)) (sym (value_there holds buckets old at n within is)))
 
     other : (at ≡ choice n (length buckets) → ⊥)
         → value_at holds (set buckets at new) (choice n (length buckets)) n ≡ cond (nat_eq number n) (Some value) (value_in holds choice buckets n)
     other apart =
-        ap (λ (o : Option B). option_and_then (λ bucket. holds bucket n) o) (elsewhere buckets at (choice n (length buckets)) new apart)
-        ∙ sym (ap (λ (b : Bool). cond b (Some value) (value_in holds choice buckets n))
-        (ne_eqb number n (λ same. apart (chosen ∙ ap (λ (m : ℕ). choice m (length buckets)) same))))
+        ap (λ o. option_and_then (λ bucket. holds bucket n) o) (elsewhere buckets at (choice n (length buckets)) new apart)
+        ∙ sym (ap (λ b. cond b (Some value) (value_in holds choice buckets n))
+        (ne_eqb number n (λ same. apart (chosen ∙ ap (λ m. choice m (length buckets)) same))))
 
 mul-below : (number many : ℕ) → number < 4294967296 → number * many + many ≤ 4294967296 * many
 mul-below number zero small = omega (arith, mul-zero number)
@@ -90,13 +90,13 @@ pub one_more_part : {B : Type 0} (holds : B → ℕ → Option ℕ) (choice : �
     → AreParts holds choice buckets many (parts ++ part ∷ [])
 one_more_part {B} holds choice buckets many parts whole part are is same at number within chosen = elim (cases_eq at (length parts)) [
   | inl end ↦
-      subst (λ (n : ℕ). value_at holds (parts ++ part ∷ []) n number ≡ value_at holds buckets (n / 2) number) (sym end)
-      (ap (λ (o : Option B). option_and_then (λ bucket. holds bucket number) o) (last parts part)
+      subst (λ n. value_at holds (parts ++ part ∷ []) n number ≡ value_at holds buckets (n / 2) number) (sym end)
+      (ap (λ o. option_and_then (λ bucket. holds bucket number) o) (last parts part)
       ∙ same number (chosen ∙ end)
-      ∙ ap (λ (o : Option B). option_and_then (λ bucket. holds bucket number) o) (sym is))
+      ∙ ap (λ o. option_and_then (λ bucket. holds bucket number) o) (sym is))
   | inr other ↦
       let small : at < length parts = omega (arith, within, other, length-append parts (part ∷ [])) in
-      ap (λ (o : Option B). option_and_then (λ bucket. holds bucket number) o) (before parts part at small) ∙ are at number small chosen
+      ap (λ o. option_and_then (λ bucket. holds bucket number) o) (before parts part at small) ∙ are at number small chosen
 ]
 
 -- Twice as many buckets, each of which is a part, hold what the buckets hold.
@@ -105,14 +105,14 @@ pub parts_hold : {B : Type 0} (holds : B → ℕ → Option ℕ) (buckets parts 
     → value_in holds bucket_of parts number ≡ value_in holds bucket_of buckets number
 parts_hold {B} holds buckets parts size are number =
     let many = length buckets in
-    let chosen : bucket_of number (length parts) ≡ bucket_of number (many * 2) = ap (λ (n : ℕ). bucket_of number n) size in
+    let chosen : bucket_of number (length parts) ≡ bucket_of number (many * 2) = ap (bucket_of number) size in
     let product = mul_assoc number many 2 in
     let half : bucket_of number (many * 2) / 2 ≡ bucket_of number many = omega (arith, product) in
-    ap (λ (at : ℕ). value_at holds parts at number) chosen
+    ap (λ at. value_at holds parts at number) chosen
     ∙ elim (cases_lt (bucket_of number (many * 2)) (length parts)) [
-      | inl there ↦ are (bucket_of number (many * 2)) number there refl ∙ ap (λ (at : ℕ). value_at holds buckets at number) half
+      | inl there ↦ are (bucket_of number (many * 2)) number there refl ∙ ap (λ at. value_at holds buckets at number) half
       | inr past ↦
           let outside : many ≤ bucket_of number many = omega (arith, half, past, size) in
-          ap (λ (o : Option B). option_and_then (λ bucket. holds bucket number) o)
+          ap (λ o. option_and_then (λ bucket. holds bucket number) o)
           (slice_get_past parts (bucket_of number (many * 2)) past ∙ sym (slice_get_past buckets (bucket_of number many) outside))
     ]

@@ -12,8 +12,8 @@ use Rattle.gm_name_table.proofs.Buckets.{before, elsewhere, last, there}
 
 -- The value that was added is found at the place past the others, and they are found where they were.
 pub put_value : {V : Type 0} (values : List V) (value : V) (b : Bool) (old : Option ℕ) → ((place : ℕ) → old ≡ Some place → place < length values)
-    → option_and_then (λ place. slice_get (values ++ value ∷ []) place) (cond b (Some (length values)) old)
-    ≡ cond b (Some value) (option_and_then (λ place. slice_get values place) old)
+    → option_and_then (slice_get (values ++ value ∷ [])) (cond b (Some (length values)) old)
+    ≡ cond b (Some value) (option_and_then (slice_get values) old)
 put_value values value true old within = last values value
 put_value values value false None within = refl
 put_value values value false (Some place) within = before values value place (within place refl)
@@ -21,26 +21,26 @@ put_value values value false (Some place) within = before values value place (wi
 -- A value that takes the place of another is found under the tag of the place, and under no other.
 pub put_again : {V : Type 0} (values : List V) (value : V) (index : TagIndex) (tag place : ℕ)
     → ArePlacesBelow index (length values) → place_under index tag ≡ Some place
-    → (t : ℕ) → option_and_then (λ p. slice_get (set values place value) p) (place_under index t)
-    ≡ cond (nat_eq tag t) (Some value) (option_and_then (λ p. slice_get values p) (place_under index t))
+    → (t : ℕ) → option_and_then (slice_get (set values place value)) (place_under index t)
+    ≡ cond (nat_eq tag t) (Some value) (option_and_then (slice_get values) (place_under index t))
 put_again {V} values value index tag place are is t = by (nat_eq tag t) refl (place_under index t) refl
   where
     by : (b : Bool) → nat_eq tag t ≡ b → (held : Option ℕ) → place_under index t ≡ held
-        → option_and_then (λ p. slice_get (set values place value) p) held ≡ cond b (Some value) (option_and_then (λ p. slice_get values p) held)
+        → option_and_then (slice_get (set values place value)) held ≡ cond b (Some value) (option_and_then (slice_get values) held)
     by true e None none =
-        absurd (cc (is, none, ap (λ (u : ℕ). place_under index u) (eqb-true tag t e)))
+        absurd (cc (is, none, ap (place_under index) (eqb-true tag t e)))
     by true e (Some p) at =
-        let same : place ≡ p = cc (is, at, ap (λ (u : ℕ). place_under index u) (eqb-true tag t e)) in
-        subst (λ (m : ℕ). slice_get (set values place value) m ≡ Some value) same (there values place value (are.below tag place is))
+        let same : place ≡ p = cc (is, at, ap (place_under index) (eqb-true tag t e)) in
+        subst (λ m. slice_get (set values place value) m ≡ Some value) same (there values place value (are.below tag place is))
     by false e None none = refl
     by false e (Some p) at =
         elsewhere values place p value
-        (λ same. absurd (cc (e, eq-eqb tag t (are.apart tag t place is (at ∙ ap (λ (m : ℕ). Some m) (sym same))))))
+        (λ same. absurd (cc (e, eq-eqb tag t (are.apart tag t place is (at ∙ ap Some (sym same))))))
 
 -- With one more place, past the others, they are below the next number.
 pub one_more_place : (old new : TagIndex) (many tag : ℕ) → ArePlacesBelow old many → PutsIn place_under old new tag many → ArePlacesBelow new (many + 1)
 one_more_place old new many tag are puts = record {
-  below = λ t p is. below-by (nat_eq tag t) p (place_under old t) (λ e. are.below t p e) (sym (puts t) ∙ is);
+  below = λ t p is. below-by (nat_eq tag t) p (place_under old t) (are.below t p) (sym (puts t) ∙ is);
   apart = λ t u p is also. apart-by (nat_eq tag t) (nat_eq tag u) t u p refl refl (sym (puts t) ∙ is) (sym (puts u) ∙ also);
 }
   where

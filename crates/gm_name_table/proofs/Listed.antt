@@ -17,21 +17,21 @@ begins_as old new pair (inr more) = (pair ∷ [], more)
 pub same_modules : (old new : List ModuleVersion) (numbers : List ℕ) → BeginsWith old new → AreModuleNumbers old numbers
     → modules_at new numbers ≡ modules_at old numbers
 same_modules old new numbers begins are =
-    ap (λ (modules : List ModuleVersion). modules_at modules numbers) begins.1 ∙ each numbers are
+    ap (λ modules. modules_at modules numbers) begins.1 ∙ each numbers are
   where
     each : (ns : List ℕ) → AreModuleNumbers old ns → modules_at (old ++ begins.0) ns ≡ modules_at old ns
     each [] below = refl
     each (n ∷ ns) below =
-        ap (λ (rest : List ModuleVersion). module_at (old ++ begins.0) n ∷ rest)
+        ap (module_at (old ++ begins.0) n ∷◌)
         (each ns (All-tail (λ number. number < length old) n ns below))
-        ∙ ap (λ (first : ModuleVersion). first ∷ modules_at old ns)
+        ∙ ap (◌∷ modules_at old ns)
         (get_or_append_left old begins.0 ([], []) n (All-head (λ number. number < length old) n ns below))
 
 -- They are numbers of the table still.
 pub still_numbers : (old new : List ModuleVersion) (numbers : List ℕ) → BeginsWith old new → AreModuleNumbers old numbers
     → AreModuleNumbers new numbers
 still_numbers old new numbers begins are =
-    subst (λ (modules : List ModuleVersion). AreModuleNumbers modules numbers) (sym begins.1)
+    subst (λ modules. AreModuleNumbers modules numbers) (sym begins.1)
     (All-weaker (λ number. number < length old) (λ number. number < length (old ++ begins.0))
     (λ number below. omega (arith, below, length-append old begins.0)) numbers are)
 
@@ -39,7 +39,7 @@ still_numbers old new numbers begins are =
 pub begins_after : {T : Type 0} (old mid new : List T) → BeginsWith old mid → BeginsWith mid new → BeginsWith old new
 begins_after old mid new one two = (
   one.0 ++ two.0,
-  two.1 ∙ ap (λ (list : List _). list ++ two.0) one.1 ∙ append_assoc old one.0 two.0,
+  two.1 ∙ ap (◌++ two.0) one.1 ∙ append_assoc old one.0 two.0,
 )
 
 -- What was put to the end of a list at two times was put there one after the other.
@@ -49,7 +49,7 @@ appends_after old mid new first more one two = record {
   numbered = begins_after old.modules mid.modules new.modules one.numbered two.numbered;
   kept = begins_after old.numbers mid.numbers new.numbers one.kept two.kept;
   listed = two.listed
-      ∙ ap (λ (list : List ModuleVersion). list ++ more) one.listed
+      ∙ ap (◌++ more) one.listed
       ∙ append_assoc (modules_of old) first more;
 }
 
@@ -59,15 +59,15 @@ pub pushed : {was old : NumberedList} (new : List ModuleVersion) (pair : ModuleV
     → slice_get new number ≡ Some pair → numbers ≡ was.numbers ++ number ∷ []
     → Appends old (record { modules = new; numbers = numbers }) (pair ∷ [])
 pushed {was} new pair numbers number is_old only are there more =
-    subst (λ (list : NumberedList). Appends list (record { modules = new; numbers = numbers }) (pair ∷ [])) is_old
+    subst (λ list. Appends list (record { modules = new; numbers = numbers }) (pair ∷ [])) is_old
     (record {
       numbered = begins_as was.modules new pair only;
       kept = (number ∷ [], more);
-      listed = ap (λ (ns : List ℕ). modules_at new ns) more
+      listed = ap (modules_at new) more
           ∙ map_push (module_at new) was.numbers number
-          ∙ ap (λ (last : ModuleVersion). modules_at new was.numbers ++ last ∷ [])
+          ∙ ap (λ last. modules_at new was.numbers ++ last ∷ [])
           (get_or_from_slice_get new number pair ([], []) there)
-          ∙ ap (λ (list : List ModuleVersion). list ++ pair ∷ [])
+          ∙ ap (λ list. list ++ pair ∷ [])
           (same_modules was.modules new was.numbers (begins_as was.modules new pair only) are);
     })
 
@@ -76,11 +76,11 @@ pub not_pushed : {was old : NumberedList} (new : List ModuleVersion) (pair : Mod
     → IsOneMoreAtMost was.modules new pair → AreModuleNumbers was.modules was.numbers → numbers ≡ was.numbers
     → Appends old (record { modules = new; numbers = numbers }) []
 not_pushed {was} new pair numbers is_old only are same =
-    subst (λ (list : NumberedList). Appends list (record { modules = new; numbers = numbers }) []) is_old
+    subst (λ list. Appends list (record { modules = new; numbers = numbers }) []) is_old
     (record {
       numbered = begins_as was.modules new pair only;
       kept = ([], same ∙ sym (append-nil was.numbers));
-      listed = ap (λ (ns : List ℕ). modules_at new ns) same
+      listed = ap (modules_at new) same
           ∙ same_modules was.modules new was.numbers (begins_as was.modules new pair only) are
           ∙ sym (append-nil (modules_of was));
     })
@@ -94,7 +94,7 @@ pushed_numbers modules pair numbers number there are =
 pub part_as : (modules table : List ModuleVersion) (numbers all : List ℕ) (start end : ℕ) → modules ≡ table → numbers ≡ all
     → modules_at modules (take (end - start) (drop start numbers)) ≡ part start end (modules_at table all)
 part_as modules table numbers all start end same_table same_numbers =
-    ap (λ (ms : List ModuleVersion). modules_at ms (take (end - start) (drop start numbers))) same_table
-    ∙ ap (λ (ns : List ℕ). modules_at table (take (end - start) (drop start ns))) same_numbers
+    ap (λ ms. modules_at ms (take (end - start) (drop start numbers))) same_table
+    ∙ ap (λ ns. modules_at table (take (end - start) (drop start ns))) same_numbers
     ∙ sym (take-map (module_at table) (end - start) (drop start all))
-    ∙ ap (λ (rest : List ModuleVersion). take (end - start) rest) (sym (drop-map (module_at table) start all))
+    ∙ ap (take (end - start)) (sym (drop-map (module_at table) start all))

@@ -1,24 +1,20 @@
 -- Lists of modules with one more.
-use Rattle.std.proofs.Common.{◌≡◌, ◌∙◌, ◌<◌, ◌||◌, ℕ, zero, suc, Bool, true, false, List, [], ◌∷◌, ◌++◌, Option, None, Some, length, ap, ap₂, arith, refl, sym, subst, inl, inr}
+use Rattle.std.proofs.Common.{◌≡◌, ◌∙◌, ◌<◌, ℕ, zero, suc, false, List, [], ◌∷◌, ◌++◌, Option, None, Some, length, ap, ap₂, arith, refl, sym, subst, inl, inr}
 use Rattle.std.specs.Prelude.{◌⊎◌, ◌↔◌, IfSome, slice_get}
 use Rattle.std.specs.List.{IsDistinct, list_any}
-use Rattle.std.proofs.lemmas.Bool.{false≢true}
+use Rattle.std.proofs.lemmas.Bool.{false_from_ne_true, false≢true}
+use Rattle.std.proofs.lemmas.List.Folds.{list_any_none}
 use Rattle.std.proofs.lemmas.Map.Keys.{IsDistinct-push, apart_from_distinct}
-use Rattle.std.proofs.lemmas.Option.{get_or_from_slice_get, slice_get_within}
+use Rattle.std.proofs.lemmas.Option.{get_or_from_slice_get, slice_get-get_or, slice_get_within}
 use Rattle.gm_name.specs.ModuleVersion.{ModuleVersion, pair_eq}
 use Rattle.gm_name.specs.Private.ModuleVersion.{pair_eq-Decides, pairs-equivalence}
 use Rattle.gm_name_table.specs.Private.Lists.{IsAbsent}
+use Rattle.gm_name_table.proofs.Buckets.{before}
 
--- What stands in a list with one more module: it at the end, and the others where they were.
-pub last : (pairs : List ModuleVersion) (pair : ModuleVersion) → slice_get (pairs ++ pair ∷ []) (length pairs) ≡ Some pair
-last [] pair = refl
-last (first ∷ pairs) pair = last pairs pair
-
+-- In a list with one more module, the others stand where they stood, and it stands at the end.
 pub kept : (pairs : List ModuleVersion) (pair other : ModuleVersion) (i : ℕ) → slice_get pairs i ≡ Some other
     → slice_get (pairs ++ pair ∷ []) i ≡ Some other
-kept [] pair other i e = absurd (cc e)
-kept (first ∷ pairs) pair other zero e = e
-kept (first ∷ pairs) pair other (suc i) e = kept pairs pair other i e
+kept pairs pair other i e = before pairs pair i (slice_get_within pairs i other e) ∙ e
 
 pub old-or-last : (pairs : List ModuleVersion) (pair other : ModuleVersion) (i : ℕ) → slice_get (pairs ++ pair ∷ []) i ≡ Some other
     → (slice_get pairs i ≡ Some other) ⊎ ((i ≡ length pairs) × (pair ≡ other))
@@ -30,14 +26,8 @@ old-or-last (first ∷ pairs) pair other (suc i) e =
 
 -- No module of a list is equal to one that stands nowhere in it.
 none-equal : (pairs : List ModuleVersion) (pair : ModuleVersion) → IsAbsent pairs pair → list_any (pair_eq pair) pairs ≡ false
-none-equal [] pair absent = refl
-none-equal (first ∷ pairs) pair absent =
-    by-test (pair_eq pair first) refl (none-equal pairs pair (λ i there. absent (suc i) there))
-  where
-    by-test : (b : Bool) → pair_eq pair first ≡ b → list_any (pair_eq pair) pairs ≡ false
-        → (pair_eq pair first || list_any (pair_eq pair) pairs) ≡ false
-    by-test true e none = absurd (absent 0 (ap (λ (p : ModuleVersion). Some p) (sym ((pair_eq-Decides pair first).0 e))))
-    by-test false e none = ap (λ (b : Bool). b || list_any (pair_eq pair) pairs) e ∙ none
+none-equal pairs pair absent = list_any_none (pair_eq pair) pairs (λ i other within. false_from_ne_true _ (λ equal.
+    absent i (slice_get-get_or pairs i other within ∙ ap Some (sym ((pair_eq-Decides _ _).0 equal)))))
 
 pub no_pairs : IsDistinct pair_eq []
 unfolding IsDistinct

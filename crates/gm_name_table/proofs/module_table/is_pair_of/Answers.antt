@@ -1,4 +1,4 @@
-use Rattle.std.proofs.Common.{◌≡◌, ◌∙◌, List, ℕ, refl, subst, sym}
+use Rattle.std.proofs.Common.{◌≡◌, ◌∙◌, refl, subst, sym}
 use Rattle.std.proofs.lemmas.Slice.Eq.{bytes_eq-Decides}
 use Rattle.gm_name.specs.Fit.{Fits}
 use Rattle.gm_name.specs.Path.{IsPath}
@@ -14,10 +14,10 @@ returns-then-eq c = λ both.
     let same_version : pair.1 ≡ version =
     sym c.version.ensures ∙ sym c.as_str-then-eq.ensures.text
     ∙ (bytes_eq-Decides _ _).0 (sym c.eq-then-eq.ensures ∙ both) in (
-      subst (λ (p : List ℕ). pair ≡ (p, version)) same_path
-          (subst (λ (v : List ℕ). pair ≡ (pair.0, v)) same_version refl),
-      subst (λ (p : List ℕ). IsPath p) same_path (rw c.path.ensures.path at c.as_str.ensures.path),
-      subst (λ (v : List ℕ). IsVersion v) same_version (rw c.version.ensures at c.as_str-then-eq.ensures.version),
-      subst (λ (p : List ℕ). Fits p version) same_path
-          (subst (λ (v : List ℕ). Fits pair.0 v) same_version c.path.ensures.fit),
+      subst (λ p. pair ≡ (p, version)) same_path
+          (subst (λ v. pair ≡ (pair.0, v)) same_version refl),
+      subst IsPath same_path (rw c.path.ensures.path at c.as_str.ensures.path),
+      subst IsVersion same_version (rw c.version.ensures at c.as_str-then-eq.ensures.version),
+      subst (λ p. Fits p version) same_path
+          (subst (Fits pair.0) same_version c.path.ensures.fit),
     )

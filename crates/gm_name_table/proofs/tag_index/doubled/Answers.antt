@@ -1,4 +1,4 @@
-use Rattle.std.proofs.Common.{◌≡◌, ◌∙◌, ◌/◌, ◌*◌, ◌∷◌, [], ℕ, List, Some, ap, arith, get_or, length, length-append, subst, sym}
+use Rattle.std.proofs.Common.{◌≡◌, ◌∙◌, ◌/◌, ◌*◌, ◌∷◌, [], List, Some, ap, arith, get_or, length, length-append, subst, sym}
 use Rattle.std.proofs.lemmas.Option.{slice_get-get_or}
 use Rattle.std.specs.Prelude.{slice_get}
 use Rattle.gm_name_table.specs.Buckets.{bucket_of}
@@ -19,9 +19,9 @@ loop-bucket-preserved c =
     record {
       many = omega (arith, ap length grown, length-append c.loop-bucket.doubled.items (c.part.result ∷ []), many);
       parts =
-          subst (λ (parts : List Bucket). AreParts place_in_bucket bucket_of buckets (length buckets * 2) parts) (sym {A = List Bucket} grown)
+          subst (AreParts place_in_bucket bucket_of buckets (length buckets * 2)) (sym {A = List Bucket} grown)
           (one_more_part place_in_bucket bucket_of buckets (length buckets * 2) c.loop-bucket.doubled.items whole c.part.result
-          c.loop-bucket.invariant.parts (ap (λ (n : ℕ). slice_get buckets (n / 2)) many ∙ there)
+          c.loop-bucket.invariant.parts (ap (λ n. slice_get buckets (n / 2)) many ∙ there)
           (λ number chosen. c.part.ensures number (chosen ∙ many)));
     }
 

@@ -1,4 +1,4 @@
-use Rattle.std.proofs.Common.{◌∙◌, ℕ, subst, sym}
+use Rattle.std.proofs.Common.{◌∙◌, subst, sym}
 use Rattle.std.proofs.lemmas.List.{length-set}
 use Rattle.gm_name_table.specs.Private.Tags.{ArePlacesBelow}
 use Rattle.gm_name_table.proofs.KeptPlaces.{put_again}
@@ -13,5 +13,5 @@ pub invariant_of-self : goal.invariant_of-self
 invariant_of-self g c =
     let old = c.args.self.now in
     record {
-      placed = subst (λ (many : ℕ). ArePlacesBelow old.places many) (sym (length-set old.names.items c.in-Some.place c.args.name)) old.placed;
+      placed = subst (ArePlacesBelow old.places) (sym (length-set old.names.items c.in-Some.place c.args.name)) old.placed;
     }

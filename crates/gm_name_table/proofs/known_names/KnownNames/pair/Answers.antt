@@ -1,4 +1,4 @@
-use Rattle.std.proofs.Common.{List, ℕ, subst}
+use Rattle.std.proofs.Common.{subst}
 use Rattle.std.proofs.lemmas.Result.{err_from_is_err_and}
 use Rattle.gm_name_table.proofs.Pairs.{of-path, of-version}
 use Rattle.gm_name.specs.Fit.{Fits}
@@ -18,8 +18,8 @@ pub returns-in_default-clause-read : goal.returns-in_default-clause-read
 returns-in_default-clause-read c = (
   c.in_ok-path.ensures.read.1,
   c.in_ok-version.ensures.read.1,
-  subst (λ (v : List ℕ). Fits c.args.path.now v → ⊥) c.in_ok-version.ensures.read.0
-      (subst (λ (p : List ℕ). Fits p c.in_ok-version.version → ⊥) c.in_ok-path.ensures.read.0 c.in_default.ensures.none),
+  subst (λ v. Fits c.args.path.now v → ⊥) c.in_ok-version.ensures.read.0
+      (subst (λ p. Fits p c.in_ok-version.version → ⊥) c.in_ok-path.ensures.read.0 c.in_default.ensures.none),
 )
 
 pub returns-clause-read : goal.returns-clause-read
@@ -27,6 +27,6 @@ returns-clause-read c = (
   cc (c.in-Some.ensures.some.0, c.in_ok-path.ensures.read.0, c.in_ok-version.ensures.read.0),
   c.in_ok-path.ensures.read.1,
   c.in_ok-version.ensures.read.1,
-  subst (λ (v : List ℕ). Fits c.args.path.now v) c.in_ok-version.ensures.read.0
-      (subst (λ (p : List ℕ). Fits p c.in_ok-version.version) c.in_ok-path.ensures.read.0 c.in-Some.ensures.some.1),
+  subst (Fits c.args.path.now) c.in_ok-version.ensures.read.0
+      (subst (λ p. Fits p c.in_ok-version.version) c.in_ok-path.ensures.read.0 c.in-Some.ensures.some.1),
 )

@@ -1,5 +1,5 @@
 use Rattle.std.proofs.Common.{◌∙◌, ap}
-use Rattle.gm_name_table.specs.Listed.{NumberedList, modules_of, part}
+use Rattle.gm_name_table.specs.Listed.{modules_of, part}
 use Rattle.gm_name_table.proofs.Listed.{part_as}
 use Rattle.gm_name_table.proofs.module_list.ModuleList.part.Goals as goal
 
@@ -10,4 +10,4 @@ returns c =
     let end = c.args.end in
     part_as c.modules.result.now inside.table c.deref.result.now inside.numbers.items start end
     c.modules.ensures c.deref.ensures.value
-    ∙ ap (λ (list : NumberedList). part start end (modules_of list)) c.self.view_is
+    ∙ ap (λ list. part start end (modules_of list)) c.self.view_is

@@ -1,4 +1,4 @@
-use Rattle.std.proofs.Common.{ℕ, List, rules, subst, sym}
+use Rattle.std.proofs.Common.{rules, subst, sym}
 use Rattle.gm_name_table.specs.Listed.{AreModuleNumbers}
 use Rattle.gm_name_table.proofs.Listed.{begins_as, not_pushed, pushed, pushed_numbers, still_numbers}
 use Rattle.gm_name_table.proofs.module_list.ModuleList.push.Goals as goal
@@ -13,7 +13,7 @@ pub invariant_of-self-2 : goal.invariant_of-self-2
 invariant_of-self-2 c =
     let inside = c.self.inside in
     let table = c.number.new.self in
-    subst (λ (numbers : List ℕ). AreModuleNumbers table numbers) (sym c.in_ok-push.ensures.items)
+    subst (AreModuleNumbers table) (sym c.in_ok-push.ensures.items)
     (pushed_numbers table c.args.pair.now inside.numbers.items c.in_ok-number.number c.in_ok-number.ensures.number
     (still_numbers inside.table table inside.numbers.items
     (begins_as inside.table table c.args.pair.now c.number.ensures.only) c.self.invariant))
