@@ -1,7 +1,7 @@
 //! The scanner: decides what the rest of a line begins with, which is a blank, a word, a comment, the end of
 //! the line or a fault.
 
-ghost use Rattle.std.specs.Prelude.{◌≡◌, ◌⊎◌, ◌&&◌, [], ◌∷◌, ℕ, List, IsTrue, not, slice_index, ◌+◌, ◌<◌, ◌≤◌, length, drop, take, IfOk};
+ghost use Rattle.std.specs.Prelude.{◌≡◌, ◌⊎◌, ◌↔◌, ◌&&◌, [], ◌∷◌, ℕ, List, IsTrue, not, slice_index, ◌+◌, ◌<◌, ◌≤◌, length, drop, take, IfOk};
 ghost use Rattle.gm_syntax_words.specs.Bytes.{is_blank, is_bracket_or_comma, is_quote, is_bad, is_word_byte, is_plain};
 ghost use Rattle.gm_syntax_words.specs.Private.Scan.{quoted_len, raw_len, piece_of, trim_end, plain_len};
 ghost use Rattle.gm_syntax_words.specs.Bare.{opens_comment, bare_len, can_be_bare};
@@ -199,7 +199,7 @@ fn raw_len(bytes: &[u8]) -> Result<usize, SyntaxKind>
 
 /// Whether the text begins with an opening parenthesis.
 pub fn begins_opening(bytes: &[u8]) -> bool
-    ensures { IsTrue result → (more : List ℕ) × (bytes.now ≡ 40 ∷ more) }
+    ensures { IsTrue result ↔ ((more : List ℕ) × (bytes.now ≡ 40 ∷ more)) }
 {
     match bytes {
         [b'(', ..] => true,
@@ -209,7 +209,7 @@ pub fn begins_opening(bytes: &[u8]) -> bool
 
 /// Whether the text begins with a blank.
 pub fn begins_blank(bytes: &[u8]) -> bool
-    ensures { IsTrue result → (b : ℕ) × (more : List ℕ) × (bytes.now ≡ b ∷ more) × IsTrue (is_blank b) }
+    ensures { IsTrue result ↔ ((b : ℕ) × (more : List ℕ) × (bytes.now ≡ b ∷ more) × IsTrue (is_blank b)) }
 {
     match bytes {
         [b, ..] => is_blank(*b),
@@ -219,7 +219,7 @@ pub fn begins_blank(bytes: &[u8]) -> bool
 
 /// Whether the text begins with a plain byte, and so with a bare word.
 pub fn begins_plain(bytes: &[u8]) -> bool
-    ensures { IsTrue result → (b : ℕ) × (more : List ℕ) × (bytes.now ≡ b ∷ more) × IsTrue (is_plain b) }
+    ensures { IsTrue result ↔ ((b : ℕ) × (more : List ℕ) × (bytes.now ≡ b ∷ more) × IsTrue (is_plain b)) }
 {
     match bytes {
         [b, ..] => is_plain(*b),
@@ -229,7 +229,7 @@ pub fn begins_plain(bytes: &[u8]) -> bool
 
 /// Whether the text is empty or begins with a comment.
 pub fn ends_line(bytes: &[u8]) -> bool
-    ensures { IsTrue result → (bytes.now ≡ []) ⊎ ((more : List ℕ) × (bytes.now ≡ 47 ∷ 47 ∷ more)) }
+    ensures { IsTrue result ↔ (bytes.now ≡ []) ⊎ ((more : List ℕ) × (bytes.now ≡ 47 ∷ 47 ∷ more)) }
 {
     match bytes {
         [] => true,

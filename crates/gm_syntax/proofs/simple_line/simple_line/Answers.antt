@@ -34,7 +34,7 @@ returns-then-ends_line c =
     sofar_word line (bare_word first ∷ []) c.in-Some.after_first.now second c.in-Some-split_word.after_second.now
     one c.in-Some-split_word.ensures.word c.in-Some-split_word.ensures.parts in
     sofar_end line (bare_word first ∷ bare_word second ∷ []) c.in-Some-split_word.after_second.now two
-    (rw c.as_bytes.ensures.value at c.ends_line.ensures c.if-ends_line.true)
+    (rw c.as_bytes.ensures.value at c.ends_line.ensures.0 c.if-ends_line.true)
 
 pub returns : goal.returns
 returns c =
@@ -55,4 +55,4 @@ returns c =
     sofar_word line twos c.in-Some-split_word.after_second.now third c.in_ok-third.after_third.now two
     c.in_ok-third.ensures.word c.in_ok-third.ensures.parts in
     let same : first ≡ c.args.verb.now = (bytes_eq-Decides first c.args.verb.now).0 (not-false _ (sym c.ne-2.ensures ∙ c.if-ne-2.false)) in
-    rw (← same) (sofar_end line words c.in_ok-third.after_third.now three (rw c.as_bytes-2.ensures.value at c.ends_line-2.ensures c.if-not-ends_line.false))
+    rw (← same) (sofar_end line words c.in_ok-third.after_third.now three (rw c.as_bytes-2.ensures.value at c.ends_line-2.ensures.0 c.if-not-ends_line.false))
