@@ -81,7 +81,7 @@ pub enum SyntaxFault {
     /// Memory ran out.
     #[error("out of memory")]
     NoMemory,
-    /// There are more than 16,777,216 bytes (`MAX_BYTES`).
+    /// There are more than 16,777,216 bytes.
     #[error("more than 16,777,216 bytes")]
     TooMany,
     /// The bytes are not UTF-8.

@@ -18,8 +18,8 @@ use std::marker::Model;
 /// The spelling of a word.
 #[derive(Drop)]
 pub(crate) enum Text<'a> {
-    /// A slice of the source, and the byte offset there of its first byte. It fits 32 bits because of
-    /// `MAX_BYTES`.
+    /// A slice of the source, and the byte offset there of its first byte. It fits 32 bits, as
+    /// `read_line` requires.
     Source(&'a str, u32),
     /// A text made by an edit.
     Own(String),
