@@ -5,7 +5,7 @@ use Rattle.std.specs.Prelude.{⊤, nat_lt}
 use Rattle.std.proofs.lemmas.Bool.{lt-ltb, le-ltb}
 use Rattle.std.proofs.lemmas.List.{append-nil}
 use Rattle.gm_syntax_words.specs.Words.{Word}
-use Rattle.gm_syntax.specs.Document.{Line, Blank, Comment, Open, Close, Entry, inside_after, inside_after_all, IsValidLine, IsDocument, start}
+use Rattle.gm_syntax.specs.Document.{Line, Open, Close, inside_after, inside_after_all, IsValidLine, IsDocument, start}
 use Rattle.gm_syntax.specs.Documents.{openings, closings, is_open_after, AreInTurn, AreValidInPlace}
 use Rattle.gm_syntax.proofs.Stable.{Fits, line_fits}
 use Rattle.gm_syntax.proofs.Changes.{AreValidFrom, lines_stand, standing_lines, stand_parts, stand_together}
@@ -34,15 +34,13 @@ as_number b = cond b 1 0
 counts_from : (inside : Bool) (lines : List (Line Word)) → FitFrom inside lines
     → openings lines + as_number inside ≡ closings lines + as_number (inside_after_all inside lines)
 counts_from inside [] f = refl
-counts_from inside (Blank ∷ ls) f = counts_from inside ls f.1
-counts_from inside (Comment text ∷ ls) f = counts_from inside ls f.1
 counts_from inside (Open verb suffix ∷ ls) f =
     let before : as_number inside ≡ 0 = rw f.0 refl in
     omega (arith, before, counts_from true ls f.1)
 counts_from inside (Close suffix ∷ ls) f =
     let before : as_number inside ≡ 1 = rw f.0 refl in
     omega (arith, before, counts_from false ls f.1)
-counts_from inside (Entry words suffix ∷ ls) f = counts_from inside ls f.1
+counts_from inside (line ∷ ls) f = counts_from inside ls f.1
 
 by_counts : (b : Bool) (opened closed : ℕ) → opened + 0 ≡ closed + as_number b → nat_lt closed opened ≡ b
 by_counts true opened closed e = lt-ltb closed opened (omega (arith, e))

@@ -39,11 +39,9 @@ inside_after_all-append b [] ys = refl
 inside_after_all-append b (x ∷ xs) ys = inside_after_all-append (inside_after b x) xs ys
 
 pub inside_after-level : (b : Bool) (line : Line Word) → is_level line ≡ true → inside_after b line ≡ b
-inside_after-level b Blank e = refl
-inside_after-level b (Comment text) e = refl
 inside_after-level b (Open verb suffix) e = cc
 inside_after-level b (Close suffix) e = cc
-inside_after-level b (Entry words suffix) e = refl
+inside_after-level b line e = refl
 
 pub inside_after_all-level : (b : Bool) (lines : List (Line Word)) → list_all is_level lines ≡ true → inside_after_all b lines ≡ b
 inside_after_all-level b [] e = refl
@@ -125,10 +123,8 @@ level_tests : (inside : Bool) (words : List Word) (suffix : Option (List ℕ)) (
 level_tests inside words suffix l e k = (rw e at (class_is inside words suffix)).2 k
 
 opens_ends : (words : List Word) → opens_block words ≡ true → ends_open words ≡ true
-opens_ends [] e = cc
-opens_ends (v ∷ []) e = cc
 opens_ends (v ∷ w ∷ []) e = (and_both (is_bare v.kind) (is_mark 40 w) e).1
-opens_ends (v ∷ w ∷ x ∷ words) e = cc
+opens_ends words e = cc
 
 class_anywhere : (inside : Bool) (words : List Word) (suffix : Option (List ℕ)) → 0 < length words
     → ends_open words ≡ false → begins_close words ≡ false → class_of inside words suffix ≡ Ok (Entry words suffix)

@@ -8,7 +8,8 @@ use Rattle.gm_syntax_words.specs.declared.word.Span.{Span}
 use Rattle.gm_syntax_words.specs.Lines.{lines_of, HasNoLineFeed}
 use Rattle.gm_syntax_words.specs.Tokens.{Placed, AreNumbered}
 use Rattle.gm_syntax_words.specs.LineText.{IsNextWord, FillText}
-use Rattle.gm_syntax.specs.Document.{Line, Blank, Comment, Open, Close, Entry}
+use Rattle.gm_syntax_words.proofs.Members.{all_together}
+use Rattle.gm_syntax.specs.Document.{Line, Open, Entry}
 use Rattle.gm_syntax.specs.LineViews.{tokens_of, all_tokens, AreLinesNumbered}
 use Rattle.gm_syntax.specs.Placing.{FillsLine, FillLines, line_feeds, IsLineCounted, AreLinesCounted}
 use Rattle.gm_syntax.proofs.Lines.{IsAfterLine, first_line, lines_nil}
@@ -79,21 +80,9 @@ words_counted source from number text (t ∷ ts) comment s f h =
 
 line_counted : (source : List ℕ) (from number : ℕ) (text : List ℕ) (l : Line Placed) → Stands source from number text
     → FillsLine from text l → AreNumbered number (tokens_of l) → AllByRecursion (IsLineCounted source) (tokens_of l)
-line_counted source from number text Blank s f h = tt
-line_counted source from number text (Comment c) s f h = tt
 line_counted source from number text (Open verb suffix) s f h = (word_counted s f.2.2 h.0, tt)
-line_counted source from number text (Close suffix) s f h = tt
 line_counted source from number text (Entry words suffix) s f h = words_counted source from number text words suffix s f h
-
-pub all_join : (source : List ℕ) (ts us : List Placed) → AllByRecursion (IsLineCounted source) ts
-    → AllByRecursion (IsLineCounted source) us → AllByRecursion (IsLineCounted source) (ts ++ us)
-all_join source [] us h g = g
-all_join source (t ∷ ts) us h g = (h.0, all_join source ts us h.1 g)
-
-pub all_split : (source : List ℕ) (ts us : List Placed) → AllByRecursion (IsLineCounted source) (ts ++ us)
-    → AllByRecursion (IsLineCounted source) ts × AllByRecursion (IsLineCounted source) us
-all_split source [] us h = (tt, h)
-all_split source (t ∷ ts) us h = let r = all_split source ts us h.1 in ((h.0, r.0), r.1)
+line_counted source from number text l s f h = tt
 
 -- the words of the lines after the first one
 after_first : (source front first after : List ℕ) (number : ℕ) (ls : List (Line Placed)) → HasNoLineFeed first
@@ -133,7 +122,7 @@ lines_counted source front (b ∷ bytes) number (l ∷ ls) parts count f h =
       count = count;
       plain = first.no_line_feed;
     } in
-    all_join source (tokens_of l) (all_tokens ls) (line_counted source (length front) number first.line l s g.0 h.0)
+    all_together (IsLineCounted source) (tokens_of l) (all_tokens ls) (line_counted source (length front) number first.line l s g.0 h.0)
     (after_first source front first.line first.after number ls first.no_line_feed first.ended s.parts count g.1
     (λ past rest whole feeds k. lines_counted source past rest (number + 1) ls whole feeds k h.1))
 

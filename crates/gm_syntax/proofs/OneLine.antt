@@ -8,20 +8,17 @@ use Rattle.gm_syntax_words.specs.Spelling.{Fault, Reads, IsSpelledBy, ending_of}
 use Rattle.gm_syntax_words.specs.ReadLine.{IsOnlyReading, IsReadAs}
 use Rattle.gm_syntax.specs.Document.{Line, HasLineFault, class_of}
 use Rattle.gm_syntax.specs.Private.Reader.{IsOnlyLine, IsLineReadAs}
+use Rattle.gm_syntax.proofs.Stable.{line_err}
 
 -- an ending that is no fault says which comment it has
 pub one_comment : (c d : Option (List ℕ)) → ending_of c ≡ ending_of d → c ≡ d
 one_comment None None e = refl
-one_comment None (Some text) e = cc
-one_comment (Some text) None e = cc
 one_comment (Some text) (Some other) e = cc
+one_comment c d e = cc
 
 fault_no_ending : (c : Option (List ℕ)) (kind : SyntaxKind) → Fault kind ≡ ending_of c → ⊥
 fault_no_ending None kind e = cc
 fault_no_ending (Some text) kind e = cc
-
-abbrev refused : SyntaxKind → Result (Line Word) SyntaxKind
-refused kind = Err kind
 
 module _ (inside : Bool) (text : List ℕ) (words : List Word) where
   -- words and perhaps a comment: the line is of their class
@@ -44,7 +41,7 @@ module _ (inside : Bool) (text : List ℕ) (words : List Word) where
       only_fault = fault;
     }
       where
-        fault : (kind : SyntaxKind) → HasLineFault inside text kind → Ok line ≡ refused kind
+        fault : (kind : SyntaxKind) → HasLineFault inside text kind → Ok line ≡ line_err kind
         fault kind (inl has) = absurd (no_lexical kind has.0 has.1)
         fault kind (inr has) = sym (class_is (Ok line) is has.0 has.1 has.2) ∙ has.3
 
@@ -55,7 +52,7 @@ module _ (inside : Bool) (text : List ℕ) (words : List Word) where
       only_fault = fault;
     }
       where
-        fault : (other : SyntaxKind) → HasLineFault inside text other → refused kind ≡ refused other
+        fault : (other : SyntaxKind) → HasLineFault inside text other → line_err kind ≡ line_err other
         fault other (inl has) = absurd (no_lexical other has.0 has.1)
         fault other (inr has) = sym (class_is (Err kind) is has.0 has.1 has.2) ∙ has.3
 
@@ -72,8 +69,8 @@ module _ (inside : Bool) (text : List ℕ) (words : List Word) where
           let e = (so.only others (Fault other) reads).1 in
           cc
 
-      fault : (other : SyntaxKind) → HasLineFault inside text other → refused kind ≡ refused other
-      fault other (inl has) = ap refused (same has.0 other has.1)
+      fault : (other : SyntaxKind) → HasLineFault inside text other → line_err kind ≡ line_err other
+      fault other (inl has) = ap line_err (same has.0 other has.1)
       fault other (inr has) = absurd (fault_no_ending has.1 kind (sym (so.only has.0 (ending_of has.1) has.2).1))
 
 -- what is wrong with a line is its only fault; nothing is said if memory runs out

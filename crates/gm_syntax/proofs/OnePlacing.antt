@@ -18,7 +18,7 @@ use Rattle.gm_syntax.specs.LineViews.{plain, plain_lines, tokens_of, all_tokens}
 use Rattle.gm_syntax.specs.Parsed.{IsParsedAs}
 use Rattle.gm_syntax.specs.Placing.{FillsLine, FillLines, IsLineCounted, IsPlacedIn}
 use Rattle.gm_syntax.proofs.Stable.{from_words}
-use Rattle.gm_syntax.proofs.Counting.{all_split}
+use Rattle.gm_syntax_words.proofs.Members.{all_parts}
 
 -- ---- the blanks before a word
 
@@ -53,9 +53,6 @@ same_blanks b (x ∷ xs) (y ∷ ys) us vs solid p q e =
 
 same_span : (s r : Span) → s.first ≡ r.first → s.after ≡ r.after → s ≡ r
 same_span s r e f = rw (e, f) refl
-  where
-    span_at : ℕ → ℕ → Span
-    span_at n m = record { first = n; after = m }
 
 -- ---- one word
 
@@ -73,9 +70,6 @@ module _ (from : ℕ) (text : List ℕ) (t u : Placed) (s r : Span) (rest other 
 
 same_placed : (t u : Placed) → t.word ≡ u.word → t.line ≡ u.line → t.span ≡ u.span → t ≡ u
 same_placed t u e f g = rw (e, f, g) refl
-  where
-    placed_at : Word → ℕ → Option Span → Placed
-    placed_at w n s = record { word = w; line = n; span = s }
 
 same_some : (s r : Span) → Some s ≡ Some r → s ≡ r
 same_some s r e = cc
@@ -110,52 +104,31 @@ reads_shaped before text [] e r = tt
 reads_shaped before text (w ∷ words) e (rest, b, others) = (b.shape, reads_shaped (Some w) rest words e others)
 
 line_shaped : (inside : Bool) (text : List ℕ) (l : Line Placed) → IsLineAt inside text (plain l) → AllByRecursion IsShaped (words_of (tokens_of l))
-line_shaped inside text Blank h = tt
-line_shaped inside text (Comment c) h = tt
 line_shaped inside text (Open verb suffix) h =
     let w = from_words inside h.words h.comment (Open verb.word suffix) h.classed in
     ((subst (AllByRecursion IsShaped) w.0 (reads_shaped None text h.words (ending_of h.comment) h.spelled)).0, tt)
-line_shaped inside text (Close suffix) h = tt
 line_shaped inside text (Entry words suffix) h =
     let w = from_words inside h.words h.comment (Entry (words_of words) suffix) h.classed in
     rw (← w.0) (reads_shaped None text h.words (ending_of h.comment) h.spelled)
+line_shaped inside text l h = tt
 
 module _ (source : List ℕ) (from : ℕ) (text : List ℕ) where
   line_same : (l m : Line Placed) → AllByRecursion IsShaped (words_of (tokens_of l)) → plain l ≡ plain m → FillsLine from text l → FillsLine from text m
       → AllByRecursion (IsLineCounted source) (tokens_of l) → AllByRecursion (IsLineCounted source) (tokens_of m) → l ≡ m
   line_same Blank Blank shaped e f g p q = refl
-  line_same Blank (Comment d) shaped e f g p q = cc
-  line_same Blank (Open u d) shaped e f g p q = cc
-  line_same Blank (Close d) shaped e f g p q = cc
-  line_same Blank (Entry us d) shaped e f g p q = cc
-  line_same (Comment c) Blank shaped e f g p q = cc
   line_same (Comment c) (Comment d) shaped e f g p q = cc
-  line_same (Comment c) (Open u d) shaped e f g p q = cc
-  line_same (Comment c) (Close d) shaped e f g p q = cc
-  line_same (Comment c) (Entry us d) shaped e f g p q = cc
-  line_same (Open t c) Blank shaped e f g p q = cc
-  line_same (Open t c) (Comment d) shaped e f g p q = cc
   line_same (Open t c) (Open u d) shaped e f g p q =
       let word : t.word ≡ u.word = cc in
       let suffix : c ≡ d = cc in
       let o = one_next from text t u f.2.0 g.2.0 f.2.1 g.2.1 shaped.0 word f.2.2 g.2.2 in
       let here = one_word source t u f.2.0 g.2.0 word f.2.2.placed g.2.2.placed o.0 p.0 q.0 in
       ap (λ x. Open x c) here ∙ ap (λ x. Open u x) suffix
-  line_same (Open t c) (Close d) shaped e f g p q = cc
-  line_same (Open t c) (Entry us d) shaped e f g p q = cc
-  line_same (Close c) Blank shaped e f g p q = cc
-  line_same (Close c) (Comment d) shaped e f g p q = cc
-  line_same (Close c) (Open u d) shaped e f g p q = cc
   line_same (Close c) (Close d) shaped e f g p q = let suffix : c ≡ d = cc in ap (λ x. Close x) suffix
-  line_same (Close c) (Entry us d) shaped e f g p q = cc
-  line_same (Entry ts c) Blank shaped e f g p q = cc
-  line_same (Entry ts c) (Comment d) shaped e f g p q = cc
-  line_same (Entry ts c) (Open u d) shaped e f g p q = cc
-  line_same (Entry ts c) (Close d) shaped e f g p q = cc
   line_same (Entry ts c) (Entry us d) shaped e f g p q =
       let words : words_of ts ≡ words_of us = cc in
       let suffix : c ≡ d = cc in
       ap (λ x. Entry x c) (words_same source from text ts us c d shaped words f g p q) ∙ ap (λ x. Entry us x) suffix
+  line_same l m shaped e f g p q = cc
 
 -- ---- the lines of a document
 
@@ -170,8 +143,8 @@ lines_same source at from [] (l ∷ ls) (m ∷ ms) f r e a b p q = absurd a
 lines_same source at from (text ∷ texts) (l ∷ ls) (m ∷ ms) f r e a b p q =
     let first : plain l ≡ plain m = cc in
     let others : plain_lines ls ≡ plain_lines ms = cc in
-    let ps = all_split source (tokens_of l) (all_tokens ls) p in
-    let qs = all_split source (tokens_of m) (all_tokens ms) q in
+    let ps = all_parts (IsLineCounted source) (tokens_of l) (all_tokens ls) p in
+    let qs = all_parts (IsLineCounted source) (tokens_of m) (all_tokens ms) q in
     let here = line_same source from text l m (line_shaped at.inside text l r.0) first a.0 b.0 ps.0 qs.0 in
     let there = lines_same source (after at (plain l)) (from + length text + 1) texts ls ms f r.1 others a.1 b.1 ps.1 qs.1 in
     ap (λ x. x ∷ ls) here ∙ ap (λ xs. m ∷ xs) there

@@ -15,18 +15,12 @@ use Rattle.gm_syntax.specs.LineViews.{plain_lines}
 use Rattle.gm_syntax.specs.Parsed.{IsParsedAs}
 use Rattle.gm_syntax.specs.Reader.{IsOnlyText}
 use Rattle.gm_syntax.specs.Documents.{is_open_after, HaveNoFault, IsNeverClosed, IsReading, IsReadingResult}
-use Rattle.gm_syntax.proofs.Stable.{line_ok, line_err, same_ok, not_ok, class_is}
+use Rattle.gm_syntax.proofs.Stable.{same_ok, same_err, not_ok, class_is}
 use Rattle.gm_syntax.proofs.OneReading.{one_spelling, one_fault, never_both, spelled_or_faulty}
 use Rattle.gm_syntax.proofs.TextPieces.{pieces_lines}
 use Rattle.gm_syntax.proofs.Readings.{reading_of, reads_as, some_same}
 
 -- ---- one piece
-
-err_not_ok : (k : SyntaxKind) (l : Line Word) → line_ok l ≡ line_err k → ⊥
-err_not_ok k l e = cc
-
-same_err : (k j : SyntaxKind) → line_err k ≡ line_err j → k ≡ j
-same_err k j e = cc
 
 class_same : (inside : Bool) (text : List ℕ) (words others : List Word) (comment other : Option (List ℕ))
     → IsSpelledBy text words comment → IsSpelledBy text others other
@@ -165,16 +159,12 @@ only_text text lines f r =
 pub parsed_reading : (bytes : List ℕ) (answer : Result (List (Line Placed)) SyntaxFault) → IsParsedAs bytes answer
     → IsReadingResult bytes answer
 parsed_reading bytes (Ok doc) h = (h.0, reading_of bytes (plain_lines doc) Whole h.1.reads)
-parsed_reading bytes (Err faults.NoMemory) h = h
-parsed_reading bytes (Err faults.TooMany) h = h
-parsed_reading bytes (Err faults.NotUtf8) h = h
 parsed_reading bytes (Err (faults.Syntax number kind)) h =
     (h.0, h.1, reading_of bytes h.1 (Faulty number kind) h.2.reads)
+parsed_reading bytes answer h = h
 
 pub reading_parsed : (bytes : List ℕ) (answer : Result (List (Line Placed)) SyntaxFault)
     → IsReadingResult bytes answer → IsParsedAs bytes answer
 reading_parsed bytes (Ok doc) h = (h.0, only_text bytes (plain_lines doc) Whole h.1)
-reading_parsed bytes (Err faults.NoMemory) h = h
-reading_parsed bytes (Err faults.TooMany) h = h
-reading_parsed bytes (Err faults.NotUtf8) h = h
 reading_parsed bytes (Err (faults.Syntax number kind)) h = (h.0, h.1, only_text bytes h.1 (Faulty number kind) h.2)
+reading_parsed bytes answer h = h

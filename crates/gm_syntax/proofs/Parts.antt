@@ -3,7 +3,7 @@ use Rattle.std.proofs.Common.{◌≡◌, ℕ, Bool, true, false, List, [], ◌�
 use Rattle.std.specs.List.{AllByRecursion, flat_map}
 use Rattle.std.proofs.lemmas.Bool.{true≢false}
 use Rattle.gm_syntax_words.specs.Words.{Word}
-use Rattle.gm_syntax.specs.Document.{Line, Blank, Comment, Open, Close, Entry, inside_after_all, IsValidLine, IsDocument, start}
+use Rattle.gm_syntax.specs.Document.{Line, Open, Close, inside_after_all, IsValidLine, IsDocument, start}
 use Rattle.gm_syntax.specs.Documents.{Part, Single, Block, part_lines, IsLooseLine, IsPart, ConsistOfParts}
 use Rattle.gm_syntax.proofs.Changes.{AreValidFrom, lines_stand, standing_lines, stand_together, inside_after_all-append, inside_after-level, open_outside}
 use Rattle.gm_syntax.proofs.Stable.{line_fits}
@@ -94,15 +94,12 @@ parts_from : (inside : Bool) (lines : List (Line Word)) → AreValidFrom inside 
     → inside_after_all inside lines ≡ false → PartsFrom inside lines
 parts_from false [] v e = record { parts = []; are_parts = tt; all_lines = refl }
 parts_from true [] v e = absurd (true≢false e)
-parts_from inside (Blank ∷ ls) v e = loose_from inside Blank ls (refl, v.0) (parts_from inside ls v.1 e)
-parts_from inside (Comment text ∷ ls) v e = loose_from inside (Comment text) ls (refl, v.0) (parts_from inside ls v.1 e)
-parts_from inside (Entry words suffix ∷ ls) v e =
-    loose_from inside (Entry words suffix) ls (refl, v.0) (parts_from inside ls v.1 e)
 parts_from false (Open verb suffix ∷ ls) v e = block verb suffix ls v.0 (parts_from true ls v.1 e)
 parts_from true (Open verb suffix ∷ ls) v e = absurd (true≢false (open_outside true verb suffix v.0))
 parts_from false (Close suffix ∷ ls) v e = absurd (true≢false (sym (line_fits false v.0.0 (Close suffix) v.0.2)))
 parts_from true (Close suffix ∷ ls) v e =
     record { inner = []; last = suffix; others = ls; loose = tt; closing = v.0; split = refl; more = parts_from false ls v.1 e }
+parts_from inside (line ∷ ls) v e = loose_from inside line ls (refl, v.0) (parts_from inside ls v.1 e)
 
 pub document_parts : (lines : List (Line Word)) → IsDocument lines → ConsistOfParts lines
 document_parts lines d = let all = lines_stand start lines d in parts_from false lines all.0 all.1

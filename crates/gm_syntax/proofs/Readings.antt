@@ -8,7 +8,7 @@ use Rattle.gm_syntax_words.specs.declared.fault.SyntaxKind.{SyntaxKind}
 use Rattle.gm_syntax_words.specs.declared.fault.SyntaxKind.TheVariants.{OpenBlock}
 use Rattle.gm_syntax_words.specs.Words.{Word}
 use Rattle.gm_syntax_words.specs.Lines.{lines_of}
-use Rattle.gm_syntax.specs.Document.{Line, Blank, Comment, Open, Close, Entry, Finish, Whole, Faulty, is_level, inside_after_all, IsLineAt, HasLineFault, Finishes, ReadsLines, start, after, Place}
+use Rattle.gm_syntax.specs.Document.{Line, Open, Close, Finish, Whole, Faulty, is_level, inside_after_all, IsLineAt, HasLineFault, Finishes, ReadsLines, start, after, Place}
 use Rattle.gm_syntax.specs.Documents.{openings, closings, is_open_after, IsLastOpening, EndsAfter, IsReading}
 use Rattle.gm_syntax.proofs.Stable.{and_both, after_inside, Fits, line_fits}
 use Rattle.gm_syntax.proofs.Changes.{inside_after_all-append, inside_after_all-level}
@@ -53,11 +53,9 @@ new_opening lines at verb suffix p =
 
 opening_after : (lines : List (Line Word)) (at : Place) (line : Line Word) → IsPlaceAfter lines at
     → (after at line).inside ≡ true → IsLastOpening (lines ++ line ∷ []) (after at line).opened
-opening_after lines at Blank p e = opening_stays lines Blank at.opened refl (p.opened e)
-opening_after lines at (Comment text) p e = opening_stays lines (Comment text) at.opened refl (p.opened e)
 opening_after lines at (Open verb suffix) p e = new_opening lines at verb suffix p
 opening_after lines at (Close suffix) p e = absurd (true≢false (sym e))
-opening_after lines at (Entry words suffix) p e = opening_stays lines (Entry words suffix) at.opened refl (p.opened e)
+opening_after lines at line p e = opening_stays lines line at.opened refl (p.opened e)
 
 place_step : (lines : List (Line Word)) (at : Place) (line : Line Word) → IsPlaceAfter lines at
     → Fits at.inside line → IsPlaceAfter (lines ++ line ∷ []) (after at line)

@@ -16,6 +16,7 @@ use Rattle.gm_syntax_words.specs.Tokens.{Placed, words_of, AreSlicesBetween, Are
 use Rattle.gm_syntax_words.specs.LineText.{IsTail, FillText}
 use Rattle.gm_syntax_words.specs.Spelling.{EndsLine, Reads, ending_of}
 use Rattle.gm_syntax_words.specs.ReadLine.{IsOnlyReading}
+use Rattle.gm_syntax_words.proofs.Members.{all_together}
 use Rattle.gm_syntax_words.proofs.Classes.{word_not_blank}
 use Rattle.gm_syntax_words.proofs.Pieces.{piece_end, piece_blank, piece_bracket, piece_comment}
 use Rattle.gm_syntax_words.proofs.WordPlaces.{stand_take}
@@ -44,10 +45,6 @@ BeginsBlank text = (b : ℕ) × (more : List ℕ) × (text ≡ b ∷ more) × Is
 abbrev pub IsAfterBlanks : List ℕ → List ℕ → Type 0
 IsAfterBlanks text rest = (blanks : List ℕ) × AllBlank blanks × (text ≡ blanks ++ rest)
 
-push_blank : (blanks : List ℕ) (b : ℕ) → AllBlank blanks → is_blank b ≡ true → AllBlank (blanks ++ b ∷ [])
-push_blank [] b h e = (e, tt)
-push_blank (x ∷ blanks) b h e = (h.0, push_blank blanks b h.1 e)
-
 pub blank_first : (text : List ℕ) → IsUtf8 text → BeginsBlank text → IsCharBoundary text 1
 blank_first text utf8 (b, more, e, blank) =
     (blank_boundary (progress_start text) utf8 (rw e (piece_blank false b more blank))).0
@@ -55,7 +52,7 @@ blank_first text utf8 (b, more, e, blank) =
 pub one_more_blank : (text rest next : List ℕ) → IsAfterBlanks text rest → BeginsBlank rest → next ≡ drop 1 rest → IsAfterBlanks text next
 one_more_blank text rest next (blanks, are, parts) (b, more, e, blank) is = (
   blanks ++ b ∷ [],
-  push_blank blanks b are blank,
+  all_together _ blanks (b ∷ []) are (blank, tt),
   parts ∙ ap (λ l. blanks ++ l) (e ∙ ap (λ l. b ∷ l) (sym (is ∙ ap (drop 1) e))) ∙ sym (append_assoc blanks (b ∷ []) next),
 )
 

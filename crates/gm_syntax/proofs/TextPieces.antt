@@ -4,6 +4,7 @@ use Rattle.std.specs.Prelude.{◌≢◌}
 use Rattle.std.specs.List.{AllByRecursion, flat_map}
 use Rattle.std.proofs.lemmas.Bool.{cases_eq}
 use Rattle.std.proofs.lemmas.List.{append-nil}
+use Rattle.gm_syntax_words.proofs.Members.{all_parts}
 use Rattle.gm_syntax_words.specs.Lines.{put_first, lines_of, HasNoLineFeed}
 use Rattle.gm_syntax.specs.Documents.{with_line_feed, ArePieces}
 use Rattle.gm_syntax.proofs.Lines.{lines_nil, lines_cut, lines_more}
@@ -28,17 +29,12 @@ last_line (b ∷ []) n p = rw (lines_more b [] p.0, lines_nil) refl
 last_line (b ∷ c ∷ last) n p =
     rw (lines_more b (c ∷ last) p.0, last_line (c ∷ last) (λ e. absurd cc) p.1) refl
 
-plain_parts : (xs ys : List (List ℕ)) → AllByRecursion HasNoLineFeed (xs ++ ys)
-    → AllByRecursion HasNoLineFeed xs × AllByRecursion HasNoLineFeed ys
-plain_parts [] ys p = (tt, p)
-plain_parts (x ∷ xs) ys p = let r = plain_parts xs ys p.1 in ((p.0, r.0), r.1)
-
 pub pieces_lines : (text : List ℕ) (pieces : List (List ℕ)) → ArePieces text pieces → pieces ≡ lines_of text
 pieces_lines text pieces h =
     elim h.joined [
       | inl e ↦ rw (← append-nil pieces, ← lines_nil, ← ended_lines pieces [] h.no_line_feed, append-nil (joined pieces), ← e) refl
       | inr s ↦
-          let plain = plain_parts s.0 (s.1 ∷ []) (rw (← s.2) h.no_line_feed) in
+          let plain = all_parts HasNoLineFeed s.0 (s.1 ∷ []) (rw (← s.2) h.no_line_feed) in
           s.2 ∙ sym (rw (s.4, ended_lines s.0 s.1 plain.0, last_line s.1 s.3 plain.1.0) refl)
     ]
 

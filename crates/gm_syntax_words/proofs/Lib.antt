@@ -1,4 +1,5 @@
 pub mod ByteTable
+pub mod Members
 pub mod Steps
 pub mod Classes
 pub mod Scanned

@@ -4,13 +4,13 @@ use Rattle.std.specs.Prelude.{◌&&◌, ◌||◌, ◌⊎◌, ⊤}
 use Rattle.std.proofs.lemmas.Bool.{eq-eqb, ne_eqb, cases_Bool, cases_eq, false≢true, true≢false}
 use Rattle.std.proofs.lemmas.List.{length-append}
 use Rattle.gm_syntax_words.specs.declared.fault.SyntaxKind.{SyntaxKind}
-use Rattle.gm_syntax_words.specs.declared.fault.SyntaxKind.TheVariants.{BadByte, OpenString, BadEscape, BlockComment, StrayClose, NestedOpen, OpenBlock}
+use Rattle.gm_syntax_words.specs.declared.fault.SyntaxKind.TheVariants.{BadByte, OpenString, BadEscape, BlockComment}
 use Rattle.gm_syntax_words.specs.declared.word.Kind.{Kind}
 use Rattle.gm_syntax_words.specs.declared.word.Kind.TheVariants.{Bare, Text, Mark}
 use Rattle.gm_syntax_words.specs.declared.scan.Piece.{Piece}
 use Rattle.gm_syntax_words.specs.declared.scan.Piece.TheVariants as piece
 use Rattle.gm_syntax_words.specs.Bytes.{is_blank, is_bracket_or_comma, is_quote, is_bad, is_word_byte}
-use Rattle.gm_syntax_words.specs.Words.{Word, HasShape, escaped_value}
+use Rattle.gm_syntax_words.specs.Words.{Word, HasShape, IsString, escaped_value}
 use Rattle.gm_syntax_words.specs.Spelling.{IsBareWord, EndsInSlash, MayFollow, BeginsFault}
 use Rattle.gm_syntax_words.specs.Bare.{begins, opens_comment, bare_len}
 use Rattle.gm_syntax_words.specs.Private.Scan.{quoted_len, raw_len, text_piece, piece_of}
@@ -113,9 +113,6 @@ Facts piece.Comment before rest = ¬ EndsInSlash before × (more : List ℕ) × 
 Facts (piece.Word kind n) before rest = WordFacts kind n before rest
 Facts (piece.Fault kind) before rest = BeginsFault before kind rest
 
-facts_at : (p q : Piece) (before : Option Word) (rest : List ℕ) → p ≡ q → Facts q before rest → Facts p before rest
-facts_at p q before rest e h = rw e h
-
 -- no comment can begin directly after a bare word that ends in a slash
 not_after_slash : (before : Option Word) (more : List ℕ) → Stops before (47 ∷ more) → ¬ EndsInSlash before
 not_after_slash None more stops ends = ends
@@ -127,40 +124,37 @@ stopped : (before : Option Word) (b : ℕ) (bytes : List ℕ) → Stops before (
 stopped None b bytes stops word opens bare = bare
 stopped (Some w) b bytes stops word opens bare = absurd (omega (arith, (stops bare).0, bare_cons b bytes word opens))
 
-not_bare_stops : (kind : Kind) (text after : List ℕ) → (kind ≡ Bare → ⊥) → Stops (Some (make_word kind text)) after
-not_bare_stops kind text after h e = absurd (h e)
-
-text_not_bare : Text ≡ Bare → ⊥
-text_not_bare e = cc
-
-mark_not_bare : Mark ≡ Bare → ⊥
-mark_not_bare e = cc
-
 last_of : (front : List ℕ) (b : ℕ) (after : List ℕ) → get_or ((front ++ b ∷ []) ++ after) (length (front ++ b ∷ []) - 1) 0 ≡ b
 last_of [] b after = refl
 last_of (c ∷ front) b after =
     let e : length (c ∷ front ++ b ∷ []) - 1 ≡ suc (length (front ++ b ∷ []) - 1) = omega (arith, length-append front (b ∷ [])) in
     ap (λ n. get_or ((c ∷ front ++ b ∷ []) ++ after) n 0) e ∙ last_of front b after
 
-quoted_facts : (before : Option Word) (bytes : List ℕ) → ¬ IsBareWord before → (r : Result ℕ SyntaxKind)
-    → QuotedFront r bytes → Facts (text_piece r) before (34 ∷ bytes)
-quoted_facts before bytes apart (Ok n) h =
-    let text = 34 ∷ (escaped_value h.0 ++ 34 ∷ []) in
-    let parts : 34 ∷ bytes ≡ text ++ h.1 = rw (h.2, append_assoc (escaped_value h.0) (34 ∷ []) h.1) refl in
-    let len : n + 1 ≡ length text = omega (arith, h.3, length-append (escaped_value h.0) (34 ∷ [])) in
+-- a text that begins with a string
+string_facts : (before : Option Word) (quote : ℕ) (inside after bytes value : List ℕ) (n : ℕ) → ¬ IsBareWord before
+    → quote < 128 → bytes ≡ inside ++ quote ∷ after → n ≡ length inside + 1
+    → IsString (quote ∷ (inside ++ quote ∷ [])) value → WordFacts Text (n + 1) before (quote ∷ bytes)
+string_facts before quote inside after bytes value n apart ascii e count shape =
+    let text = quote ∷ (inside ++ quote ∷ []) in
+    let parts : quote ∷ bytes ≡ text ++ after = rw (e, append_assoc inside (quote ∷ []) after) refl in
+    let len : n + 1 ≡ length text = omega (arith, count, length-append inside (quote ∷ [])) in
     record {
       text = text;
-      after = h.1;
+      after = after;
       parts = parts;
       len = len;
       positive = omega arith;
-      shape = (h.0, inl refl);
+      shape = (value, shape);
       may_follow = λ bare. absurd (apart bare);
-      stops = not_bare_stops Text text h.1 text_not_bare;
+      stops = λ bare. absurd cc;
       ascii_beside = inr (rw (ap (λ (t : List ℕ). get_or t (n + 1 - 1) 0) parts
-          ∙ ap (λ (k : ℕ). get_or (text ++ h.1) (k - 1) 0) len ∙ last_of (34 ∷ escaped_value h.0) 34 h.1)
-          (omega arith));
+          ∙ ap (λ (k : ℕ). get_or (text ++ after) (k - 1) 0) len ∙ last_of (quote ∷ inside) quote after) ascii);
     }
+
+quoted_facts : (before : Option Word) (bytes : List ℕ) → ¬ IsBareWord before → (r : Result ℕ SyntaxKind)
+    → QuotedFront r bytes → Facts (text_piece r) before (34 ∷ bytes)
+quoted_facts before bytes apart (Ok n) h =
+    string_facts before 34 (escaped_value h.0) h.1 bytes h.0 n apart (omega arith) h.2 h.3 (inl refl)
 quoted_facts before bytes apart (Err OpenString) h = (
   apart,
   h.0,
@@ -170,37 +164,14 @@ quoted_facts before bytes apart (Err OpenString) h = (
   ],
 )
 quoted_facts before bytes apart (Err BadEscape) h = (apart, h.0, h.1, h.2, rw h.3 refl, h.4, h.5)
-quoted_facts before bytes apart (Err BadByte) h = absurd h
-quoted_facts before bytes apart (Err BlockComment) h = absurd h
-quoted_facts before bytes apart (Err StrayClose) h = absurd h
-quoted_facts before bytes apart (Err NestedOpen) h = absurd h
-quoted_facts before bytes apart (Err OpenBlock) h = absurd h
+quoted_facts before bytes apart (Err kind) h = absurd h
 
 raw_facts : (before : Option Word) (bytes : List ℕ) → ¬ IsBareWord before → (r : Result ℕ SyntaxKind) → RawFront r bytes
     → Facts (text_piece r) before (96 ∷ bytes)
 raw_facts before bytes apart (Ok n) h =
-    let text = 96 ∷ (h.0 ++ 96 ∷ []) in
-    let parts : 96 ∷ bytes ≡ text ++ h.1 = rw (h.2, append_assoc h.0 (96 ∷ []) h.1) refl in
-    let len : n + 1 ≡ length text = omega (arith, h.4, length-append h.0 (96 ∷ [])) in
-    record {
-      text = text;
-      after = h.1;
-      parts = parts;
-      len = len;
-      positive = omega arith;
-      shape = (h.0, inr (refl, h.3));
-      may_follow = λ bare. absurd (apart bare);
-      stops = not_bare_stops Text text h.1 text_not_bare;
-      ascii_beside = inr (rw (ap (λ (t : List ℕ). get_or t (n + 1 - 1) 0) parts
-          ∙ ap (λ (k : ℕ). get_or (text ++ h.1) (k - 1) 0) len ∙ last_of (96 ∷ h.0) 96 h.1) (omega arith));
-    }
+    string_facts before 96 h.0 h.1 bytes h.0 n apart (omega arith) h.2 h.4 (inr (refl, h.3))
 raw_facts before bytes apart (Err OpenString) h = (apart, bytes, inr (inr (refl, h)))
-raw_facts before bytes apart (Err BadEscape) h = absurd h
-raw_facts before bytes apart (Err BadByte) h = absurd h
-raw_facts before bytes apart (Err BlockComment) h = absurd h
-raw_facts before bytes apart (Err StrayClose) h = absurd h
-raw_facts before bytes apart (Err NestedOpen) h = absurd h
-raw_facts before bytes apart (Err OpenBlock) h = absurd h
+raw_facts before bytes apart (Err kind) h = absurd h
 
 -- after a bare word there is an ASCII byte or nothing
 stop_ascii : (after : List ℕ) → bare_len after ≡ 0 → get_or after 0 0 < 128
@@ -255,17 +226,17 @@ bare_facts before b bytes stops word opens arrow =
     at_end [] after = refl
     at_end (c ∷ text) after = at_end text after
 
-bracket_facts : (before : Option Word) (b : ℕ) (bytes : List ℕ) → is_bracket_or_comma b ≡ true → b < 128 → (b ≡ 61 → ⊥) → WordFacts Mark 1 before (b ∷ bytes)
-bracket_facts before b bytes h ascii other = record {
+bracket_facts : (before : Option Word) (b : ℕ) (bytes : List ℕ) → is_bracket_or_comma b ≡ true → WordFacts Mark 1 before (b ∷ bytes)
+bracket_facts before b bytes h = record {
   text = b ∷ [];
   after = bytes;
   parts = refl;
   len = refl;
   positive = omega arith;
   shape = (b ∷ [], (inl (b, h, refl), refl));
-  may_follow = λ bare. (refl, λ e. other cc);
-  stops = not_bare_stops Mark (b ∷ []) bytes mark_not_bare;
-  ascii_beside = inr ascii;
+  may_follow = λ bare. (refl, λ e. cc);
+  stops = λ bare. absurd cc;
+  ascii_beside = inr (other_ascii b (word_not_bracket b h));
 }
 
 arrow_facts : (before : Option Word) (bytes : List ℕ) → ¬ IsBareWord before → WordFacts Mark 2 before (61 ∷ 62 ∷ bytes)
@@ -277,12 +248,9 @@ arrow_facts before bytes apart = record {
   positive = omega arith;
   shape = (61 ∷ 62 ∷ [], (inr refl, refl));
   may_follow = λ bare. absurd (apart bare);
-  stops = not_bare_stops Mark (61 ∷ 62 ∷ []) bytes mark_not_bare;
+  stops = λ bare. absurd cc;
   ascii_beside = inr (omega arith);
 }
-
-bracket_small : (b : ℕ) → is_bracket_or_comma b ≡ true → (b < 128) × (b ≡ 61 → ⊥)
-bracket_small b h = (other_ascii b (word_not_bracket b h), λ e. true≢false (rw (← equals_word, ← e) (word_not_bracket b h)))
 
 quote_cases : (b : ℕ) → is_quote b ≡ true → (b ≡ 34) ⊎ (b ≡ 96)
 unfolding is_quote
@@ -307,8 +275,7 @@ word_byte_facts t before b bytes stops word =
     elim (cases_Bool (opens_comment (b ∷ bytes))) [
       | inl opens ↦ by_comment (decode b bytes opens)
       | inr opens ↦ elim (cases_Bool (eqb b 61 && begins 62 bytes)) [
-        | inr arrow ↦ facts_at (piece_of t (b ∷ bytes)) (piece.Word Bare (bare_len (b ∷ bytes))) before (b ∷ bytes)
-            (piece_bare t b bytes word opens arrow) (bare_facts before b bytes stops word opens arrow)
+        | inr arrow ↦ rw (piece_bare t b bytes word opens arrow) (bare_facts before b bytes stops word opens arrow)
         | inl arrow ↦ by_arrow opens (decode_arrow b bytes arrow)
       ]
     ]
@@ -337,57 +304,35 @@ word_byte_facts t before b bytes stops word =
 
     by_comment : ((more : List ℕ) × (b ∷ bytes ≡ 47 ∷ 47 ∷ more)) ⊎ ((more : List ℕ) × (b ∷ bytes ≡ 47 ∷ 42 ∷ more))
         → Facts (piece_of t (b ∷ bytes)) before (b ∷ bytes)
-    by_comment (inl m) = facts_at (piece_of t (b ∷ bytes)) piece.Comment before (b ∷ bytes)
-        (rw m.1 (piece_comment t m.0)) (
-          not_after_slash before (47 ∷ m.0) (rw (← m.1) stops),
-          m.0,
-          m.1,
-        )
-    by_comment (inr m) = facts_at (piece_of t (b ∷ bytes)) (piece.Fault BlockComment) before (b ∷ bytes)
-        (rw m.1 (piece_block t m.0)) (
-          not_after_slash before (42 ∷ m.0) (rw (← m.1) stops),
-          m.0,
-          m.1,
-        )
+    by_comment (inl m) = rw (m.1, piece_comment t m.0) (not_after_slash before (47 ∷ m.0) (rw (← m.1) stops), m.0, refl)
+    by_comment (inr m) = rw (m.1, piece_block t m.0) (not_after_slash before (42 ∷ m.0) (rw (← m.1) stops), m.0, refl)
 
     by_arrow : opens_comment (b ∷ bytes) ≡ false → ((more : List ℕ) × (b ∷ bytes ≡ 61 ∷ 62 ∷ more)) → Facts (piece_of t (b ∷ bytes)) before (b ∷ bytes)
     by_arrow opens m =
-        let apart = stopped before b bytes stops word opens in
-        facts_at (piece_of t (b ∷ bytes)) (piece.Word Mark 2) before (b ∷ bytes)
-        (rw m.1 (piece_arrow t m.0)) (rw m.1
-        (arrow_facts before m.0 apart))
+        rw (m.1, piece_arrow t m.0) (arrow_facts before m.0 (stopped before b bytes stops word opens))
 
 quote_facts : (t : Bool) (before : Option Word) (b : ℕ) (bytes : List ℕ) → Tracks t before → is_quote b ≡ true
     → Facts (piece_of t (b ∷ bytes)) before (b ∷ bytes)
 quote_facts true before b bytes tracks quote =
-    facts_at (piece_of true (b ∷ bytes)) (piece.Fault BadByte) before (b ∷ bytes) (piece_bad_quote b bytes quote)
-    (b, bytes, refl, inr (quote, tracks.bare refl))
+    rw (piece_bad_quote b bytes quote) (b, bytes, refl, inr (quote, tracks.bare refl))
 quote_facts false before b bytes tracks quote =
     elim (quote_cases b quote) [
-      | inl e ↦ facts_at (piece_of false (b ∷ bytes)) (text_piece (quoted_len bytes)) before (b ∷ bytes)
-          (rw e (piece_quoted bytes))
-          (rw e
-          (quoted_facts before bytes (tracks.not_bare refl) (quoted_len bytes) (quoted_front bytes)))
-      | inr e ↦ facts_at (piece_of false (b ∷ bytes)) (text_piece (raw_len bytes)) before (b ∷ bytes)
-          (rw e (piece_raw bytes))
-          (rw e
-          (raw_facts before bytes (tracks.not_bare refl) (raw_len bytes) (raw_front bytes)))
+      | inl e ↦ rw (e, piece_quoted bytes) (quoted_facts before bytes (tracks.not_bare refl) (quoted_len bytes) (quoted_front bytes))
+      | inr e ↦ rw (e, piece_raw bytes) (raw_facts before bytes (tracks.not_bare refl) (raw_len bytes) (raw_front bytes))
     ]
 
 -- the facts about the piece that a text begins with
 pub facts : (t : Bool) (before : Option Word) (rest : List ℕ) → Tracks t before → Stops before rest → Facts (piece_of t rest) before rest
-facts t before [] tracks stops = facts_at (piece_of t []) piece.End before [] (piece_end t) refl
+facts t before [] tracks stops = rw (piece_end t) refl
 facts t before (b ∷ bytes) tracks stops =
     elim (cases_Bool (is_blank b)) [
-      | inl blank ↦ facts_at (piece_of t (b ∷ bytes)) piece.Blank before (b ∷ bytes) (piece_blank t b bytes blank) (b, bytes, refl, blank)
+      | inl blank ↦ rw (piece_blank t b bytes blank) (b, bytes, refl, blank)
       | inr blank ↦ elim (cases_Bool (is_bracket_or_comma b)) [
-        | inl bracket ↦ facts_at (piece_of t (b ∷ bytes)) (piece.Word Mark 1) before (b ∷ bytes)
-            (piece_bracket t b bytes bracket) (bracket_facts before b bytes bracket (bracket_small b bracket).0
-            (bracket_small b bracket).1)
+        | inl bracket ↦ rw (piece_bracket t b bytes bracket) (bracket_facts before b bytes bracket)
         | inr bracket ↦ elim (cases_Bool (is_quote b)) [
           | inl quote ↦ quote_facts t before b bytes tracks quote
           | inr quote ↦ elim (cases_Bool (is_bad b)) [
-            | inl bad ↦ facts_at (piece_of t (b ∷ bytes)) (piece.Fault BadByte) before (b ∷ bytes) (piece_bad t b bytes bad) (b, bytes, refl, inl bad)
+            | inl bad ↦ rw (piece_bad t b bytes bad) (b, bytes, refl, inl bad)
             | inr bad ↦ word_byte_facts t before b bytes stops (word_from_others b blank bracket quote bad)
           ]
         ]

@@ -46,29 +46,25 @@ module _ {line : List ℕ} {words : List Word} {after_bare : Bool} {rest : List 
       → Continues q p.before rest more e → Reads None line (words ++ more) e
   comes_from q same more e k = p.there more e (reads_from q p.before rest more e (facts_of q same) k)
 
-  ended : (all more : List Word) (e f : Ending) → all ≡ words ++ more → more ≡ [] → e ≡ f → (all ≡ words) × (e ≡ f)
-  ended all more e f whole none same = (rw (whole, none) (append-nil words), same)
-
-  whole_line : (e : Ending) → Reads None line (words ++ []) e → Reads None line words e
-  whole_line e r = rw (← (append-nil words)) r
+  -- at a piece that ends the line in this way
+  ends_with : (end : Ending) (q : Piece) → ((more : List Word) (e : Ending) → Continues q p.before rest more e → (more ≡ []) × (e ≡ end))
+      → Continues q p.before rest [] end → piece_of after_bare rest ≡ q → IsOnlyReading line words end
+  ends_with end q only here same = record {
+    reads = rw (← append-nil words) (comes_from q same [] end here);
+    only = λ all e r.
+        let g = goes_on q same all e r in
+        let last = only g.0 e g.2 in
+        (rw (g.1, last.0) (append-nil words), last.1);
+  }
 
   pub progress_end : piece_of after_bare rest ≡ piece.End → IsOnlyReading line words Nothing
-  progress_end same = record {
-    reads = whole_line Nothing (comes_from piece.End same [] Nothing (refl, refl));
-    only = λ all e r. let g = goes_on piece.End same all e r in ended all g.0 e Nothing g.1 g.2.0 g.2.1;
-  }
+  progress_end same = ends_with Nothing piece.End (λ more e k. k) (refl, refl) same
 
   pub progress_comment : piece_of after_bare rest ≡ piece.Comment → IsOnlyReading line words (Comment (trim_end rest))
-  progress_comment same = record {
-    reads = whole_line (Comment (trim_end rest)) (comes_from piece.Comment same [] (Comment (trim_end rest)) (refl, refl));
-    only = λ all e r. let g = goes_on piece.Comment same all e r in ended all g.0 e (Comment (trim_end rest)) g.1 g.2.0 g.2.1;
-  }
+  progress_comment same = ends_with (Comment (trim_end rest)) piece.Comment (λ more e k. k) (refl, refl) same
 
   pub progress_fault : (kind : SyntaxKind) → piece_of after_bare rest ≡ piece.Fault kind → IsOnlyReading line words (Fault kind)
-  progress_fault kind same = record {
-    reads = whole_line (Fault kind) (comes_from (piece.Fault kind) same [] (Fault kind) (refl, refl));
-    only = λ all e r. let g = goes_on (piece.Fault kind) same all e r in ended all g.0 e (Fault kind) g.1 g.2.0 g.2.1;
-  }
+  progress_fault kind same = ends_with (Fault kind) (piece.Fault kind) (λ more e k. k) (refl, refl) same
 
   pub progress_blank : piece_of after_bare rest ≡ piece.Blank → Progress line words false (drop 1 rest)
   progress_blank same = record {

@@ -1,11 +1,11 @@
 -- A reading of a text begins with the scanner's piece, and the rest of it is a reading of the text after that
 -- piece.
-use Rattle.std.proofs.Common.{◌≡◌, ℕ, Bool, true, false, eqb, List, [], ◌∷◌, ◌++◌, length, take, drop, Result, Err, Option, Some, None, refl, sym, ap, subst, ◌∙◌, append_assoc, arith, inl, inr}
+use Rattle.std.proofs.Common.{◌≡◌, ℕ, Bool, true, false, eqb, List, [], ◌∷◌, ◌++◌, length, take, drop, Err, Option, Some, None, refl, sym, ap, subst, ◌∙◌, append_assoc, arith, inl, inr}
 use Rattle.std.specs.Prelude.{◌&&◌, ◌≢◌}
 use Rattle.std.proofs.lemmas.Bool.{eq-eqb, ne_eqb, cases_Bool, cases_eq, true≢false}
 use Rattle.std.proofs.lemmas.List.{take_at, drop_at, length-append, append-nil}
 use Rattle.gm_syntax_words.specs.declared.fault.SyntaxKind.{SyntaxKind}
-use Rattle.gm_syntax_words.specs.declared.fault.SyntaxKind.TheVariants.{BadByte, OpenString, BadEscape, BlockComment, StrayClose, NestedOpen, OpenBlock}
+use Rattle.gm_syntax_words.specs.declared.fault.SyntaxKind.TheVariants.{BadByte, OpenString, BadEscape, BlockComment}
 use Rattle.gm_syntax_words.specs.declared.word.Kind.{Kind}
 use Rattle.gm_syntax_words.specs.declared.word.Kind.TheVariants.{Bare, Text, Mark}
 use Rattle.gm_syntax_words.specs.declared.scan.Piece.{Piece}
@@ -184,9 +184,7 @@ fault_stops w rest BadByte bare h =
 fault_stops w rest OpenString bare h = absurd (h.0 bare)
 fault_stops w rest BadEscape bare h = absurd (h.0 bare)
 fault_stops w rest BlockComment bare h = comment_stops w rest 42 h.1 bare h.0 h.2 refl
-fault_stops w rest StrayClose bare h = absurd h
-fault_stops w rest NestedOpen bare h = absurd h
-fault_stops w rest OpenBlock bare h = absurd h
+fault_stops w rest kind bare h = absurd h
 
 end_stops : (w : Word) (rest : List ℕ) (e : Ending) → w.kind ≡ Bare → Ends (Some w) e rest → BothStop w.spelling rest
 end_stops w rest Nothing bare h = rw h (bare_nil, λ front f. refl)
@@ -218,21 +216,11 @@ reads_stops w rest (v ∷ words) e (after, r, others) bare = by_blanks r.blanks 
     by_blanks [] parts are follows = mark_stops w.spelling rest v.spelling after parts (mark_shape v (follows bare).0 r.shape) (follows bare).1
     by_blanks (b ∷ blanks) parts are follows = blank_stops w.spelling rest b (blanks ++ (v.spelling ++ after)) parts are.0
 
-continues_at : (p q : Piece) (before : Option Word) (rest : List ℕ) (words : List Word) (e : Ending) → p ≡ q
-    → Continues q before rest words e → Continues p before rest words e
-continues_at p q before rest words e same h = rw same h
-
 -- a text that begins with a blank is read like the text after the blank
 blank_continues : (t : Bool) (before : Option Word) (rest : List ℕ) (b : ℕ) (bytes : List ℕ) (words : List Word)
     (e : Ending) → rest ≡ b ∷ bytes → is_blank b ≡ true → Reads None bytes words e
     → Continues (piece_of t rest) before rest words e
-blank_continues t before rest b bytes words e parts blank r =
-    rw parts
-    (continues_at (piece_of t (b ∷ bytes)) piece.Blank before (b ∷ bytes) words e (piece_blank t b bytes blank) r)
-
-fault_continues : (t : Bool) (before : Option Word) (rest : List ℕ) (kind : SyntaxKind)
-    → piece_of t rest ≡ piece.Fault kind → Continues (piece_of t rest) before rest [] (Fault kind)
-fault_continues t before rest kind same = continues_at (piece_of t rest) (piece.Fault kind) before rest [] (Fault kind) same (refl, refl)
+blank_continues t before rest b bytes words e parts blank r = rw (parts, piece_blank t b bytes blank) r
 
 word_continues : (t : Bool) (before : Option Word) (rest : List ℕ) (kind : Kind) (text after : List ℕ)
     (words : List Word) (e : Ending) → piece_of t rest ≡ piece.Word kind (length text) → rest ≡ text ++ after
@@ -241,12 +229,7 @@ word_continues : (t : Bool) (before : Option Word) (rest : List ℕ) (kind : Kin
 word_continues t before rest kind text after words e same parts r =
     let at : take (length text) rest ≡ text = rw parts (take_at text after (length text) refl) in
     let past : drop (length text) rest ≡ after = rw parts (drop_at text after (length text) refl) in
-    continues_at (piece_of t rest) (piece.Word kind (length text)) before rest (make_word kind text ∷ words) e same (
-      words,
-      ap (λ x. make_word kind x ∷ words) (sym at),
-      rw at
-          (rw past r),
-    )
+    rw same (words, ap (λ x. make_word kind x ∷ words) (sym at), rw at (rw past r))
 
 -- if there is no bare word before, the flag of the scanner says so
 is_apart : (t : Bool) (before : Option Word) → Tracks t before → ¬ IsBareWord before → t ≡ false
@@ -256,9 +239,6 @@ is_apart false before tracks apart = refl
 is_beside : (t : Bool) (before : Option Word) → Tracks t before → IsBareWord before → t ≡ true
 is_beside true before tracks bare = refl
 is_beside false before tracks bare = absurd (tracks.not_bare refl bare)
-
-abbrev result_err : SyntaxKind → Result ℕ SyntaxKind
-result_err kind = Err kind
 
 fault_end : (t : Bool) (before : Option Word) (rest : List ℕ) (kind : SyntaxKind) → Tracks t before
     → BeginsFault before kind rest → piece_of t rest ≡ piece.Fault kind
@@ -279,10 +259,10 @@ fault_end t before rest OpenString tracks h =
           ∙ ap text_piece (open_raw h.1 e.1)
     ])
   where
-    open_plain : (value : List ℕ) → quoted_len (escaped_value value) ≡ result_err OpenString
+    open_plain : (value : List ℕ) → quoted_len (escaped_value value) ≡ Err OpenString
     open_plain value = rw (← append-nil (escaped_value value), quoted_len-escaped value [], quoted_nil) refl
 
-    open_raw : (value : List ℕ) → HasNoGrave value → raw_len value ≡ result_err OpenString
+    open_raw : (value : List ℕ) → HasNoGrave value → raw_len value ≡ Err OpenString
     open_raw value none = rw (← append-nil value, raw_len-append value [] none, raw_nil) refl
 fault_end t before rest BadEscape tracks h =
     rw (
@@ -293,20 +273,17 @@ fault_end t before rest BadEscape tracks h =
       quoted_bad 92 h.2 h.3 refl (escape_is_not h.2 h.5 h.6),
     ) refl
 fault_end t before rest BlockComment tracks h = rw h.2 (piece_block t h.1)
-fault_end t before rest StrayClose tracks h = absurd h
-fault_end t before rest NestedOpen tracks h = absurd h
-fault_end t before rest OpenBlock tracks h = absurd h
+fault_end t before rest kind tracks h = absurd h
 
 end_continues : (t : Bool) (before : Option Word) (rest : List ℕ) (e : Ending) → Tracks t before → Ends before e rest
     → Continues (piece_of t rest) before rest [] e
 end_continues t before rest Nothing tracks h =
-    continues_at (piece_of t rest) piece.End before rest [] Nothing (rw h (piece_end t)) (refl, refl)
+    rw (h, piece_end t) (refl, refl)
 end_continues t before rest (Comment text) tracks h =
     let begins : rest ≡ 47 ∷ 47 ∷ (h.1.slashes.0 ++ h.2) = rw (h.4, h.1.slashes.1) refl in
     let same : text ≡ trim_end rest = rw (← trim_end-append text h.2 h.3 h.1.trimmed, ← h.4) refl in
-    continues_at (piece_of t rest) piece.Comment before rest [] (Comment text)
-    (rw begins (piece_comment t (h.1.slashes.0 ++ h.2))) (refl, rw same refl)
-end_continues t before rest (Fault kind) tracks h = fault_continues t before rest kind (fault_end t before rest kind tracks h)
+    rw (begins, piece_comment t (h.1.slashes.0 ++ h.2)) (refl, rw (same, begins) refl)
+end_continues t before rest (Fault kind) tracks h = rw (fault_end t before rest kind tracks h) (refl, refl)
 
 -- the scanner takes the whole of a bare word
 bare_piece : (t : Bool) (text after : List ℕ) → IsBare text → BothStop text after → piece_of t (text ++ after) ≡ piece.Word Bare (length text)

@@ -1,16 +1,17 @@
 -- The bare words and strings that the scanner finds have their shapes, and it finds them wherever they are.
-use Rattle.std.proofs.Common.{◌≡◌, ℕ, suc, ◌+◌, true, false, eqb, List, [], ◌∷◌, ◌++◌, length, Result, Ok, Err, refl, sym, ap, ◌∙◌, arith, inl, inr}
-use Rattle.std.specs.Prelude.{◌||◌, ◌≢◌, ◌⊎◌, IsTrue}
+use Rattle.std.proofs.Common.{◌≡◌, ℕ, suc, ◌+◌, true, false, List, [], ◌∷◌, ◌++◌, length, Result, Ok, Err, refl, sym, ap, ◌∙◌, append_assoc, arith, inl, inr}
+use Rattle.std.specs.Prelude.{◌≢◌, ◌⊎◌, IsTrue}
 use Rattle.std.specs.List.{AllByRecursion}
 use Rattle.std.proofs.lemmas.Bool.{eq-eqb, ne_eqb, cases_Bool, cases_eq, false≢true}
+use Rattle.std.proofs.lemmas.List.{length-append}
 use Rattle.gm_syntax_words.specs.declared.fault.SyntaxKind.{SyntaxKind}
-use Rattle.gm_syntax_words.specs.declared.fault.SyntaxKind.TheVariants.{BadByte, OpenString, BadEscape, BlockComment, StrayClose, NestedOpen, OpenBlock}
+use Rattle.gm_syntax_words.specs.declared.fault.SyntaxKind.TheVariants.{OpenString, BadEscape}
 use Rattle.gm_syntax_words.specs.Bytes.{is_word_byte}
 use Rattle.gm_syntax_words.specs.Words.{OpensComment, HoldsNoComment, escaped_value, HasNoGrave}
 use Rattle.gm_syntax_words.specs.Bare.{begins, opens_comment, bare_len}
 use Rattle.gm_syntax_words.specs.Private.Scan.{quoted_len, raw_len, longer}
 use Rattle.gm_syntax_words.proofs.Classes.{star_word}
-use Rattle.gm_syntax_words.proofs.Steps.{bare_cons, bare_stop_word, bare_stop_comment, bare_nil, longer_longer, quoted_end, quoted_plain, quoted_escape, quoted_bad, quoted_nil, quoted_cut, raw_cons, raw_end, raw_nil, escape_is, escape_is_not}
+use Rattle.gm_syntax_words.proofs.Steps.{bare_cons, bare_stop_word, bare_stop_comment, bare_nil, longer_none, longer_longer, is_escaped, quoted_end, quoted_plain, quoted_escape, quoted_bad, quoted_nil, quoted_cut, raw_cons, raw_end, raw_nil, escape_is, escape_is_not}
 
 -- ---- bare words
 
@@ -142,10 +143,10 @@ bare_len_is (b ∷ c ∷ text) after words none stop slash =
 
 -- ---- strings
 
-pub escaped_plain : (b : ℕ) (value : List ℕ) → b ≢ 34 → b ≢ 92 → escaped_value (b ∷ value) ≡ b ∷ escaped_value value
-escaped_plain b value q s = rw (ne_eqb b 34 q, ne_eqb b 92 s) refl
+pub escaped_plain : (b : ℕ) (value : List ℕ) → is_escaped b ≡ false → escaped_value (b ∷ value) ≡ b ∷ escaped_value value
+escaped_plain b value h = rw h refl
 
-pub escaped_marked : (b : ℕ) (value : List ℕ) → (eqb b 34 || eqb b 92) ≡ true → escaped_value (b ∷ value) ≡ 92 ∷ b ∷ escaped_value value
+pub escaped_marked : (b : ℕ) (value : List ℕ) → is_escaped b ≡ true → escaped_value (b ∷ value) ≡ 92 ∷ b ∷ escaped_value value
 escaped_marked b value h = rw h refl
 
 -- what the scanner found after the opening quote
@@ -153,108 +154,59 @@ abbrev pub QuotedFront : Result ℕ SyntaxKind → List ℕ → Type 0
 QuotedFront (Ok n) bytes = (value : List ℕ) × (after : List ℕ) × (bytes ≡ escaped_value value ++ 34 ∷ after) × (n ≡ length (escaped_value value) + 1)
 QuotedFront (Err OpenString) bytes = (value : List ℕ) × ((bytes ≡ escaped_value value) ⊎ (bytes ≡ escaped_value value ++ 92 ∷ []))
 QuotedFront (Err BadEscape) bytes = (value : List ℕ) × (b : ℕ) × (more : List ℕ) × (bytes ≡ escaped_value value ++ 92 ∷ b ∷ more) × (b ≢ 34) × (b ≢ 92)
-QuotedFront (Err BadByte) bytes = ⊥
-QuotedFront (Err BlockComment) bytes = ⊥
-QuotedFront (Err StrayClose) bytes = ⊥
-QuotedFront (Err NestedOpen) bytes = ⊥
-QuotedFront (Err OpenBlock) bytes = ⊥
+QuotedFront (Err kind) bytes = ⊥
 
-quoted_front_plain : (r : Result ℕ SyntaxKind) (b : ℕ) (bytes : List ℕ) → b ≢ 34 → b ≢ 92 → QuotedFront r bytes → QuotedFront (longer 1 r) (b ∷ bytes)
-quoted_front_plain (Ok n) b bytes q s h = (
-  b ∷ h.0,
-  h.1,
-  ap (λ t. b ∷ t) h.2 ∙ ap (λ t. t ++ 34 ∷ h.1) (sym (escaped_plain b h.0 q s)),
-  omega (arith, h.3, ap length (escaped_plain b h.0 q s)),
+-- the scanner goes past the byte b, which is written as this piece
+quoted_front_more : (r : Result ℕ SyntaxKind) (b : ℕ) (piece bytes : List ℕ)
+    → ((value : List ℕ) → escaped_value (b ∷ value) ≡ piece ++ escaped_value value) → QuotedFront r bytes
+    → QuotedFront (longer (length piece) r) (piece ++ bytes)
+quoted_front_more (Ok n) b piece bytes e (value, after, parts, len) = (
+  b ∷ value,
+  after,
+  rw (parts, e value) (sym (append_assoc piece (escaped_value value) (34 ∷ after))),
+  omega (arith, len, ap length (e value), length-append piece (escaped_value value)),
 )
-quoted_front_plain (Err OpenString) b bytes q s h = (
-  b ∷ h.0,
-  elim h.1 [
-    | inl e ↦ inl (rw (e, escaped_plain b h.0 q s) refl)
-    | inr e ↦ inr (rw (e, escaped_plain b h.0 q s) refl)
-  ],
-)
-quoted_front_plain (Err BadEscape) b bytes q s h =
-    (b ∷ h.0, h.1, h.2, rw (h.3, escaped_plain b h.0 q s) refl, h.4, h.5)
-quoted_front_plain (Err BadByte) b bytes q s h = h
-quoted_front_plain (Err BlockComment) b bytes q s h = h
-quoted_front_plain (Err StrayClose) b bytes q s h = h
-quoted_front_plain (Err NestedOpen) b bytes q s h = h
-quoted_front_plain (Err OpenBlock) b bytes q s h = h
+quoted_front_more (Err OpenString) b piece bytes e (value, inl parts) = (b ∷ value, inl (rw (parts, e value) refl))
+quoted_front_more (Err OpenString) b piece bytes e (value, inr parts) =
+    (b ∷ value, inr (rw (parts, e value) (sym (append_assoc piece (escaped_value value) (92 ∷ [])))))
+quoted_front_more (Err BadEscape) b piece bytes e (value, c, more, parts, q, s) =
+    (b ∷ value, c, more, rw (parts, e value) (sym (append_assoc piece (escaped_value value) (92 ∷ c ∷ more))), q, s)
+quoted_front_more (Err kind) b piece bytes e h = absurd h
 
-quoted_front_marked : (r : Result ℕ SyntaxKind) (b : ℕ) (bytes : List ℕ) → (eqb b 34 || eqb b 92) ≡ true
-    → QuotedFront r bytes → QuotedFront (longer 2 r) (92 ∷ b ∷ bytes)
-quoted_front_marked (Ok n) b bytes m h = (
-  b ∷ h.0,
-  h.1,
-  ap (λ t. 92 ∷ b ∷ t) h.2 ∙ ap (λ t. t ++ 34 ∷ h.1)
-      (sym (escaped_marked b h.0 m)),
-  omega (arith, h.3, ap length (escaped_marked b h.0 m)),
-)
-quoted_front_marked (Err OpenString) b bytes m h = (
-  b ∷ h.0,
-  elim h.1 [
-    | inl e ↦ inl (rw (e, escaped_marked b h.0 m) refl)
-    | inr e ↦ inr (rw (e, escaped_marked b h.0 m) refl)
-  ],
-)
-quoted_front_marked (Err BadEscape) b bytes m h =
-    (b ∷ h.0, h.1, h.2, rw (h.3, escaped_marked b h.0 m) refl, h.4, h.5)
-quoted_front_marked (Err BadByte) b bytes m h = h
-quoted_front_marked (Err BlockComment) b bytes m h = h
-quoted_front_marked (Err StrayClose) b bytes m h = h
-quoted_front_marked (Err NestedOpen) b bytes m h = h
-quoted_front_marked (Err OpenBlock) b bytes m h = h
-
-same_quoted : (r t : Result ℕ SyntaxKind) (bytes : List ℕ) → r ≡ t → QuotedFront t bytes → QuotedFront r bytes
-same_quoted r t bytes e h = rw e h
-
-abbrev quoted_ok : ℕ → Result ℕ SyntaxKind
-quoted_ok n = Ok n
-
-abbrev quoted_err : SyntaxKind → Result ℕ SyntaxKind
-quoted_err kind = Err kind
+quoted_front_plain : (b : ℕ) (bytes : List ℕ) → b ≢ 34 → b ≢ 92 → QuotedFront (quoted_len bytes) bytes
+    → QuotedFront (longer 1 (quoted_len bytes)) (b ∷ bytes)
+quoted_front_plain b bytes q s h =
+    quoted_front_more (quoted_len bytes) b (b ∷ []) bytes (λ value. escaped_plain b value (escape_is_not b q s)) h
 
 pub quoted_front : (bytes : List ℕ) → QuotedFront (quoted_len bytes) bytes
-quoted_front [] = same_quoted (quoted_len []) (quoted_err OpenString) [] quoted_nil ([], inl refl)
+quoted_front [] = rw quoted_nil ([], inl refl)
 quoted_front (b ∷ []) =
     elim (cases_eq b 34) [
-      | inl q ↦ same_quoted (quoted_len (b ∷ [])) (quoted_ok 1) (b ∷ []) (quoted_end b [] q) ([], [], rw q refl, refl)
+      | inl q ↦ rw (quoted_end b [] q) ([], [], rw q refl, refl)
       | inr q ↦ elim (cases_eq b 92) [
-        | inl s ↦ same_quoted (quoted_len (b ∷ [])) (quoted_err OpenString) (b ∷ []) (quoted_cut b s) ([], inr (rw s refl))
-        | inr s ↦ same_quoted (quoted_len (b ∷ [])) (longer 1 (quoted_len [])) (b ∷ []) (quoted_plain b [] q s)
-            (quoted_front_plain (quoted_len []) b [] q s (same_quoted (quoted_len []) (quoted_err OpenString) []
-            quoted_nil ([], inl refl)))
+        | inl s ↦ rw (quoted_cut b s) ([], inr (rw s refl))
+        | inr s ↦ rw (quoted_plain b [] q s) (quoted_front_plain b [] q s (quoted_front []))
       ]
     ]
 quoted_front (b ∷ c ∷ bytes) =
     elim (cases_eq b 34) [
-      | inl q ↦ same_quoted (quoted_len (b ∷ c ∷ bytes)) (quoted_ok 1) (b ∷ c ∷ bytes) (quoted_end b (c ∷ bytes) q)
-          ([], c ∷ bytes, rw q refl, refl)
+      | inl q ↦ rw (quoted_end b (c ∷ bytes) q) ([], c ∷ bytes, rw q refl, refl)
       | inr q ↦ elim (cases_eq b 92) [
-        | inr s ↦ same_quoted (quoted_len (b ∷ c ∷ bytes)) (longer 1 (quoted_len (c ∷ bytes))) (b ∷ c ∷ bytes)
-            (quoted_plain b (c ∷ bytes) q s) (quoted_front_plain (quoted_len (c ∷ bytes)) b (c ∷ bytes) q s
-            (quoted_front (c ∷ bytes)))
-        | inl s ↦ elim (cases_eq c 34) [
-          | inl d ↦ marked_case b c bytes s (escape_is c (inl d)) (quoted_front bytes)
-          | inr d ↦ elim (cases_eq c 92) [
-            | inl f ↦ marked_case b c bytes s (escape_is c (inr f)) (quoted_front bytes)
-            | inr f ↦ same_quoted (quoted_len (b ∷ c ∷ bytes)) (quoted_err BadEscape) (b ∷ c ∷ bytes)
-                (quoted_bad b c bytes s (escape_is_not c d f)) ([], c, bytes, rw s refl, d, f)
-          ]
+        | inr s ↦ rw (quoted_plain b (c ∷ bytes) q s) (quoted_front_plain b (c ∷ bytes) q s (quoted_front (c ∷ bytes)))
+        | inl s ↦ elim (cases_Bool (is_escaped c)) [
+          | inl m ↦ rw (quoted_escape b c bytes s m) (rw s
+              (quoted_front_more (quoted_len bytes) c (92 ∷ c ∷ []) bytes (λ value. escaped_marked c value m) (quoted_front bytes)))
+          | inr m ↦ rw (quoted_bad b c bytes s m)
+              ([], c, bytes, rw s refl, λ d. false≢true (sym m ∙ escape_is c (inl d)), λ d. false≢true (sym m ∙ escape_is c (inr d)))
         ]
       ]
     ]
-  where
-    marked_case : (b c : ℕ) (bytes : List ℕ) → b ≡ 92 → (eqb c 34 || eqb c 92) ≡ true
-        → QuotedFront (quoted_len bytes) bytes → QuotedFront (quoted_len (b ∷ c ∷ bytes)) (b ∷ c ∷ bytes)
-    marked_case b c bytes s m h = same_quoted (quoted_len (b ∷ c ∷ bytes)) (longer 2 (quoted_len bytes)) (b ∷ c ∷ bytes)
-        (quoted_escape b c bytes s m) (rw s (quoted_front_marked (quoted_len bytes) c bytes m h))
 
 -- the scanner goes past an escaped value
 pub quoted_len-escaped : (value tail : List ℕ) → quoted_len (escaped_value value ++ tail) ≡ longer (length (escaped_value value)) (quoted_len tail)
-quoted_len-escaped [] tail = elim (quoted_len tail) as (λ r. r ≡ longer 0 r) [ Ok n ↦ ap (λ k. quoted_ok k) (omega arith) | Err k ↦ refl ]
+quoted_len-escaped [] tail = longer_none (quoted_len tail)
 quoted_len-escaped (b ∷ value) tail =
-    elim (cases_Bool (eqb b 34 || eqb b 92)) [
+    elim (cases_Bool (is_escaped b)) [
       | inl m ↦
           rw (
             escaped_marked b value m,
@@ -268,11 +220,11 @@ quoted_len-escaped (b ∷ value) tail =
       | inr m ↦
           let q : b ≢ 34 = λ e. false≢true (sym m ∙ escape_is b (inl e)) in
           let s : b ≢ 92 = λ e. false≢true (sym m ∙ escape_is b (inr e)) in
-          ap (λ t. quoted_len (t ++ tail)) (escaped_plain b value q s)
+          ap (λ t. quoted_len (t ++ tail)) (escaped_plain b value m)
           ∙ quoted_plain b (escaped_value value ++ tail) q s
           ∙ ap (longer 1) (quoted_len-escaped value tail)
           ∙ longer_longer 1 (length (escaped_value value)) (quoted_len tail)
-          ∙ ap (λ n. longer n (quoted_len tail)) (omega (arith, ap length (escaped_plain b value q s)))
+          ∙ ap (λ n. longer n (quoted_len tail)) (omega (arith, ap length (escaped_plain b value m)))
     ]
 
 -- ---- raw strings
@@ -280,37 +232,23 @@ quoted_len-escaped (b ∷ value) tail =
 abbrev pub RawFront : Result ℕ SyntaxKind → List ℕ → Type 0
 RawFront (Ok n) bytes = (value : List ℕ) × (after : List ℕ) × (bytes ≡ value ++ 96 ∷ after) × HasNoGrave value × (n ≡ length value + 1)
 RawFront (Err OpenString) bytes = HasNoGrave bytes
-RawFront (Err BadEscape) bytes = ⊥
-RawFront (Err BadByte) bytes = ⊥
-RawFront (Err BlockComment) bytes = ⊥
-RawFront (Err StrayClose) bytes = ⊥
-RawFront (Err NestedOpen) bytes = ⊥
-RawFront (Err OpenBlock) bytes = ⊥
+RawFront (Err kind) bytes = ⊥
 
 raw_front_more : (r : Result ℕ SyntaxKind) (b : ℕ) (bytes : List ℕ) → b ≢ 96 → RawFront r bytes → RawFront (longer 1 r) (b ∷ bytes)
 raw_front_more (Ok n) b bytes g h = (b ∷ h.0, h.1, rw h.2 refl, (g, h.3), omega (arith, h.4))
 raw_front_more (Err OpenString) b bytes g h = (g, h)
-raw_front_more (Err BadEscape) b bytes g h = h
-raw_front_more (Err BadByte) b bytes g h = h
-raw_front_more (Err BlockComment) b bytes g h = h
-raw_front_more (Err StrayClose) b bytes g h = h
-raw_front_more (Err NestedOpen) b bytes g h = h
-raw_front_more (Err OpenBlock) b bytes g h = h
-
-same_raw : (r t : Result ℕ SyntaxKind) (bytes : List ℕ) → r ≡ t → RawFront t bytes → RawFront r bytes
-same_raw r t bytes e h = rw e h
+raw_front_more (Err kind) b bytes g h = absurd h
 
 pub raw_front : (bytes : List ℕ) → RawFront (raw_len bytes) bytes
-raw_front [] = same_raw (raw_len []) (quoted_err OpenString) [] raw_nil tt
+raw_front [] = rw raw_nil tt
 raw_front (b ∷ bytes) =
     elim (cases_eq b 96) [
-      | inl e ↦ same_raw (raw_len (b ∷ bytes)) (quoted_ok 1) (b ∷ bytes) (raw_end b bytes e) ([], bytes, rw e refl, tt, refl)
-      | inr n ↦ same_raw (raw_len (b ∷ bytes)) (longer 1 (raw_len bytes)) (b ∷ bytes) (raw_cons b bytes n)
-          (raw_front_more (raw_len bytes) b bytes n (raw_front bytes))
+      | inl e ↦ rw (raw_end b bytes e) ([], bytes, rw e refl, tt, refl)
+      | inr n ↦ rw (raw_cons b bytes n) (raw_front_more (raw_len bytes) b bytes n (raw_front bytes))
     ]
 
 pub raw_len-append : (value tail : List ℕ) → HasNoGrave value → raw_len (value ++ tail) ≡ longer (length value) (raw_len tail)
-raw_len-append [] tail h = elim (raw_len tail) as (λ r. r ≡ longer 0 r) [ Ok n ↦ ap (λ k. quoted_ok k) (omega arith) | Err k ↦ refl ]
+raw_len-append [] tail h = longer_none (raw_len tail)
 raw_len-append (b ∷ value) tail h =
     rw (
       raw_cons b (value ++ tail) h.0,

@@ -1,6 +1,6 @@
 -- The spelling of a new word, and the value of a string.
 use Rattle.std.proofs.Common.{◌≡◌, ℕ, suc, ◌+◌, ◌-◌, ◌<◌, ◌≤◌, Bool, true, false, eqb, List, [], ◌∷◌, ◌++◌, length, get_or, take, drop, IsUtf8, refl, sym, ap, ◌∙◌, append_assoc, arith, inl, inr}
-use Rattle.std.specs.Prelude.{◌≢◌, ◌⊎◌, ◌&&◌, ◌||◌, not, ⊤}
+use Rattle.std.specs.Prelude.{◌≢◌, ◌⊎◌, ◌&&◌, not, ⊤}
 use Rattle.std.specs.List.{AllByRecursion}
 use Rattle.std.specs.Str.{IsCharBoundary}
 use Rattle.std.proofs.iter.FirstChar.{beside_ascii}
@@ -9,7 +9,7 @@ use Rattle.std.proofs.lemmas.List.{append-nil, drop_more, at_drop_all, take_at, 
 use Rattle.gm_syntax_words.specs.Words.{IsBare, HasNoGrave, IsString, escaped_value}
 use Rattle.gm_syntax_words.specs.Bare.{begins_arrow, bare_len, can_be_bare}
 use Rattle.gm_syntax_words.specs.Private.Scan.{plain_len}
-use Rattle.gm_syntax_words.proofs.Steps.{bare_nil, escape_is, escape_is_not}
+use Rattle.gm_syntax_words.proofs.Steps.{bare_nil, is_escaped, escape_is, escape_is_not}
 use Rattle.gm_syntax_words.proofs.Scanned.{bare_front, bare_len_is, escaped_plain, escaped_marked}
 
 -- ---- bare words
@@ -53,27 +53,21 @@ bare_word_is text h =
 -- ---- quoted words
 
 abbrev IsPlain : List ℕ → Type 0
-IsPlain text = AllByRecursion (λ b. (b ≢ 34) × (b ≢ 92)) text
+IsPlain text = AllByRecursion (λ b. is_escaped b ≡ false) text
 
 abbrev pub BeginsMark : List ℕ → Type 0
 BeginsMark [] = ⊤
-BeginsMark (b ∷ bytes) = (eqb b 34 || eqb b 92) ≡ true
-
-is_plain : (b : ℕ) → (eqb b 34 || eqb b 92) ≡ false → (b ≢ 34) × (b ≢ 92)
-is_plain b h = (λ e. true≢false (sym (rw (eq-eqb b 34 e) refl) ∙ h), λ e. true≢false (sym (at_slash e) ∙ h))
-  where
-    at_slash : b ≡ 92 → (eqb b 34 || eqb b 92) ≡ true
-    at_slash e = rw (ne_eqb b 34 (omega arith), eq-eqb b 92 e) refl
+BeginsMark (b ∷ bytes) = is_escaped b ≡ true
 
 len_nil : plain_len [] ≡ 0
 unfolding plain_len
 len_nil = refl
 
-pub len_stop : (b : ℕ) (bytes : List ℕ) → (eqb b 34 || eqb b 92) ≡ true → plain_len (b ∷ bytes) ≡ 0
+pub len_stop : (b : ℕ) (bytes : List ℕ) → is_escaped b ≡ true → plain_len (b ∷ bytes) ≡ 0
 unfolding plain_len
 len_stop b bytes h = rw h refl
 
-pub len_more : (b : ℕ) (bytes : List ℕ) → (eqb b 34 || eqb b 92) ≡ false → plain_len (b ∷ bytes) ≡ suc (plain_len bytes)
+pub len_more : (b : ℕ) (bytes : List ℕ) → is_escaped b ≡ false → plain_len (b ∷ bytes) ≡ suc (plain_len bytes)
 unfolding plain_len
 len_more b bytes h = rw h refl
 
@@ -88,7 +82,7 @@ pub record PlainFront (text : List ℕ) : Type 0 where
 pub plain_front : (text : List ℕ) → PlainFront text
 plain_front [] = record { front = []; after = []; parts = refl; len = len_nil; plain = tt; marked = tt }
 plain_front (b ∷ text) =
-    elim (cases_Bool (eqb b 34 || eqb b 92)) [
+    elim (cases_Bool (is_escaped b)) [
       | inl m ↦ record { front = []; after = b ∷ text; parts = refl; len = len_stop b text m; plain = tt; marked = m }
       | inr m ↦
           let f = plain_front text in
@@ -98,14 +92,14 @@ plain_front (b ∷ text) =
             parts = rw f.parts refl;
             len =
                 len_more b text m ∙ ap suc f.len;
-            plain = (is_plain b m, f.plain);
+            plain = (m, f.plain);
             marked = f.marked;
           }
     ]
 
 escaped-append : (front after : List ℕ) → IsPlain front → escaped_value (front ++ after) ≡ front ++ escaped_value after
 escaped-append [] after p = refl
-escaped-append (b ∷ front) after p = rw (escaped_plain b (front ++ after) p.0.0 p.0.1, escaped-append front after p.1) refl
+escaped-append (b ∷ front) after p = rw (escaped_plain b (front ++ after) p.0, escaped-append front after p.1) refl
 
 pub escaped_mark : (after : List ℕ) → 0 < length after → BeginsMark after → escaped_value after ≡ (92 ∷ []) ++ (take 1 after ++ escaped_value (drop 1 after))
 escaped_mark [] lt m = absurd (omega arith)
@@ -115,22 +109,19 @@ escaped_mark (b ∷ after) lt m = escaped_marked b after m
 abbrev pub EscapeAt : List ℕ → List ℕ → List ℕ → Type 0
 EscapeAt value front [] = value ≡ front
 EscapeAt value front (b ∷ after) = (c : ℕ) × (more : List ℕ) × (b ≡ 92) × (after ≡ c ∷ escaped_value more)
-    × ((eqb c 34 || eqb c 92) ≡ true) × (value ≡ front ++ c ∷ more)
+    × (is_escaped c ≡ true) × (value ≡ front ++ c ∷ more)
 
 escape_more : (b : ℕ) (value front after : List ℕ) → EscapeAt value front after → EscapeAt (b ∷ value) (b ∷ front) after
 escape_more b value front [] h = rw h refl
 escape_more b value front (x ∷ after) h = (h.0, h.1, h.2, h.3, h.4, rw h.5 refl)
 
-plain_escape : (b : ℕ) (value : List ℕ) → (eqb b 34 || eqb b 92) ≡ false → escaped_value (b ∷ value) ≡ b ∷ escaped_value value
-plain_escape b value k = escaped_plain b value (is_plain b k).0 (is_plain b k).1
-
 at_mark : (b : ℕ) (value front after : List ℕ) → 92 ∷ b ∷ escaped_value value ≡ front ++ after → IsPlain front
-    → (eqb b 34 || eqb b 92) ≡ true → EscapeAt (b ∷ value) front after
+    → is_escaped b ≡ true → EscapeAt (b ∷ value) front after
 at_mark b value [] [] e p k = cc
 at_mark b value [] (x ∷ after) e p k = let first : 92 ≡ x = cc in let rest : b ∷ escaped_value value ≡ after = cc in (b, value, sym first, sym rest, k, refl)
-at_mark b value (f ∷ front) after e p k = let first : 92 ≡ f = cc in absurd (p.0.1 (sym first))
+at_mark b value (f ∷ front) after e p k = let first : 92 ≡ f = cc in absurd (true≢false (rw (← first) at p.0))
 
-past_plain : (b : ℕ) (value front after : List ℕ) → b ∷ escaped_value value ≡ front ++ after → IsPlain front → BeginsMark after → (eqb b 34 || eqb b 92) ≡ false
+past_plain : (b : ℕ) (value front after : List ℕ) → b ∷ escaped_value value ≡ front ++ after → IsPlain front → BeginsMark after → is_escaped b ≡ false
     → ((tail : List ℕ) → escaped_value value ≡ tail ++ after → IsPlain tail → EscapeAt value tail after) → EscapeAt (b ∷ value) front after
 past_plain b value [] [] e p m k later = cc
 past_plain b value [] (x ∷ after) e p m k later = let first : b ≡ x = cc in absurd (true≢false (rw (← m, ← first) k))
@@ -141,12 +132,11 @@ past_plain b value (f ∷ front) after e p m k later =
 
 escape_parts : (value front after : List ℕ) → escaped_value value ≡ front ++ after → IsPlain front → BeginsMark after → EscapeAt value front after
 escape_parts [] [] [] e p m = refl
-escape_parts [] [] (x ∷ after) e p m = cc
-escape_parts [] (f ∷ front) after e p m = cc
+escape_parts [] front after e p m = cc
 escape_parts (b ∷ value) front after e p m =
-    elim (cases_Bool (eqb b 34 || eqb b 92)) [
+    elim (cases_Bool (is_escaped b)) [
       | inl k ↦ at_mark b value front after (sym (escaped_marked b value k) ∙ e) p k
-      | inr k ↦ past_plain b value front after (sym (plain_escape b value k) ∙ e) p m k (λ tail f q. escape_parts value tail after f q m)
+      | inr k ↦ past_plain b value front after (sym (escaped_plain b value k) ∙ e) p m k (λ tail f q. escape_parts value tail after f q m)
     ]
 
 -- the escape after the plain front of a text, if anything follows that
@@ -154,7 +144,7 @@ pub record Escape (value front after : List ℕ) : Type 0 where
   pub byte : ℕ
   pub more : List ℕ
   pub parts : after ≡ 92 ∷ byte ∷ escaped_value more
-  pub marked : (eqb byte 34 || eqb byte 92) ≡ true
+  pub marked : is_escaped byte ≡ true
   pub whole : value ≡ front ++ byte ∷ more
 
 pub escape_of : (value front after : List ℕ) → 0 < length after → EscapeAt value front after → Escape value front after
@@ -224,9 +214,9 @@ plain_all text e =
 pub escaped_none : (value : List ℕ) → escaped_value value ≡ [] → value ≡ []
 escaped_none [] e = refl
 escaped_none (b ∷ value) e =
-    elim (cases_Bool (eqb b 34 || eqb b 92)) [
+    elim (cases_Bool (is_escaped b)) [
       | inl k ↦ let f = sym (escaped_marked b value k) ∙ e in cc
-      | inr k ↦ let f = sym (plain_escape b value k) ∙ e in cc
+      | inr k ↦ let f = sym (escaped_plain b value k) ∙ e in cc
     ]
 
 -- ---- strings
@@ -299,11 +289,10 @@ quoted_string text rest inside value other i n e =
       | inr s ↦ absurd (n (rw i.parts s.0))
     ]
 
-mark_ascii : (b : ℕ) → (eqb b 34 || eqb b 92) ≡ true → b < 128
+mark_ascii : (b : ℕ) → is_escaped b ≡ true → b < 128
 mark_ascii b h = elim (cases_eq b 34) [
   | inl e ↦ omega arith
-  | inr n ↦ elim (cases_eq b 92)
-      [ inl e ↦ omega arith | inr k ↦ absurd (false≢true (sym (rw (ne_eqb b 34 n, ne_eqb b 92 k) refl) ∙ h)) ]
+  | inr n ↦ elim (cases_eq b 92) [ inl e ↦ omega arith | inr k ↦ absurd (false≢true (sym (escape_is_not b n k) ∙ h)) ]
 ]
 
 pub plain_boundary : (text : List ℕ) → IsUtf8 text → IsCharBoundary text (plain_len text)

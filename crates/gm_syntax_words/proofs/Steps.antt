@@ -75,11 +75,26 @@ bare_stops bytes n lt e = rw (drop_more bytes n 0 lt) (rw (test_at bytes n false
 pub bare_stops_at_end : (bytes : List ℕ) (n : ℕ) → length bytes ≤ n → bare_len (drop n bytes) ≡ 0
 bare_stops_at_end bytes n le = at_drop_all bare_len bytes n le ∙ bare_nil
 
+pub longer_none : (r : Result ℕ SyntaxKind) → r ≡ longer 0 r
+longer_none (Ok len) = ap (λ k. Ok k) (omega arith)
+longer_none (Err kind) = refl
+
 pub longer_longer : (m n : ℕ) (r : Result ℕ SyntaxKind) → longer m (longer n r) ≡ longer (m + n) r
 longer_longer m n (Ok len) = ap (λ k. Ok k) (omega arith)
 longer_longer m n (Err kind) = refl
 
 -- ---- strings in quotes
+
+-- a quote or a backslash, which a string in quotes escapes
+abbrev pub is_escaped : ℕ → Bool
+is_escaped b = eqb b 34 || eqb b 92
+
+pub escape_is : (c : ℕ) → (c ≡ 34) ⊎ (c ≡ 92) → is_escaped c ≡ true
+escape_is c (inl e) = rw (eq-eqb c 34 e) refl
+escape_is c (inr e) = rw (ne_eqb c 34 (omega arith), eq-eqb c 92 e) refl
+
+pub escape_is_not : (c : ℕ) → (c ≡ 34 → ⊥) → (c ≡ 92 → ⊥) → is_escaped c ≡ false
+escape_is_not c q s = rw (ne_eqb c 34 q, ne_eqb c 92 s) refl
 
 pub quoted_end : (b : ℕ) (bytes : List ℕ) → b ≡ 34 → quoted_len (b ∷ bytes) ≡ Ok 1
 unfolding quoted_len
@@ -91,11 +106,11 @@ unfolding quoted_len
 quoted_plain b [] q s = rw (ne_eqb b 34 q) refl
 quoted_plain b (c ∷ bytes) q s = rw (ne_eqb b 34 q, ne_eqb b 92 s) refl
 
-pub quoted_escape : (b c : ℕ) (bytes : List ℕ) → b ≡ 92 → (eqb c 34 || eqb c 92) ≡ true → quoted_len (b ∷ c ∷ bytes) ≡ longer 2 (quoted_len bytes)
+pub quoted_escape : (b c : ℕ) (bytes : List ℕ) → b ≡ 92 → is_escaped c ≡ true → quoted_len (b ∷ c ∷ bytes) ≡ longer 2 (quoted_len bytes)
 unfolding quoted_len
 quoted_escape b c bytes s e = rw (ne_eqb b 34 (omega arith), eq-eqb b 92 s, e) refl
 
-pub quoted_bad : (b c : ℕ) (bytes : List ℕ) → b ≡ 92 → (eqb c 34 || eqb c 92) ≡ false → quoted_len (b ∷ c ∷ bytes) ≡ Err BadEscape
+pub quoted_bad : (b c : ℕ) (bytes : List ℕ) → b ≡ 92 → is_escaped c ≡ false → quoted_len (b ∷ c ∷ bytes) ≡ Err BadEscape
 unfolding quoted_len
 quoted_bad b c bytes s e = rw (ne_eqb b 34 (omega arith), eq-eqb b 92 s, e) refl
 
@@ -124,15 +139,13 @@ module _ (bytes : List ℕ) (n : ℕ) where
       drop_more bytes n 0 (omega arith) ∙ ap (λ t. get_or bytes n 0 ∷ t)
       (rw (drop_more bytes (n + 1) 0 lt, e) refl)
 
-  pub quoted_skips : n + 1 < length bytes → get_or bytes n 0 ≡ 92
-      → (eqb (get_or bytes (n + 1) 0) 34 || eqb (get_or bytes (n + 1) 0) 92) ≡ true
+  pub quoted_skips : n + 1 < length bytes → get_or bytes n 0 ≡ 92 → is_escaped (get_or bytes (n + 1) 0) ≡ true
       → longer n (quoted_len (drop n bytes)) ≡ longer (n + 2) (quoted_len (drop (n + 2) bytes))
   quoted_skips lt s e =
       rw (two lt, quoted_escape (get_or bytes n 0) (get_or bytes (n + 1) 0) (drop (n + 2) bytes) s e)
       (longer_longer n 2 (quoted_len (drop (n + 2) bytes)))
 
-  pub quoted_refuses : n + 1 < length bytes → get_or bytes n 0 ≡ 92
-      → (eqb (get_or bytes (n + 1) 0) 34 || eqb (get_or bytes (n + 1) 0) 92) ≡ false
+  pub quoted_refuses : n + 1 < length bytes → get_or bytes n 0 ≡ 92 → is_escaped (get_or bytes (n + 1) 0) ≡ false
       → quoted_len (drop n bytes) ≡ Err BadEscape
   quoted_refuses lt s e = rw (two lt) (quoted_bad (get_or bytes n 0) (get_or bytes (n + 1) 0) (drop (n + 2) bytes) s e)
 
@@ -141,13 +154,6 @@ module _ (bytes : List ℕ) (n : ℕ) where
 
   pub quoted_is_open : length bytes ≤ n → quoted_len (drop n bytes) ≡ Err OpenString
   quoted_is_open le = at_drop_all quoted_len bytes n le ∙ quoted_nil
-
-pub escape_is : (c : ℕ) → (c ≡ 34) ⊎ (c ≡ 92) → (eqb c 34 || eqb c 92) ≡ true
-escape_is c (inl e) = rw (eq-eqb c 34 e) refl
-escape_is c (inr e) = rw (ne_eqb c 34 (omega arith), eq-eqb c 92 e) refl
-
-pub escape_is_not : (c : ℕ) → (c ≡ 34 → ⊥) → (c ≡ 92 → ⊥) → (eqb c 34 || eqb c 92) ≡ false
-escape_is_not c q s = rw (ne_eqb c 34 q, ne_eqb c 92 s) refl
 
 -- ---- raw strings
 

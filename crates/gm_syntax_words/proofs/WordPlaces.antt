@@ -1,7 +1,7 @@
 -- The spans of words in the source.
 use Rattle.std.proofs.Common.{◌≡◌, ℕ, zero, suc, ◌+◌, ◌-◌, ◌≤◌, List, [], ◌∷◌, ◌++◌, length, take, drop, Some, refl, sym, ap, ◌∙◌, arith}
 use Rattle.std.proofs.lemmas.List.{drop-drop, drop-append-le, take-append-le, length-drop, length-take-le, length-append, drop_at}
-use Rattle.gm_syntax_words.specs.Tokens.{Placed, AreSlicesBetween, AreNumbered}
+use Rattle.gm_syntax_words.specs.Tokens.{Placed, AreSlicesBetween}
 
 pub stand_widen : (source : List ℕ) (from to more : ℕ) (ts : List Placed) → to ≤ more
     → AreSlicesBetween source from to ts → AreSlicesBetween source from more ts
@@ -25,15 +25,6 @@ pub stand_take : (source : List ℕ) (from to n : ℕ) (ts : List Placed) → Ar
 stand_take source from to zero ts h = stand_order source from to ts h
 stand_take source from to (suc n) [] h = h
 stand_take source from to (suc n) (t ∷ ts) h = (h.0, h.1, h.2, h.3, h.4, stand_take source h.0.after to n ts h.5)
-
-pub numbered_push : (number : ℕ) (ts : List Placed) (t : Placed) → AreNumbered number ts → t.line ≡ number → AreNumbered number (ts ++ t ∷ [])
-numbered_push number [] t h e = (e, tt)
-numbered_push number (x ∷ ts) t h e = (h.0, numbered_push number ts t h.1 e)
-
-pub numbered_take : (number n : ℕ) (ts : List Placed) → AreNumbered number ts → AreNumbered number (take n ts)
-numbered_take number zero ts h = tt
-numbered_take number (suc n) [] h = h
-numbered_take number (suc n) (t ∷ ts) h = (h.0, numbered_take number n ts h.1)
 
 -- a word at the front of the rest of a line
 pub stand_push : (source line after rest : List ℕ) (first at n : ℕ) (ts : List Placed) (t : Placed)

@@ -7,7 +7,8 @@ use Rattle.gm_syntax_words.specs.Words.{Word}
 use Rattle.gm_syntax_words.specs.Private.Scan.{piece_of, trim_end}
 use Rattle.gm_syntax_words.specs.Tokens.{words_of, AreSlicesBetween}
 use Rattle.gm_syntax_words.proofs.Pieces.{make_word}
-use Rattle.gm_syntax_words.proofs.WordPlaces.{stand_widen, stand_push, suffix_more, numbered_push}
+use Rattle.gm_syntax_words.proofs.WordPlaces.{stand_widen, stand_push, suffix_more}
+use Rattle.gm_syntax_words.proofs.Members.{all_together}
 use Rattle.gm_syntax_words.proofs.Progress.{progress_end, progress_comment, progress_fault, progress_blank, progress_word, word_positive, word_shaped, word_in_range, word_boundary, blank_boundary, blank_begins, end_empty, trim_boundary}
 use Rattle.gm_syntax_words.proofs.LineText.{fills_blank, fills_word, fills_end, fills_comment, read_comment}
 use Rattle.gm_syntax_words.proofs.reader.read_line.Goals as goal
@@ -130,8 +131,8 @@ pieces-preserved c =
           (ap (span_of_length (c.args.first + (length c.args.line.now - length c.pieces.rest.now))) c.split_at-in-Word.ensures.front_len))
           (ap (λ w. w.spelling) word)));
       numbered = rw c.in_ok-push_word-in-Word.ensures
-          (numbered_push c.args.number c.pieces.words.items c.in_source.result c.pieces.invariant.numbered
-          (ap (λ t. t.line) c.in_source.ensures));
+          (all_together _ c.pieces.words.items (c.in_source.result ∷ []) c.pieces.invariant.numbered
+          (ap (λ t. t.line) c.in_source.ensures, tt));
       filled = rw c.in_ok-push_word-in-Word.ensures
           (rw back
           (fills_word c.args.first c.args.line.now c.pieces.words.items c.pieces.rest.now c.pieces.invariant.in_range
