@@ -49,11 +49,7 @@ pub(crate) fn numbered(
 
 /// The parts of a text between the places of its number.
 fn parts_of(alloc: Global, text: &str) -> Result<Vec<&str>, AllocError> {
-    let mut parts = Vec::new(alloc);
-    for part in text.split(NUMBER) {
-        parts.push(part)?;
-    }
-    Ok(parts)
+    Ok(text.split(NUMBER).collect(alloc)?)
 }
 
 /// Appends parts with digits between them.

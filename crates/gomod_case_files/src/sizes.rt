@@ -145,17 +145,16 @@ impl<'a> CaseText<'a> {
 pub fn case_texts<'a>(alloc: Global, text: &'a str) -> Result<Vec<CaseText<'a>>, CaseFault> {
     // what follows the last line end of a text is not a line
     let text = text.strip_suffix('\n').unwrap_or(text);
-    let (line, cases) = match text.strip_prefix(TITLE) {
-        Some(cases) => (1, cases),
-        None => {
-            let (before, cases) = text.split_once(NEXT_TITLE).unwrap_or((text, ""));
-            (line_after(before)?, cases)
-        }
-    };
-    if cases.is_empty() {
-        return Err(CaseFault::Line(1, NO_CASE));
+    match text.strip_prefix(TITLE) {
+        Some(cases) => divided(alloc, 1, cases),
+        None => below_remarks(alloc, text),
     }
-    Ok(divided(alloc, line, cases)?)
+}
+
+/// The cases of a text that does not begin with a title.
+fn below_remarks<'a>(alloc: Global, text: &'a str) -> Result<Vec<CaseText<'a>>, CaseFault> {
+    let (before, cases) = text.split_once(NEXT_TITLE).unwrap_or((text, ""));
+    divided(alloc, line_after(before)?, cases)
 }
 
 /// The number of the line after those before the first title.
@@ -171,7 +170,10 @@ fn line_after(before: &str) -> Result<usize, CaseFault> {
 }
 
 /// The cases of a text that begins with a title, without its mark, in the line of this number.
-fn divided<'a>(alloc: Global, line: usize, text: &'a str) -> Result<Vec<CaseText<'a>>, AllocError> {
+fn divided<'a>(alloc: Global, line: usize, text: &'a str) -> Result<Vec<CaseText<'a>>, CaseFault> {
+    if text.is_empty() {
+        return Err(CaseFault::Line(1, NO_CASE));
+    }
     let mut cases = Vec::new(alloc);
     let mut line = line;
     for text in text.split(NEXT_TITLE) {
