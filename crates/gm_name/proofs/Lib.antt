@@ -1,5 +1,4 @@
 pub mod Majors
-pub mod Marks
 pub mod Paths
 pub mod Stamps
 pub mod Tails

@@ -1,10 +1,10 @@
 -- The tests `is_path`, `is_version` and `does_fit` agree with the facts `IsPath`, `IsVersion` and `Fits`.
 use Rattle.std.proofs.Common.{◌≡◌, ◌≢◌, ◌↔◌, ℕ, ◌-◌, ◌==◌, ◌&&◌, ◌||◌, ◌^◌, ◌<◌, ◌≤◌, nat_lt, nat_eq, Bool, true, false, not, List, [], ◌∷◌, ◌++◌, length, get_or, take, drop, codes, Option, Some, None, Result, Ok, Err, is_some, IfSome, IfNone, refl, sym, ap, subst, ◌∙◌, inl, inr, arith, IsTrue}
 pub use Rattle.std.proofs.lemmas.Bool.{and_parts as and_both, not-true as not_true}
-use Rattle.std.proofs.lemmas.Bool.{and_from, eq-eqb, eqb-true, or_cases, or_left, or_right}
+use Rattle.std.proofs.lemmas.Bool.{and_from, cases_Bool, eq-eqb, eqb-true, false_from_ne_true, or_cases, or_left, or_right}
 use Rattle.std.proofs.lemmas.Bool.Decides.{Decides-eqb, nat_tests}
-use Rattle.std.proofs.lemmas.Fmt.{decimal-digits_value, digits_value-decimal}
-use Rattle.std.proofs.lemmas.List.{nil_from_length}
+use Rattle.std.proofs.lemmas.Fmt.{decimal-digits_value, decimal_injective, digits_value-decimal}
+use Rattle.std.proofs.lemmas.List.{length-append, nil_from_length, take_at}
 use Rattle.std.proofs.lemmas.Slice.Eq.{ends_is, starts_is}
 use Rattle.std.specs.Char.{is_ascii_digit}
 use Rattle.std.specs.Cmp.Lexicographic.{same_text}
@@ -21,13 +21,12 @@ use Rattle.gm_name.specs.Element.{elements, is_element}
 use Rattle.gm_name.specs.Fit.{Fits, FitsMajor}
 use Rattle.gm_name.specs.Names.{at_least, dot_number, does_fit, ends_in_slash_version, fits_major, has_no_build, has_plain_build, is_path, is_version, major_in, number_after, number_in}
 use Rattle.gm_version.specs.Number.{IsNumber, is_decimal, starts_as_no_number}
-use Rattle.gm_name.specs.Path.{EndsInSlashVersion, EndsInDotNumber, EndsInNumber, HasMajor, IsPath, IsUnderGopkg, is_digit_or_dot}
+use Rattle.gm_name.specs.Path.{EndsInSlashVersion, HasMajor, IsPath, IsUnderGopkg}
 use Rattle.gm_name.specs.Tail.{head, tail}
 use Rattle.gm_version.specs.Version.{HasPlainBuild, IsVersion, build_of, major_of}
 use Rattle.gm_name.specs.declared.major.Major.{Major}
 use Rattle.gm_name.specs.declared.major.Major.TheVariants.{NoSuffix, Slash, Dot}
-use Rattle.gm_name.proofs.Majors.{number-unique, major-unique, dot_stable_none, dot_unstable_none, dot_unstable_zero, major_elsewhere, major_under, slash_empty, slash_version}
-use Rattle.gm_name.proofs.Marks.{number_marked, number_unmarked}
+use Rattle.gm_name.proofs.Majors.{EndsSo, EndsSoDot, IsMark, dot_mark, dot_unstable_none, major-unique, major_elsewhere, major_under, marked, number-cut, number-unique, slash-tested, slash_mark}
 use Rattle.gm_version.proofs.Numbers.{decimal-digits, digits, starts-decimal}
 use Rattle.gm_name.proofs.Paths.{path-elements, path-from}
 
@@ -59,50 +58,51 @@ number-by text false b is below = λ n number. cc (is, ap is_decimal number.1, i
 number-cases : (text : List ℕ) → Tells (number_in text) (IsNumber text)
 number-cases text = number-by text (is_decimal text) (nat_lt (digits_value 10 text) (2 ^ 64)) refl refl
 
-tells-some : {X : Type 0} (o : Option X) (P : X → Type 0) → Tells o P → IfSome o P
-tells-some (Some x) P t = t
-tells-some None P t = tt
+-- what reads the number in a text computes it
+pub number-read : (text : List ℕ) (r : Option ℕ) → IfSome r (IsNumber text) → IfNone r ((n : ℕ) → ¬ (IsNumber text n)) → r ≡ number_in text
+number-read text r some none = by r (number_in text) some none (number-cases text)
+  where
+    by : (r o : Option ℕ) → IfSome r (IsNumber text) → IfNone r ((n : ℕ) → ¬ (IsNumber text n)) → Tells o (IsNumber text) → r ≡ o
+    by (Some m) (Some n) some none t = ap Some (decimal_injective m n some.0 t.0 (sym some.1 ∙ t.1))
+    by (Some m) None some none t = absurd (t m some)
+    by None (Some n) some none t = absurd (none n t)
+    by None None some none t = refl
 
-tells-none : {X : Type 0} (o : Option X) (P : X → Type 0) → Tells o P → IfNone o ((x : X) → ¬ (P x))
-tells-none (Some x) P t = tt
-tells-none None P t = t
+after-by : (text mark : List ℕ) (b : Bool) (r : Option ℕ) → b ≡ ends_with nat_eq (head is_ascii_digit text) mark → IsMark mark
+    → Tells r (IsNumber (tail is_ascii_digit text)) → Tells (if b then r else None) (EndsSo text mark)
+after-by text mark true (Some n) found is number =
+    let m = marked is_ascii_digit text mark (sym found) in
+    (number.0, (m.0, m.1 ∙ ap (m.0 ++ mark ++◌) number.1))
+after-by text mark true None found is none = λ n ends. none n (ends.0, (number-cut text mark n is ends).1)
+after-by text mark false r absent is number = λ n ends.
+    cc (absent, (ends_is Decides-eqb (head is_ascii_digit text) mark _ refl).1 ends.1.0 (number-cut text mark n is ends).0)
 
--- the number below 2 ^ 64 after the mark
-abbrev pub EndsSo : List ℕ → List ℕ → ℕ → Type 0
-EndsSo text mark n = (n < 2 ^ 64) × EndsInNumber text mark n
-
-with-bound : (text mark rest : List ℕ) (r : Option ℕ) → Tells r (IsNumber rest) → IfSome r (EndsInNumber text mark)
-    → IfNone r ((n : ℕ) → n < 2 ^ 64 → ¬ (EndsInNumber text mark n))
-    → Tells r (EndsSo text mark)
-with-bound text mark rest (Some n) number some none = (number.0, some)
-with-bound text mark rest None number some none = λ n ends. none n ends.0 ends.1
-
-after-by : (text mark : List ℕ) (b : Bool) → b ≡ ends_with nat_eq (head is_ascii_digit text) mark → 0 < length mark
-    → is_ascii_digit (get_or mark (length mark - 1) 0) ≡ false
-    → Tells (if b then number_in (tail is_ascii_digit text) else None) (EndsSo text mark)
-after-by text mark true is some stop =
-    let cases = number-cases (tail is_ascii_digit text) in
-    let r = number_in (tail is_ascii_digit text) in
-    let m = number_marked text mark (head is_ascii_digit text) (tail is_ascii_digit text) true r refl refl is some stop
-    refl (tells-some r _ cases) (tells-none r _ cases) in
-    with-bound text mark (tail is_ascii_digit text) r cases m.0 m.1
-after-by text mark false is some stop = λ n ends.
-    number_unmarked text mark (head is_ascii_digit text) false refl is some stop refl n ends.0 ends.1
-
-after-cases : (text mark : List ℕ) → 0 < length mark → is_ascii_digit (get_or mark (length mark - 1) 0) ≡ false
-    → Tells (number_after mark text) (EndsSo text mark)
-after-cases text mark some stop = after-by text mark (ends_with nat_eq (head is_ascii_digit text) mark) refl some stop
+after-cases : (text mark : List ℕ) → IsMark mark → Tells (number_after mark text) (EndsSo text mark)
+after-cases text mark is = after-by text mark _ (number_in (tail is_ascii_digit text)) refl is (number-cases (tail is_ascii_digit text))
 
 -- ---- `.vN` and `.vN-unstable`
 
-abbrev pub EndsSoDot : List ℕ → ℕ → Type 0
-EndsSoDot text n = (n < 2 ^ 64) × EndsInDotNumber text n
+pub dot-stable : (text : List ℕ) → ((stable : List ℕ) → text ≢ stable ++ codes "-unstable") → dot_number text ≡ number_after (codes ".v") text
+dot-stable text apart =
+    let absent : ends_with nat_eq text (codes "-unstable") ≡ false =
+    false_from_ne_true _ (λ e. apart (take (length text - 9) text) ((ends_is Decides-eqb text (codes "-unstable") _ refl).0 e)) in
+    rw absent refl
+
+pub dot-unstable : (text stable : List ℕ) → text ≡ stable ++ codes "-unstable"
+    → dot_number text ≡ option_and_then (at_least 1) (number_after (codes ".v") stable)
+dot-unstable text stable joined =
+    let found = (ends_is Decides-eqb text (codes "-unstable") _ refl).1 stable joined in
+    let size = length-append stable (codes "-unstable") in
+    let cut : take (length text - 9) text ≡ stable =
+    ap (λ t. take (length t - 9) t) joined ∙ take_at stable (codes "-unstable") (length (stable ++ codes "-unstable") - 9) (omega arith) in
+    rw (found, cut) refl
 
 unstable-some : (text stable : List ℕ) (n : ℕ) (b : Bool) → b ≡ nat_lt n 1 → text ≡ stable ++ codes "-unstable" → EndsSo stable (codes ".v") n
     → Tells (if b then None else Some n) (EndsSoDot text)
-unstable-some text stable n true is joined ends =
-    let e : n ≡ 0 = grind (arith, nat_tests) in
-    λ m dot. dot_unstable_zero text stable joined (subst (EndsInNumber stable (codes ".v")) e ends.1) m dot.0 dot.1
+unstable-some text stable n true is joined ends = dot_unstable_none text stable joined (λ m positive e.
+    let same = number-unique stable (codes ".v") m n dot_mark e ends in
+    let zero : n ≡ 0 = grind (arith, nat_tests) in
+    absurd (omega arith))
 unstable-some text stable n false is joined ends =
     let positive : 0 < n = grind (arith, nat_tests) in
     (ends.0, inr (positive, stable, joined, ends.1))
@@ -110,41 +110,39 @@ unstable-some text stable n false is joined ends =
 unstable-by : (text stable : List ℕ) (r : Option ℕ) → text ≡ stable ++ codes "-unstable"
     → Tells r (EndsSo stable (codes ".v")) → Tells (option_and_then (at_least 1) r) (EndsSoDot text)
 unstable-by text stable (Some n) joined ends = unstable-some text stable n (nat_lt n 1) refl joined ends
-unstable-by text stable None joined none = λ n dot. dot_unstable_none text stable joined (λ m small e. none m (small, e)) n dot.0 dot.1
+unstable-by text stable None joined none = dot_unstable_none text stable joined (λ n _ e. none n e)
 
 stable-by : (text : List ℕ) (r : Option ℕ) → ((stable : List ℕ) → text ≢ stable ++ codes "-unstable")
     → Tells r (EndsSo text (codes ".v")) → Tells r (EndsSoDot text)
 stable-by text (Some n) apart ends = (ends.0, inl ends.1)
-stable-by text None apart none = λ n dot. dot_stable_none text None apart (λ m small e. none m (small, e)) n dot.0 dot.1
-
-dot-by : (text : List ℕ) (b : Bool) → b ≡ ends_with nat_eq text (codes "-unstable")
-    → Tells (if b then option_and_then (at_least 1) (number_after (codes ".v") (take (length text - 9) text))
-    else number_after (codes ".v") text) (EndsSoDot text)
-dot-by text true is =
-    let stable = take (length text - 9) text in
-    unstable-by text stable (number_after (codes ".v") stable)
-    ((ends_is Decides-eqb text (codes "-unstable") true is).0 refl)
-    (after-cases stable (codes ".v") (omega arith) refl)
-dot-by text false is =
-    let apart : (stable : List ℕ) → text ≢ stable ++ codes "-unstable" =
-    λ stable joined. cc ((ends_is Decides-eqb text (codes "-unstable") false is).1 stable joined) in
-    stable-by text (number_after (codes ".v") text) apart (after-cases text (codes ".v") (omega arith) refl)
+stable-by text None apart none = λ n dot. elim dot.1 [ inl plain ↦ none n (dot.0, plain) | inr other ↦ apart other.1 other.2 ]
 
 dot-cases : (text : List ℕ) → Tells (dot_number text) (EndsSoDot text)
-dot-cases text = dot-by text (ends_with nat_eq text (codes "-unstable")) refl
+dot-cases text = elim (cases_Bool (ends_with nat_eq text (codes "-unstable"))) [
+  | inl found ↦
+      let stable = take (length text - 9) text in
+      let joined = (ends_is Decides-eqb text (codes "-unstable") _ refl).0 found in
+      subst (λ r. Tells r (EndsSoDot text)) (sym (dot-unstable text stable joined))
+      (unstable-by text stable (number_after (codes ".v") stable) joined (after-cases stable (codes ".v") dot_mark))
+  | inr absent ↦
+      let apart : (stable : List ℕ) → text ≢ stable ++ codes "-unstable" =
+      λ stable joined. cc (absent, (ends_is Decides-eqb text (codes "-unstable") _ refl).1 stable joined) in
+      subst (λ r. Tells r (EndsSoDot text)) (sym (dot-stable text apart))
+      (stable-by text (number_after (codes ".v") text) apart (after-cases text (codes ".v") dot_mark))
+]
 
 -- ---- the major version
 
 dot-major : (text : List ℕ) (r : Option ℕ) → IsUnderGopkg text → Tells r (EndsSoDot text) → Tells (option_map Dot r) (HasMajor text)
 dot-major text (Some n) under ends = (under, ends.0, ends.1)
-dot-major text None under none = major_under text under (λ n small ends. none n (small, ends))
+dot-major text None under none = major_under text under none
 
 slash-some : (text : List ℕ) (n : ℕ) (b : Bool) → b ≡ nat_lt n 2 → ¬ (IsUnderGopkg text) → EndsInSlashVersion text → EndsSo text (codes "/v") n
     → Tells (option_map Slash (if b then None else Some n)) (HasMajor text)
-slash-some text n true is outside version ends = major_elsewhere text outside version (λ m low small e.
-    let same = number-unique text (codes "/v") m n (omega arith) refl small ends.0 e ends.1 in
+slash-some text n true is outside version ends = major_elsewhere text outside version (λ m low e.
+    let same = number-unique text (codes "/v") m n slash_mark e ends in
     let below : n < 2 = grind (arith, nat_tests) in
-    absurd (omega (arith, same, below, low)))
+    absurd (omega arith))
 slash-some text n false is outside version ends =
     let low : 2 ≤ n = grind (arith, nat_tests) in
     (outside, low, ends.0, ends.1)
@@ -152,23 +150,13 @@ slash-some text n false is outside version ends =
 slash-major : (text : List ℕ) (r : Option ℕ) → ¬ (IsUnderGopkg text) → EndsInSlashVersion text
     → Tells r (EndsSo text (codes "/v")) → Tells (option_map Slash (option_and_then (at_least 2) r)) (HasMajor text)
 slash-major text (Some n) outside version ends = slash-some text n (nat_lt n 2) refl outside version ends
-slash-major text None outside version none = major_elsewhere text outside version (λ n low small e. none n (small, e))
-
-slash-tail : (text : List ℕ) (a b : Bool) → a ≡ nat_lt 0 (length (tail is_digit_or_dot text)) → b ≡ ends_with nat_eq (head is_digit_or_dot text) (codes "/v")
-    → (a && b) ≡ true ↔ EndsInSlashVersion text
-slash-tail text true b is ends =
-    let some : 0 < length (tail is_digit_or_dot text) = grind (arith, nat_tests) in
-    let t = slash_version text (head is_digit_or_dot text) (tail is_digit_or_dot text) b refl refl ends some in
-    (t.0, t.1)
-slash-tail text false b is ends =
-    let none : length (tail is_digit_or_dot text) ≡ 0 = grind (arith, nat_tests) in
-    (λ e. cc e, λ v. absurd (slash_empty text (tail is_digit_or_dot text) refl none v))
+slash-major text None outside version none = major_elsewhere text outside version (λ n low e. none n e)
 
 elsewhere-by : (text : List ℕ) (b : Bool) → b ≡ ends_in_slash_version text → ¬ (IsUnderGopkg text)
     → Tells (if b then option_map Slash (option_and_then (at_least 2) (number_after (codes "/v") text)) else Some NoSuffix) (HasMajor text)
 elsewhere-by text true is outside =
-    slash-major text (number_after (codes "/v") text) outside ((slash-tail text _ _ refl refl).0 (sym is)) (after-cases text (codes "/v") (omega arith) refl)
-elsewhere-by text false is outside = (outside, λ v. cc (is, (slash-tail text _ _ refl refl).1 v))
+    slash-major text (number_after (codes "/v") text) outside ((slash-tested text).0 (sym is)) (after-cases text (codes "/v") slash_mark)
+elsewhere-by text false is outside = (outside, λ v. cc (is, (slash-tested text).1 v))
 
 major-by : (text : List ℕ) (b : Bool) → b ≡ starts_with nat_eq text (codes "gopkg.in/")
     → Tells (if b then option_map Dot (dot_number text) else
@@ -194,6 +182,16 @@ found-major text None none is = absurd cc
 some-major : (text : List ℕ) (r : Option Major) (major : Major) → Tells r (HasMajor text) → HasMajor text major → is_some r ≡ true
 some-major text (Some other) major named has = refl
 some-major text None major none has = absurd (none major has)
+
+-- what a reader of the elements and of the major version finds
+pub path-read : (text : List ℕ) (major : Major) → list_all is_element (elements text) ≡ true → Some major ≡ major_in text
+    → IsPath text × HasMajor text major
+path-read text major all found =
+    let named : HasMajor text major = rw (← found) at (major-cases text) in
+    (path-from text major all named, named)
+
+pub path-unread : (text : List ℕ) → None ≡ major_in text → ¬ (IsPath text)
+path-unread text none path = absurd ((rw (← none) at (major-cases text)) path.named.0 path.named.1)
 
 -- `is_path` decides `IsPath`
 pub path-tested : (text : List ℕ) → is_path text ≡ true ↔ IsPath text
@@ -265,14 +263,11 @@ small-by version false is =
       ],
     )
 
-eqb-is : (a b : ℕ) → a ≡ b → (a == b) ≡ true
-eqb-is a b e = eq-eqb a b e
-
 major-fit : (version : List ℕ) (major : Major) → fits_major version major ≡ true ↔ FitsMajor major version
 major-fit version NoSuffix = small-by version (nat_lt (major_of version) 2) refl
 major-fit version (Slash n) = (
   λ e. let p = and_both (major_of version == n) (has_no_build version) e in (eqb-true _ _ p.0, (no-build version).0 p.1),
-  λ fit. and_from _ _ (eqb-is _ _ fit.0) ((no-build version).1 fit.1),
+  λ fit. and_from _ _ (eq-eqb _ _ fit.0) ((no-build version).1 fit.1),
 )
 major-fit version (Dot n) =
     let begins = starts_is Decides-eqb version (codes "v0.0.0-") (starts_with nat_eq version (codes "v0.0.0-")) refl in (
@@ -285,9 +280,9 @@ major-fit version (Dot n) =
                 (inr (eqb-true _ _ q.0, drop 7 version, begins.0 q.1), (no-build version).0 p.1)
           ],
       λ fit. elim fit.0 [
-        | inl same ↦ and_from _ _ (or_left _ _ (eqb-is _ _ same)) ((no-build version).1 fit.1)
+        | inl same ↦ and_from _ _ (or_left _ _ (eq-eqb _ _ same)) ((no-build version).1 fit.1)
         | inr zeros ↦ and_from _ _ (or_right (major_of version == n) _
-            (and_from _ _ (eqb-is _ _ zeros.0) (begins.1 zeros.1 zeros.2))) ((no-build version).1 fit.1)
+            (and_from _ _ (eq-eqb _ _ zeros.0) (begins.1 zeros.1 zeros.2))) ((no-build version).1 fit.1)
       ],
     )
 
