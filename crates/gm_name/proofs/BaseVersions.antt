@@ -28,18 +28,12 @@ identifiers-append (b ∷ xs) ys = elim (cases_Bool (b == 46)) [
 ]
 
 -- a pre-release is a front, a dot and the rest
-front-identifiers : (pre before time revision : List ℕ) → IsStamp pre (before ++ codes ".0.") time revision
+front-identifiers : {pre time revision : List ℕ} (before : List ℕ) → IsStamp pre (before ++ codes ".0.") time revision
     → (rest : List ℕ) × (parts pre ≡ parts before ++ parts rest)
-front-identifiers pre before time revision stamp =
+front-identifiers {pre} {time} {revision} before stamp =
     let rest = codes "0." ++ time ++ codes "-" ++ revision in
-    let whole : pre ≡ before ++ 46 ∷ rest = rw stamp.joined (regroup before time revision) in
+    let whole : pre ≡ before ++ 46 ∷ rest = stamp.joined ∙ simp append_assoc in
     (rest, ap parts whole ∙ identifiers-append before rest)
-  where
-    regroup : (b t r : List ℕ) → b ++ codes ".0." ++ t ++ codes "-" ++ r ≡ b ++ 46 ∷ (codes "0." ++ t ++ codes "-" ++ r)
-    regroup b t r =
-        ap (λ l. l ++ codes "-" ++ r) (append_assoc b (codes ".0.") t)
-        ∙ ap (◌++ r) (append_assoc b (codes ".0." ++ t) (codes "-"))
-        ∙ append_assoc b (codes ".0." ++ t ++ codes "-") r
 
 pub pre-identifiers : (pre : List ℕ) → is_pre_release pre ≡ true → 0 < length pre → list_all is_pre_identifier (parts pre) ≡ true
 pre-identifiers [] h some = absurd (omega arith)
@@ -49,21 +43,19 @@ pub pre-from : (pre : List ℕ) → list_all is_pre_identifier (parts pre) ≡ t
 pre-from [] h = refl
 pre-from (b ∷ rest) h = h
 
+stamp-some : {pre front time revision : List ℕ} → IsStamp pre front time revision → 0 < length pre
+stamp-some {pre} {front} {time} {revision} stamp =
+    let whole = ap length stamp.joined in
+    omega (arith, length-append ((front ++ time) ++ codes "-") revision, length-append (front ++ time) (codes "-"))
+
 -- the text before `.0.` in a pre-release is a pre-release too
-pub pre-before : (pre before time revision : List ℕ) → is_pre_release pre ≡ true
+pub pre-before : {pre time revision : List ℕ} (before : List ℕ) → is_pre_release pre ≡ true
     → IsStamp pre (before ++ codes ".0.") time revision → is_pre_release before ≡ true
-pre-before pre before time revision valid stamp =
-    let cut = front-identifiers pre before time revision stamp in
-    let some : 0 < length pre = stamp-some pre _ time revision stamp in
-    let all = pre-identifiers pre valid some in
+pre-before {pre} before valid stamp =
+    let cut = front-identifiers before stamp in
+    let all = pre-identifiers pre valid (stamp-some stamp) in
     let both : list_all is_pre_identifier (parts before ++ parts cut.0) ≡ true = rw cut.1 at all in
     pre-from before (first_so _ _ (sym (list_all-append is_pre_identifier (parts before) (parts cut.0)) ∙ both))
-  where
-    stamp-some : (p f t r : List ℕ) → IsStamp p f t r → 0 < length p
-    stamp-some p f t r s =
-        let whole = ap length s.joined in
-        let fourteen = s.fourteen in
-        omega (arith, whole, fourteen, length-append ((f ++ t) ++ codes "-") r, length-append (f ++ t) (codes "-"), length-append f t)
 
 -- ---- the base
 
@@ -72,16 +64,16 @@ pub base-unique : (version a b : List ℕ) → IsBase version a → IsBase versi
 base-unique version a b x y = elim x.2 [
   | inl v ↦ elim y.2 [
     | inl w ↦
-        let fronts = same_front x y (v.0 ++ codes ".0.") (w.0 ++ codes ".0.") v.2 w.2 (second v.0 v.1) (second w.0 w.1) in
+        let fronts = same_front v.2 w.2 (second v.0 v.1) (second w.0 w.1) in
         let before : v.0 ≡ w.0 = append_cancel_right v.0 w.0 (codes ".0.") fronts in
         v.3 ∙ rw before (sym w.3)
     | inr w ↦
-        let fronts = same_front x y (v.0 ++ codes ".0.") (codes "0.") v.2 w.1 (second v.0 v.1) (third w.0) in
+        let fronts = same_front v.2 w.1 (second v.0 v.1) (third w.0) in
         absurd (omega (arith, ap length fronts, length-append v.0 (codes ".0.")))
   ]
   | inr v ↦ elim y.2 [
     | inl w ↦
-        let fronts = same_front x y (codes "0.") (w.0 ++ codes ".0.") v.1 w.2 (third v.0) (second w.0 w.1) in
+        let fronts = same_front v.1 w.2 (third v.0) (second w.0 w.1) in
         absurd (omega (arith, ap length fronts, length-append w.0 (codes ".0.")))
     | inr w ↦ v.2 ∙ sym w.2
   ]
@@ -96,10 +88,9 @@ base-unique version a b x y = elim x.2 [
     third : 0 < p.2 → IsFront 3 p.1 p.2 (codes "0.")
     third positive = inr (inr (refl, positive, refl))
 
-    same_front : (s : IsBase version a) (t : IsBase version b) (f g : List ℕ) → IsStamp p.3 f s.0 s.1 → IsStamp p.3 g t.0 t.1
-        → {m : ℕ} → {n : ℕ} → IsFront m p.1 p.2 f → IsFront n p.1 p.2 g → f ≡ g
-    same_front s t f g sf sg {m} {n} is_f is_g =
-        (stamp-unique p.3 f g s.0 t.0 s.1 t.1 (front-dot m p.1 p.2 f is_f) (front-dot n p.1 p.2 g is_g) sf sg).0
+    same_front : {f g s t q r : List ℕ} {m n : ℕ} → IsStamp p.3 f s q → IsStamp p.3 g t r → IsFront m p.1 p.2 f → IsFront n p.1 p.2 g → f ≡ g
+    same_front {f} {g} {m = m} {n = n} sf sg is_f is_g =
+        (stamp-unique (front-dot m p.1 p.2 f is_f) (front-dot n p.1 p.2 g is_g) sf sg).0
 
 -- the parts of the base, by form
 base-parts : (version base : List ℕ) → IsVersion version → IsBase version base
@@ -110,24 +101,15 @@ base-parts version base is_version is =
     let valid = v.0 in
     elim is.2 [
       | inl second ↦
-          let cut = front-identifiers p.3 second.0 is.0 is.1 second.2 in
+          let cut = front-identifiers second.0 second.2 in
           let shape = parts-shape cut.0 in
           let longer : parts p.3 ≡ parts second.0 ++ shape.0 ∷ shape.1 = cut.1 ∙ ap (parts second.0 ++◌) shape.2 in
-          let lower : IsLowerList IsLowerIdentifier (parts second.0) (parts p.3) = (parts second.0, inr (shape.0, shape.1, refl, longer)) in
-          let some : 0 < length p.3 = omega (
-            arith,
-            ap length second.2.joined,
-            second.1,
-            length-append (((second.0 ++ codes ".0.") ++ is.0) ++ codes "-") is.1,
-            length-append ((second.0 ++ codes ".0.") ++ is.0) (codes "-"),
-            length-append (second.0 ++ codes ".0.") is.0,
-            length-append second.0 (codes ".0."),
-          ) in (
+          let lower : IsLowerList IsLowerIdentifier (parts second.0) (parts p.3) = (parts second.0, inr (shape.0, shape.1, refl, longer)) in (
             (p.0, p.1, p.2, second.0, p.4),
-            (valid.0, valid.1, valid.2, pre-before p.3 second.0 is.0 is.1 valid.3 second.2, valid.4),
+            (valid.0, valid.1, valid.2, pre-before second.0 valid.3 second.2, valid.4),
             refl,
             second.3,
-            inr (inr (inr (refl, refl, refl, inr (second.1, some, lower)))),
+            inr (inr (inr (refl, refl, refl, inr (second.1, stamp-some second.2, lower)))),
           )
       | inr third ↦ (
         (p.0, p.1, p.2 - 1, [], p.4),

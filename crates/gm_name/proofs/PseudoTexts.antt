@@ -16,7 +16,7 @@ use Rattle.gm_name.specs.Pseudo.{IsBase, IsFront, IsPseudo, IsStamp}
 use Rattle.gm_name.specs.PseudoText.{IsBaseText, IsEnd, IsPseudoText, AreNumbers, IsBefore, first_text, release, second_text, third_text}
 use Rattle.gm_version.specs.Version.{HasPlainBuild, IsVersion, parts_in, version_text}
 use Rattle.gm_name.proofs.BaseVersions.{identifiers-append, parts-spelled, pre-before, pre-from, pre-identifiers}
-use Rattle.gm_version.proofs.ListTests.{weaker}
+use Rattle.gm_version.proofs.ListTests.{all-append, weaker}
 use Rattle.gm_version.proofs.Versions.{version-parts}
 
 -- ---- the text of parts
@@ -90,9 +90,11 @@ build-text : (build : List ℕ) → (build ≡ []) ⊎ (build ≡ codes "incompa
     → (marked 43 build ≡ []) ⊎ (marked 43 build ≡ codes "+incompatible")
 build-text build plain = elim plain [ inl none ↦ inl (rw none refl) | inr word ↦ inr (rw word refl) ]
 
--- the build that a plain text is of
-build-part : (text : List ℕ) → (text ≡ []) ⊎ (text ≡ codes "+incompatible")
-    → (build : List ℕ) × ((build ≡ []) ⊎ (build ≡ codes "incompatible")) × (is_build build ≡ true) × (marked 43 build ≡ text)
+-- the build that a text is of
+abbrev pub IsBuildOf : List ℕ → Type 0
+IsBuildOf text = (build : List ℕ) × ((build ≡ []) ⊎ (build ≡ codes "incompatible")) × (is_build build ≡ true) × (marked 43 build ≡ text)
+
+build-part : (text : List ℕ) → (text ≡ []) ⊎ (text ≡ codes "+incompatible") → IsBuildOf text
 build-part text plain = elim plain [
   | inl none ↦ ([], inl refl, refl, sym none)
   | inr word ↦ (codes "incompatible", inr refl, refl, sym word)
@@ -118,62 +120,49 @@ one-part (b ∷ rest) all =
     rw (other, one) refl
 
 -- a time, a dash and a revision are one identifier of a pre-release
-end-identifier : (time revision : List ℕ) → length time ≡ 14 → list_all is_ascii_digit time ≡ true
-    → list_all is_ascii_alphanumeric revision ≡ true → is_pre_identifier (time ++ codes "-" ++ revision) ≡ true
-end-identifier time revision fourteen digits letters =
+end-identifier : {end time revision build : List ℕ} → IsEnd end time revision build → is_pre_identifier (time ++ codes "-" ++ revision) ≡ true
+end-identifier {end} {time} {revision} is =
     let whole = time ++ codes "-" ++ revision in
     let long : 0 < length whole = omega (arith, length-append (time ++ codes "-") revision, length-append time (codes "-")) in
     let some : nat_lt 0 (length whole) ≡ true = grind (arith, nat_tests) in
     let numeric : is_numeric whole ≡ false =
     list_all-append is_ascii_digit (time ++ codes "-") revision
-    ∙ rw (list_all-append is_ascii_digit time (codes "-"), digits) refl in
-    let each = end-bytes time revision digits letters in
+    ∙ rw (list_all-append is_ascii_digit time (codes "-"), is.digits) refl in
+    let first = weaker is_ascii_digit is_identifier_byte digit-identifier time is.digits in
+    let second = weaker is_ascii_alphanumeric is_identifier_byte letter-identifier revision is.letters_or_digits in
+    let each : list_all is_identifier_byte whole ≡ true =
+    all-append is_identifier_byte (time ++ codes "-") revision (all-append is_identifier_byte time (codes "-") first refl) second in
     rw (numeric, each, some) refl
-  where
-    end-bytes : (t r : List ℕ) → list_all is_ascii_digit t ≡ true → list_all is_ascii_alphanumeric r ≡ true
-        → list_all is_identifier_byte (t ++ codes "-" ++ r) ≡ true
-    end-bytes t r a b =
-        let first = weaker is_ascii_digit is_identifier_byte digit-identifier t a in
-        let second = weaker is_ascii_alphanumeric is_identifier_byte letter-identifier r b in
-        rw (list_all-append is_identifier_byte (t ++ codes "-") r, list_all-append is_identifier_byte t (codes "-"), first) second
 
 -- a pre-release of each form is valid
-first-pre : (time revision : List ℕ) → is_pre_identifier (time ++ codes "-" ++ revision) ≡ true
+first-pre : {end time revision build : List ℕ} → IsEnd end time revision build
     → list_all is_pre_identifier (parts (time ++ codes "-" ++ revision)) ≡ true
-first-pre time revision is =
+first-pre {end} {time} {revision} is =
     let whole = time ++ codes "-" ++ revision in
-    let bytes = second_so _ _ (first_so _ _ is) in
-    let one : parts whole ≡ whole ∷ [] = one-part whole bytes in
-    rw (one, is) refl
+    let identifier = end-identifier is in
+    let one : parts whole ≡ whole ∷ [] = one-part whole (second_so _ _ (first_so _ _ identifier)) in
+    rw (one, identifier) refl
 
-third-pre : (time revision : List ℕ) → is_pre_identifier (time ++ codes "-" ++ revision) ≡ true
+third-pre : {end time revision build : List ℕ} → IsEnd end time revision build
     → list_all is_pre_identifier (parts (codes "0." ++ time ++ codes "-" ++ revision)) ≡ true
-third-pre time revision is =
-    let cut : parts (codes "0." ++ time ++ codes "-" ++ revision) ≡ codes "0" ∷ parts (time ++ codes "-" ++ revision) =
-    identifiers-append (codes "0") (time ++ codes "-" ++ revision) in
-    ap (list_all is_pre_identifier) cut ∙ first-pre time revision is
+third-pre {end} {time} {revision} is =
+    ap (list_all is_pre_identifier) (identifiers-append (codes "0") (time ++ codes "-" ++ revision)) ∙ first-pre is
 
-second-pre : (before time revision : List ℕ) → 0 < length before → is_pre_release before ≡ true
-    → is_pre_identifier (time ++ codes "-" ++ revision) ≡ true
+second-pre : {end time revision build : List ℕ} (before : List ℕ) → IsBefore before → IsEnd end time revision build
     → list_all is_pre_identifier (parts (before ++ codes ".0." ++ time ++ codes "-" ++ revision)) ≡ true
-second-pre before time revision some valid is =
+second-pre {end} {time} {revision} before tagged is =
     let rest = codes "0." ++ time ++ codes "-" ++ revision in
-    let same : before ++ codes ".0." ++ time ++ codes "-" ++ revision ≡ before ++ 46 ∷ rest =
-    regroup before (codes ".0.") time (codes "-") revision in
-    let cut = identifiers-append before rest in
+    let same : before ++ codes ".0." ++ time ++ codes "-" ++ revision ≡ before ++ 46 ∷ rest = simp append_assoc in
     let all = list_all-append is_pre_identifier (parts before) (parts rest) in
-    rw (same, cut, all) (and_from _ _ (pre-identifiers before valid some) (third-pre time revision is))
-  where
-    regroup : (b o t e v : List ℕ) → b ++ o ++ t ++ e ++ v ≡ b ++ (o ++ t ++ e ++ v)
-    regroup b o t e v = simp append_assoc
+    rw (same, identifiers-append before rest, all) (and_from _ _ (pre-identifiers before tagged.1 tagged.0) (third-pre is))
 
 -- ---- from parts to texts
 
 -- the end of a pseudo-version
-end-of : (pre front time revision build : List ℕ) → IsStamp pre front time revision
+end-of : {pre front time revision : List ℕ} (build : List ℕ) → IsStamp pre front time revision
     → (build ≡ []) ⊎ (build ≡ codes "incompatible")
     → IsEnd (time ++ codes "-" ++ revision ++ marked 43 build) time revision (marked 43 build)
-end-of pre front time revision build stamp plain = record {
+end-of build stamp plain = record {
   joined = refl;
   fourteen = stamp.fourteen;
   digits = stamp.digits;
@@ -182,22 +171,20 @@ end-of pre front time revision build stamp plain = record {
   plain = build-text build plain;
 }
 
-first-of : (p : Parts) (version time revision : List ℕ) → version ≡ version_text p → p.1 ≡ 0 → p.2 ≡ 0
-    → IsStamp p.3 [] time revision
+first-of : {version time revision : List ℕ} (p : Parts) → version ≡ version_text p → p.1 ≡ 0 → p.2 ≡ 0 → IsStamp p.3 [] time revision
     → version ≡ first_text p.0 (time ++ codes "-" ++ revision ++ marked 43 p.4)
-first-of (x, y, z, pre, build) version time revision spelled minor patch stamp =
+first-of {time = time} {revision = revision} (x, y, z, pre, build) spelled minor patch stamp =
     spelled ∙ rw (minor, patch, stamp.joined) (first-whole x time revision build stamp.fourteen)
 
-second-of : (p : Parts) (version before time revision : List ℕ) → version ≡ version_text p → 0 < length before
+second-of : {version time revision : List ℕ} (p : Parts) (before : List ℕ) → version ≡ version_text p → 0 < length before
     → IsStamp p.3 (before ++ codes ".0.") time revision
     → version ≡ second_text p.0 p.1 p.2 before (time ++ codes "-" ++ revision ++ marked 43 p.4)
-second-of (x, y, z, pre, build) version before time revision spelled some stamp =
+second-of {time = time} {revision = revision} (x, y, z, pre, build) before spelled some stamp =
     spelled ∙ rw stamp.joined (second-whole x y z before time revision build some)
 
-third-of : (p : Parts) (version time revision : List ℕ) → version ≡ version_text p → 0 < p.2
-    → IsStamp p.3 (codes "0.") time revision
+third-of : {version time revision : List ℕ} (p : Parts) → version ≡ version_text p → 0 < p.2 → IsStamp p.3 (codes "0.") time revision
     → version ≡ third_text p.0 p.1 (p.2 - 1) (time ++ codes "-" ++ revision ++ marked 43 p.4)
-third-of (x, y, z, pre, build) version time revision spelled positive stamp =
+third-of {time = time} {revision = revision} (x, y, z, pre, build) spelled positive stamp =
     let more : z ≡ z - 1 + 1 = omega arith in
     spelled ∙ ap (λ n. version_text (x, y, n, pre, build)) more
     ∙ ap (λ t. version_text (x, y, z - 1 + 1, t, build)) stamp.joined
@@ -208,39 +195,24 @@ pseudo-to : (version : List ℕ) (form : ℕ) (time revision : List ℕ)
 pseudo-to version form time revision is =
     let p = parts_in version in
     let v = version-parts version is.0 in
-    let stamp = is.1.2 in
-    let end = time ++ codes "-" ++ revision ++ marked 43 p.4 in (
-      end,
+    let stamp = is.1.2 in (
+      time ++ codes "-" ++ revision ++ marked 43 p.4,
       marked 43 p.4,
-      end-of p.3 is.1.0 time revision p.4 stamp v.1,
+      end-of p.4 stamp v.1,
       elim is.1.1 [
         | inl first ↦
             let at = subst (λ f. IsStamp p.3 f time revision) first.3 stamp in
-            inl (first.0, p.0, v.0.0, first-of p version time revision v.2 first.1 first.2 at)
+            inl (first.0, p.0, v.0.0, first-of p v.2 first.1 first.2 at)
         | inr others ↦ elim others [
           | inl second ↦
               let at = subst (λ f. IsStamp p.3 f time revision) second.3 stamp in
-              let valid = pre-before p.3 second.1 time revision v.0.3 at in
-              inr (inl (
-                second.0,
-                p.0,
-                p.1,
-                p.2,
-                second.1,
-                (v.0.0, v.0.1, v.0.2),
-                (second.2, valid),
-                second-of p version second.1 time revision v.2 second.2 at,
-              ))
+              let tagged : IsBefore second.1 = (second.2, pre-before second.1 v.0.3 at) in
+              let spelled = second-of p second.1 v.2 second.2 at in
+              inr (inl (second.0, p.0, p.1, p.2, second.1, (v.0.0, v.0.1, v.0.2), tagged, spelled))
           | inr third ↦
               let at = subst (λ f. IsStamp p.3 f time revision) third.2 stamp in
-              inr (inr (
-                third.0,
-                p.0,
-                p.1,
-                p.2 - 1,
-                (v.0.0, v.0.1, omega (arith, v.0.2, third.1)),
-                third-of p version time revision v.2 third.1 at,
-              ))
+              let small : AreNumbers p.0 p.1 (p.2 - 1 + 1) = (v.0.0, v.0.1, omega (arith, v.0.2, third.1)) in
+              inr (inr (third.0, p.0, p.1, p.2 - 1, small, third-of p v.2 third.1 at))
         ]
       ],
     )
@@ -254,48 +226,22 @@ base-to version base is =
     let end = time ++ codes "-" ++ revision ++ marked 43 p.4 in
     elim is.1.2 [
       | inl second ↦
-          let valid = pre-before p.3 second.0 time revision v.0.3 second.2 in
-          let spelled = second-of p version second.0 time revision v.2 second.1 second.2 in (
-            end,
-            time,
-            revision,
-            marked 43 p.4,
-            end-of p.3 _ time revision p.4 second.2 v.1,
-            inl (
-              p.0,
-              p.1,
-              p.2,
-              second.0,
-              (v.0.0, v.0.1, v.0.2),
-              (second.1, valid),
-              spelled,
-              second.3 ∙ pre-text p.0 p.1 p.2 second.0 p.4 second.1,
-            ),
-          )
+          let tagged : IsBefore second.0 = (second.1, pre-before second.0 v.0.3 second.2) in
+          let spelled = second-of p second.0 v.2 second.1 second.2 in
+          let base_spelled = second.3 ∙ pre-text p.0 p.1 p.2 second.0 p.4 second.1 in
+          (end, time, revision, marked 43 p.4, end-of p.4 second.2 v.1, inl (p.0, p.1, p.2, second.0, (v.0.0, v.0.1, v.0.2), tagged, spelled, base_spelled))
       | inr third ↦
-          let spelled = third-of p version time revision v.2 third.0 third.1 in (
-            end,
-            time,
-            revision,
-            marked 43 p.4,
-            end-of p.3 _ time revision p.4 third.1 v.1,
-            inr (
-              p.0,
-              p.1,
-              p.2 - 1,
-              (v.0.0, v.0.1, omega (arith, v.0.2, third.0)),
-              spelled,
-              third.2 ∙ release-text p.0 p.1 (p.2 - 1) p.4,
-            ),
-          )
+          let small : AreNumbers p.0 p.1 (p.2 - 1 + 1) = (v.0.0, v.0.1, omega (arith, v.0.2, third.0)) in
+          let base_spelled = third.2 ∙ release-text p.0 p.1 (p.2 - 1) p.4 in
+          (end, time, revision, marked 43 p.4, end-of p.4 third.1 v.1, inr (p.0, p.1, p.2 - 1, small, third-of p v.2 third.0 third.1, base_spelled))
     ]
 
 -- ---- from texts to parts
 
 -- the stamp of a pre-release with this end
-stamp-of : (front end time revision build : List ℕ) → IsEnd end time revision build
+stamp-of : {end time revision build : List ℕ} (front : List ℕ) → IsEnd end time revision build
     → IsStamp (front ++ time ++ codes "-" ++ revision) front time revision
-stamp-of front end time revision build is = record {
+stamp-of front is = record {
   joined = refl;
   fourteen = is.fourteen;
   digits = is.digits;
@@ -303,76 +249,57 @@ stamp-of front end time revision build is = record {
   letters_or_digits = is.letters_or_digits;
 }
 
+-- the end, by the build that its last text is of
+end-joined : {end time revision build : List ℕ} → IsEnd end time revision build → (part : IsBuildOf build)
+    → end ≡ time ++ codes "-" ++ revision ++ marked 43 part.0
+end-joined {time = time} {revision = revision} is part = is.joined ∙ ap (time ++ codes "-" ++ revision ++◌) (sym part.3)
+
 -- a text of valid parts is a version with these parts
-version-of : (version : List ℕ) (q : Parts) → IsValid q → HasPlainBuild q → version ≡ version_text q
-    → IsVersion version × (parts_in version ≡ q)
-version-of version q valid plain spelled = ((q, valid, plain, spelled), parts-spelled version q valid spelled)
+version-of : {version : List ℕ} (q : Parts) → IsValid q → HasPlainBuild q → version ≡ version_text q → IsVersion version × (parts_in version ≡ q)
+version-of {version} q valid plain spelled = ((q, valid, plain, spelled), parts-spelled version q valid spelled)
 
-first-from : (version : List ℕ) (x : ℕ) (end time revision build part : List ℕ) → x < 2 ^ 64
-    → IsEnd end time revision build → (part ≡ []) ⊎ (part ≡ codes "incompatible") → is_build part ≡ true
-    → marked 43 part ≡ build → version ≡ first_text x end
-    → IsVersion version × (parts_in version ≡ (x, 0, 0, time ++ codes "-" ++ revision, part))
-first-from version x end time revision build part small is plain good same spelled =
+first-from : {version end time revision build : List ℕ} (x : ℕ) → x < 2 ^ 64 → IsEnd end time revision build → (part : IsBuildOf build)
+    → version ≡ first_text x end → IsVersion version × (parts_in version ≡ (x, 0, 0, time ++ codes "-" ++ revision, part.0))
+first-from {time = time} {revision = revision} x small is part spelled =
     let pre = time ++ codes "-" ++ revision in
-    let one = end-identifier time revision is.fourteen is.digits is.letters_or_digits in
-    let valid : is_pre_release pre ≡ true = pre-from pre (first-pre time revision one) in
-    version-of version (x, 0, 0, pre, part) (small, omega arith, omega arith, valid, good) plain
-    (spelled ∙ ap (first_text x) (is.joined ∙ ap (time ++ codes "-" ++ revision ++◌) (sym same))
-    ∙ sym (first-whole x time revision part is.fourteen))
+    let valid : is_pre_release pre ≡ true = pre-from pre (first-pre is) in
+    version-of (x, 0, 0, pre, part.0) (small, omega arith, omega arith, valid, part.2) part.1
+    (spelled ∙ ap (first_text x) (end-joined is part) ∙ sym (first-whole x time revision part.0 is.fourteen))
 
-second-from : (version : List ℕ) (x y z : ℕ) (before end time revision build part : List ℕ) → AreNumbers x y z
-    → IsBefore before → IsEnd end time revision build → (part ≡ []) ⊎ (part ≡ codes "incompatible")
-    → is_build part ≡ true → marked 43 part ≡ build → version ≡ second_text x y z before end
-    → IsVersion version × (parts_in version ≡ (x, y, z, before ++ codes ".0." ++ time ++ codes "-" ++ revision, part))
-second-from version x y z before end time revision build part small tagged is plain good same spelled =
+second-from : {version end time revision build : List ℕ} (x y z : ℕ) (before : List ℕ) → AreNumbers x y z
+    → IsBefore before → IsEnd end time revision build → (part : IsBuildOf build) → version ≡ second_text x y z before end
+    → IsVersion version × (parts_in version ≡ (x, y, z, before ++ codes ".0." ++ time ++ codes "-" ++ revision, part.0))
+second-from {time = time} {revision = revision} x y z before small tagged is part spelled =
     let pre = before ++ codes ".0." ++ time ++ codes "-" ++ revision in
-    let one = end-identifier time revision is.fourteen is.digits is.letters_or_digits in
-    let valid : is_pre_release pre ≡ true = pre-from pre (second-pre before time revision tagged.0 tagged.1 one) in
-    version-of version (x, y, z, pre, part) (small.0, small.1, small.2, valid, good) plain
-    (spelled ∙ ap (second_text x y z before) (is.joined ∙ ap (time ++ codes "-" ++ revision ++◌) (sym same))
-    ∙ sym (second-whole x y z before time revision part tagged.0))
+    let valid : is_pre_release pre ≡ true = pre-from pre (second-pre before tagged is) in
+    version-of (x, y, z, pre, part.0) (small.0, small.1, small.2, valid, part.2) part.1
+    (spelled ∙ ap (second_text x y z before) (end-joined is part) ∙ sym (second-whole x y z before time revision part.0 tagged.0))
 
-third-from : (version : List ℕ) (x y z : ℕ) (end time revision build part : List ℕ) → AreNumbers x y (z + 1)
-    → IsEnd end time revision build → (part ≡ []) ⊎ (part ≡ codes "incompatible")
-    → is_build part ≡ true → marked 43 part ≡ build → version ≡ third_text x y z end
-    → IsVersion version × (parts_in version ≡ (x, y, z + 1, codes "0." ++ time ++ codes "-" ++ revision, part))
-third-from version x y z end time revision build part small is plain good same spelled =
+third-from : {version end time revision build : List ℕ} (x y z : ℕ) → AreNumbers x y (z + 1)
+    → IsEnd end time revision build → (part : IsBuildOf build) → version ≡ third_text x y z end
+    → IsVersion version × (parts_in version ≡ (x, y, z + 1, codes "0." ++ time ++ codes "-" ++ revision, part.0))
+third-from {time = time} {revision = revision} x y z small is part spelled =
     let pre = codes "0." ++ time ++ codes "-" ++ revision in
-    let one = end-identifier time revision is.fourteen is.digits is.letters_or_digits in
-    let valid : is_pre_release pre ≡ true = pre-from pre (third-pre time revision one) in
-    version-of version (x, y, z + 1, pre, part) (small.0, small.1, small.2, valid, good) plain
-    (spelled ∙ ap (third_text x y z) (is.joined ∙ ap (time ++ codes "-" ++ revision ++◌) (sym same))
-    ∙ sym (third-whole x y z time revision part))
+    let valid : is_pre_release pre ≡ true = pre-from pre (third-pre is) in
+    version-of (x, y, z + 1, pre, part.0) (small.0, small.1, small.2, valid, part.2) part.1
+    (spelled ∙ ap (third_text x y z) (end-joined is part) ∙ sym (third-whole x y z time revision part.0))
 
 pseudo-from : (version : List ℕ) (form : ℕ) (time revision : List ℕ)
     → IsPseudoText version form time revision → IsVersion version × IsPseudo version form time revision
 pseudo-from version form time revision is =
-    let end = is.0 in
-    let build = is.1 in
-    let b = build-part build is.2.plain in
+    let b = build-part is.1 is.2.plain in
     elim is.3 [
-      | inl first ↦
-          let v = first-from version first.1 end time revision build b.0 first.2 is.2 b.1 b.2 b.3 first.3 in
-          (v.0, at (sym v.1) ([], inl (first.0, refl, refl, refl), stamp-of [] end time revision build is.2))
+      | inl f ↦
+          let v = first-from f.1 f.2 is.2 b f.3 in
+          (v.0, at (sym v.1) ([], inl (f.0, refl, refl, refl), stamp-of [] is.2))
       | inr others ↦ elim others [
         | inl f ↦
-            let v = second-from version f.1 f.2 f.3 f.4 end time revision build b.0 f.5 f.6 is.2 b.1 b.2 b.3 f.7 in (
-              v.0,
-              at (sym v.1) (
-                f.4 ++ codes ".0.",
-                inr (inl (f.0, f.4, f.6.0, refl)),
-                stamp-of (f.4 ++ codes ".0.") end time revision build is.2,
-              ),
-            )
+            let v = second-from f.1 f.2 f.3 f.4 f.5 f.6 is.2 b f.7 in
+            let front = f.4 ++ codes ".0." in
+            (v.0, at (sym v.1) (front, inr (inl (f.0, f.4, f.6.0, refl)), stamp-of front is.2))
         | inr f ↦
-            let v = third-from version f.1 f.2 f.3 end time revision build b.0 f.4 is.2 b.1 b.2 b.3 f.5 in (
-              v.0,
-              at (sym v.1) (
-                codes "0.",
-                inr (inr (f.0, omega arith, refl)),
-                stamp-of (codes "0.") end time revision build is.2,
-              ),
-            )
+            let v = third-from f.1 f.2 f.3 f.4 is.2 b f.5 in
+            (v.0, at (sym v.1) (codes "0.", inr (inr (f.0, omega arith, refl)), stamp-of (codes "0.") is.2))
       ]
     ]
   where
@@ -380,32 +307,24 @@ pseudo-from version form time revision is =
     HasFront q = (front : List ℕ) × IsFront form q.1 q.2 front × IsStamp q.3 front time revision
 
     at : {q r : Parts} → q ≡ r → HasFront q → HasFront r
-    at {q} {r} same has = subst HasFront same has
+    at same has = subst HasFront same has
 
 base-from : (version base : List ℕ) → IsBaseText version base → IsVersion version × IsBase version base
 base-from version base is =
-    let end = is.0 in
-    let time = is.1 in
-    let revision = is.2 in
-    let build = is.3 in
-    let b = build-part build is.4.plain in
+    let b = build-part is.3 is.4.plain in
     elim is.5 [
       | inl f ↦
-          let v = second-from version f.0 f.1 f.2 f.3 end time revision build b.0 f.4 f.5 is.4 b.1 b.2 b.3 f.6 in
-          let stamp = stamp-of (f.3 ++ codes ".0.") end time revision build is.4 in
+          let v = second-from f.0 f.1 f.2 f.3 f.4 f.5 is.4 b f.6 in
           let spelled : base ≡ version_text (f.0, f.1, f.2, f.3, b.0) =
-          f.7 ∙ ap (release f.0 f.1 f.2 ++ codes "-" ++ f.3 ++◌) (sym b.3)
-          ∙ sym (pre-text f.0 f.1 f.2 f.3 b.0 f.5.0) in
-          (v.0, at (sym v.1) (time, revision, inl (f.3, f.5.0, stamp, spelled)))
+          f.7 ∙ ap (release f.0 f.1 f.2 ++ codes "-" ++ f.3 ++◌) (sym b.3) ∙ sym (pre-text f.0 f.1 f.2 f.3 b.0 f.5.0) in
+          (v.0, at (sym v.1) (is.1, is.2, inl (f.3, f.5.0, stamp-of (f.3 ++ codes ".0.") is.4, spelled)))
       | inr f ↦
-          let v = third-from version f.0 f.1 f.2 end time revision build b.0 f.3 is.4 b.1 b.2 b.3 f.4 in
-          let stamp = stamp-of (codes "0.") end time revision build is.4 in
+          let v = third-from f.0 f.1 f.2 f.3 is.4 b f.4 in
           let less : f.2 + 1 - 1 ≡ f.2 = omega arith in
           let spelled : base ≡ version_text (f.0, f.1, f.2 + 1 - 1, [], b.0) =
-          f.5 ∙ ap (release f.0 f.1 f.2 ++◌) (sym b.3)
-          ∙ sym (release-text f.0 f.1 f.2 b.0)
+          f.5 ∙ ap (release f.0 f.1 f.2 ++◌) (sym b.3) ∙ sym (release-text f.0 f.1 f.2 b.0)
           ∙ ap (λ n. version_text (f.0, f.1, n, [], b.0)) (sym less) in
-          (v.0, at (sym v.1) (time, revision, inr (omega arith, stamp, spelled)))
+          (v.0, at (sym v.1) (is.1, is.2, inr (omega arith, stamp-of (codes "0.") is.4, spelled)))
     ]
   where
     HasBase : Parts → Type 0
@@ -415,7 +334,7 @@ base-from version base is =
         ⊎ ((0 < p.2) × IsStamp p.3 (codes "0.") time revision × (base ≡ version_text (p.0, p.1, p.2 - 1, [], p.4))))
 
     at : {q r : Parts} → q ≡ r → HasBase q → HasBase r
-    at {q} {r} same has = subst HasBase same has
+    at same has = subst HasBase same has
 
 -- ---- both ways
 

@@ -53,4 +53,4 @@ pub with-requires : goal.with-requires
 with-requires c =
     let joined = strip-joined c.in-Some.stamp.front.now (codes ".0.") c.in-Some-strip_suffix.before.now c.in-Some-strip_suffix.ensures.cases in
     let stamp = rw joined at c.in-Some.ensures.some in
-    pre-before c.pre.result.now c.in-Some-strip_suffix.before.now c.in-Some.stamp.time.now c.in-Some.stamp.revision.now c.pre.ensures.valid stamp
+    pre-before c.in-Some-strip_suffix.before.now c.pre.ensures.valid stamp
