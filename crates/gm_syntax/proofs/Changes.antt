@@ -126,7 +126,7 @@ opens_ends : (words : List Word) → opens_block words ≡ true → ends_open wo
 opens_ends (v ∷ w ∷ []) e = (and_both (is_bare v.kind) (is_mark 40 w) e).1
 opens_ends words e = cc
 
-class_anywhere : (inside : Bool) (words : List Word) (suffix : Option (List ℕ)) → 0 < length words
+pub class_anywhere : (inside : Bool) (words : List Word) (suffix : Option (List ℕ)) → 0 < length words
     → ends_open words ≡ false → begins_close words ≡ false → class_of inside words suffix ≡ Ok (Entry words suffix)
 class_anywhere true words suffix n e c = class_inside_entry words suffix n c e
 class_anywhere false words suffix n e c =

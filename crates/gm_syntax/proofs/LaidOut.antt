@@ -9,7 +9,7 @@ use Rattle.gm_syntax_words.specs.Words.{Word}
 use Rattle.gm_syntax_words.specs.LayoutParts.{LayoutState}
 use Rattle.gm_syntax.specs.Document.{Line, Blank, inside_after}
 use Rattle.gm_syntax.specs.Layout.{line_text, is_open, is_close, is_blank_line, state_after, layout_from, layout, initial_state, filled_lines, lines_text, begins_blank, ends_blank, gap_between, AreLaidOut, IsLayout}
-use Rattle.gm_syntax.proofs.LayoutLines.{gap_lines, layout_lines}
+use Rattle.gm_syntax.proofs.LayoutLines.{has_gap, gap_lines, layout_lines}
 use Rattle.gm_syntax.proofs.Stable.{and_both, filled_blank, filled_other, filled_gap, filled_again}
 
 filled_none : filled_lines [] ≡ []
@@ -43,7 +43,7 @@ laid_text b [] = refl
 laid_text b (l ∷ ls) =
     elim (cases_Bool (is_blank_line l)) [
       | inl k ↦ rw k (laid_text (record b { gap_pending = true }) ls)
-      | inr k ↦ rw k (laid_text_by (b.gap_pending && (b.gap_allowed && not (is_close l))) b.inside l
+      | inr k ↦ rw k (laid_text_by (has_gap b l) b.inside l
           (layout_from (state_after b l) ls) (layout_lines (state_after b l) ls) (laid_text (state_after b l) ls))
     ]
 
@@ -75,7 +75,7 @@ last_filled b [] = refl
 last_filled b (l ∷ ls) =
     elim (cases_Bool (is_blank_line l)) [
       | inl k ↦ rw k (last_filled (record b { gap_pending = true }) ls)
-      | inr k ↦ rw k (last_past (b.gap_pending && (b.gap_allowed && not (is_close l))) l (layout_lines (state_after b l) ls) k
+      | inr k ↦ rw k (last_past (has_gap b l) l (layout_lines (state_after b l) ls) k
           (last_filled (state_after b l) ls))
     ]
 
@@ -97,7 +97,7 @@ layout_lines_split b [] rest line k = record {
   before = gap_lines b line;
   behind = b;
   parts = rw k refl;
-  same = gap_filled (b.gap_pending && (b.gap_allowed && not (is_close line)));
+  same = gap_filled (has_gap b line);
 }
 layout_lines_split b (l ∷ front) rest line k =
     elim (cases_Bool (is_blank_line l)) [
@@ -110,7 +110,7 @@ layout_lines_split b (l ∷ front) rest line k =
             before = gap_lines b l ++ l ∷ s.before;
             behind = s.behind;
             parts = rw (j, s.parts) (sym (append_assoc (gap_lines b l) (l ∷ s.before) (line ∷ layout_lines (state_after s.behind line) rest)));
-            same = filled_gap (b.gap_pending && (b.gap_allowed && not (is_close l))) l s.before j ∙ rw (j, s.same) refl;
+            same = filled_gap (has_gap b l) l s.before j ∙ rw (j, s.same) refl;
           }
     ]
 

@@ -24,29 +24,36 @@ use Rattle.gm_syntax.proofs.Texts.{text_line, text_fault, text_end, text_open, n
 abbrev pub unread : List ℕ → List ℕ → Place → Unread
 unread source rest at = record { source = source; rest = rest; at = at }
 
+-- a line was cut off the unread text
+pub record IsCut (left : Unread) (front next : List ℕ) : Type 0 where
+  pub lines : lines_of left.rest ≡ front ∷ lines_of next
+  pub no_line_feed : HasNoLineFeed front
+  pub shorter : length next < length left.rest
+  pub in_range : length front + length next ≤ length left.rest
+  pub front_is : (more : List ℕ) × (left.rest ≡ front ++ more)
+  pub suffix : next ≡ drop (length left.rest - length next) left.rest
+  pub line_feed : 0 < length next → length left.rest ≡ length front + 1 + length next
+
 module _ {left : Unread} {lines : List (Line Placed)} (so : HasRead left lines) where
   -- after one more line
-  pub read_more : (front next : List ℕ) (l : Line Placed) (at : Place) → at ≡ after left.at (plain l)
-      → lines_of left.rest ≡ front ∷ lines_of next → HasNoLineFeed front
-      → length next < length left.rest → length front + length next ≤ length left.rest → ((more : List ℕ) × (left.rest ≡ front ++ more))
-      → next ≡ drop (length left.rest - length next) left.rest → (0 < length next → length left.rest ≡ length front + 1 + length next)
+  pub read_more : (front next : List ℕ) (l : Line Placed) (at : Place) → at ≡ after left.at (plain l) → IsCut left front next
       → IsOnlyLine left.at.inside front (Ok (plain l))
       → ((source more : List ℕ) → drop (length left.source - length left.rest) source ≡ front ++ more
       → AreSlicesBetween source (length left.source - length left.rest)
       (length left.source - length left.rest + length front) (tokens_of l))
       → AreNumbered left.at.number (tokens_of l) → FillsLine (length left.source - length left.rest) front l
       → HasRead (unread left.source next at) (lines ++ l ∷ [])
-  read_more front next l at is_after cut no_feed shorter within begins is_rest feed only stands numbers fills = record {
+  read_more front next l at is_after cut only stands numbers fills = record {
     is_text = so.is_text;
     progress = rw (map_push plain lines l)
         (rw is_after
-        (text_line so.progress front next (plain l) cut no_feed only));
-    fits = omega (arith, shorter, so.fits);
-    suffix = suffix_of_suffix left.source left.rest next so.fits (omega (arith, shorter)) so.suffix is_rest;
+        (text_line so.progress front next (plain l) cut.lines cut.no_line_feed only));
+    fits = omega (arith, cut.shorter, so.fits);
+    suffix = suffix_of_suffix left.source left.rest next so.fits (omega (arith, cut.shorter)) so.suffix cut.suffix;
     counted = omega (arith, ap (λ p. p.number) is_after, number_after left.at (plain l), so.counted, length-append lines (l ∷ []));
-    placed = line_stands left.source left.rest front next lines l so.fits within so.suffix begins so.placed stands;
+    placed = line_stands left.source left.rest front next lines l so.fits cut.in_range so.suffix cut.front_is so.placed stands;
     numbered = lines_numbered_push 1 lines l so.numbered (rw (← so.counted) numbers);
-    filled = lines_fill_more left.source left.rest front next lines l so.fits so.filled cut feed fills;
+    filled = lines_fill_more left.source left.rest front next lines l so.fits so.filled cut.lines cut.line_feed fills;
   }
 
   -- the next line has a fault

@@ -1,5 +1,5 @@
 -- Lines that are read without a list of words.
-use Rattle.std.proofs.Common.{◌≡◌, ℕ, ◌+◌, ◌-◌, ◌<◌, ◌≤◌, Bool, true, false, List, [], ◌∷◌, ◌++◌, length, get_or, take, drop, Option, Some, None, Ok, inl, inr, IsUtf8, refl, sym, ap, ◌∙◌, append_assoc, arith}
+use Rattle.std.proofs.Common.{◌≡◌, ℕ, ◌+◌, ◌-◌, ◌<◌, Bool, true, false, List, [], ◌∷◌, ◌++◌, length, get_or, take, drop, Option, Some, None, Ok, inl, inr, IsUtf8, refl, sym, ap, ◌∙◌, append_assoc, arith}
 use Rattle.std.specs.Prelude.{IsTrue, ◌⊎◌}
 use Rattle.std.specs.Str.{IsCharBoundary}
 use Rattle.std.proofs.iter.FirstChar.{beside_ascii}
@@ -11,7 +11,6 @@ use Rattle.gm_syntax_words.specs.Bytes.{is_blank, is_bracket_or_comma, is_plain}
 use Rattle.gm_syntax_words.specs.Bare.{bare_len}
 use Rattle.gm_syntax_words.specs.Private.Scan.{piece_of, trim_end}
 use Rattle.gm_syntax_words.specs.Words.{Word, AllBlank, IsBare}
-use Rattle.gm_syntax_words.specs.Lines.{lines_of, HasNoLineFeed}
 use Rattle.gm_syntax_words.specs.Tokens.{Placed, words_of, AreSlicesBetween, AreNumbered}
 use Rattle.gm_syntax_words.specs.LineText.{IsTail, FillText}
 use Rattle.gm_syntax_words.specs.Spelling.{EndsLine, Reads, ending_of}
@@ -23,16 +22,17 @@ use Rattle.gm_syntax_words.proofs.WordPlaces.{stand_take}
 use Rattle.gm_syntax_words.proofs.Progress.{Progress, progress_start, progress_blank, progress_word, progress_end, progress_comment, word_boundary, word_shaped, blank_boundary}
 use Rattle.gm_syntax_words.proofs.Steps.{plain_piece}
 use Rattle.gm_syntax.specs.Private.Reader.{IsOnlyLine}
-use Rattle.gm_syntax.specs.Document.{Line, Blank, Open, Close, Entry, class_of, Place}
+use Rattle.gm_syntax.specs.Document.{Line, Blank, Open, Close, Entry, ends_open, begins_close, class_of, Place}
 use Rattle.gm_syntax.specs.LineViews.{plain}
 use Rattle.gm_syntax.specs.LineReading.{Unread, HasRead}
-use Rattle.gm_syntax.specs.SimpleLines.{bare_word, pair_line, triple_line, IsPairRead, IsTripleRead, IsOpeningRead, IsSimpleRead}
+use Rattle.gm_syntax.specs.SimpleLines.{bare_word, IsPairRead, IsTripleRead, IsOpeningRead, IsSimpleRead}
 use Rattle.gm_syntax.specs.Private.SimpleLines.{bare_at, IsWordsText, IsOpeningEnd, IsSimpleText, after_simple}
 use Rattle.gm_syntax.specs.declared.simple_line.SimpleLine.{SimpleLine}
 use Rattle.gm_syntax.specs.declared.simple_line.SimpleLine.TheVariants as simple
-use Rattle.gm_syntax.proofs.LineReading.{unread, read_more}
+use Rattle.gm_syntax.proofs.LineReading.{IsCut, unread, read_more}
 use Rattle.gm_syntax.proofs.OneLine.{one_line}
-use Rattle.gm_syntax.proofs.Classing.{class_blank}
+use Rattle.gm_syntax.proofs.Classing.{class_blank, class_close}
+use Rattle.gm_syntax.proofs.Changes.{class_anywhere}
 use Rattle.gm_syntax.proofs.Stable.{mark}
 
 -- ---- blanks
@@ -93,19 +93,19 @@ plain_word_end text utf8 begins = word_boundary (progress_start text) utf8 Bare 
 abbrev pub Sofar : List ℕ → List Word → List ℕ → Type 0
 Sofar line words rest = (t : Bool) × Progress line words t rest
 
-pub sofar_blanks : (line : List ℕ) (words : List Word) (text rest : List ℕ) → Sofar line words text → IsAfterBlanks text rest → Sofar line words rest
-sofar_blanks line words text rest (t, p) (blanks, are, parts) = by_blanks blanks t are (rw (← parts) p)
+pub sofar_blanks : {line : List ℕ} {words : List Word} {text rest : List ℕ} → Sofar line words text → IsAfterBlanks text rest → Sofar line words rest
+sofar_blanks {line} {words} {rest} (t, p) (blanks, are, parts) = by_blanks blanks t are (rw (← parts) p)
   where
     by_blanks : (blanks : List ℕ) (t : Bool) → AllBlank blanks → Progress line words t (blanks ++ rest) → Sofar line words rest
     by_blanks [] t are p = (t, p)
     by_blanks (b ∷ blanks) t are p = by_blanks blanks false are.1 (progress_blank p (piece_blank t b (blanks ++ rest) are.0))
 
 -- a bare word and the blanks after it
-pub sofar_word : (line : List ℕ) (words : List Word) (text word rest : List ℕ) → Sofar line words text
+pub sofar_word : {line : List ℕ} {words : List Word} {text rest : List ℕ} (word : List ℕ) → Sofar line words text
     → ((t : Bool) → piece_of t text ≡ piece.Word Bare (length word))
     → ((blanks : List ℕ) × AllBlank blanks × (text ≡ word ++ (blanks ++ rest)))
     → Sofar line (words ++ bare_word word ∷ []) rest
-sofar_word line words text word rest (t, p) piece (blanks, are, parts) =
+sofar_word {line} {words} {text} {rest} word (t, p) piece (blanks, are, parts) =
     let after = blanks ++ rest in
     let front : take (length word) text ≡ word = rw parts (take_at word after (length word) refl) in
     let back : drop (length word) text ≡ after = rw parts (drop_at word after (length word) refl) in
@@ -113,15 +113,14 @@ sofar_word line words text word rest (t, p) piece (blanks, are, parts) =
     rw (← front)
     (rw (← back)
     (progress_word p Bare (length word) (piece t))) in
-    sofar_blanks line (words ++ bare_word word ∷ []) after rest (true, past) (blanks, are, refl)
+    sofar_blanks (true, past) (blanks, are, refl)
 
 -- the first word, with blanks before it
-pub sofar_first : (line start word rest : List ℕ) → IsAfterBlanks line start
+pub sofar_first : {line start rest : List ℕ} (word : List ℕ) → IsAfterBlanks line start
     → ((t : Bool) → piece_of t start ≡ piece.Word Bare (length word))
     → ((blanks : List ℕ) × AllBlank blanks × (start ≡ word ++ (blanks ++ rest)))
     → Sofar line (bare_word word ∷ []) rest
-sofar_first line start word rest begins piece parts =
-    sofar_word line [] start word rest (sofar_blanks line [] line start (false, progress_start line) begins) piece parts
+sofar_first {line} word begins piece parts = sofar_word word (sofar_blanks (false, progress_start line) begins) piece parts
 
 bracket_opening : is_bracket_or_comma 40 ≡ true
 unfolding is_bracket_or_comma
@@ -131,25 +130,22 @@ bracket_closing : is_bracket_or_comma 41 ≡ true
 unfolding is_bracket_or_comma
 bracket_closing = refl
 
-sofar_mark : (line : List ℕ) (words : List Word) (text : List ℕ) (byte : ℕ) (rest : List ℕ) → Sofar line words text
+sofar_mark : {line : List ℕ} {words : List Word} {text : List ℕ} {byte : ℕ} {rest : List ℕ} → Sofar line words text
     → is_bracket_or_comma byte ≡ true → text ≡ byte ∷ rest → Sofar line (words ++ mark byte ∷ []) rest
-sofar_mark line words text byte rest (t, p) bracket parts =
+sofar_mark {line} {words} {byte} {rest} (t, p) bracket parts =
     let here : Progress line words t (byte ∷ rest) = rw (← parts) p in
     (false, progress_word here Mark 1 (piece_bracket t byte rest bracket))
 
 -- the line ends after these words
-pub sofar_end : (line : List ℕ) (words : List Word) (rest : List ℕ) → Sofar line words rest → (rest ≡ []) ⊎ ((more : List ℕ) × (rest ≡ 47 ∷ 47 ∷ more))
+pub sofar_end : {line : List ℕ} {words : List Word} {rest : List ℕ} → Sofar line words rest → (rest ≡ []) ⊎ ((more : List ℕ) × (rest ≡ 47 ∷ 47 ∷ more))
     → (comment : Option (List ℕ)) × IsOnlyReading line words (ending_of comment)
-sofar_end line words rest (t, p) (inl e) = (None, progress_end p (rw e (piece_end t)))
-sofar_end line words rest (t, p) (inr (more, e)) = (Some (trim_end rest), progress_comment p (rw e (piece_comment t more)))
+sofar_end (t, p) (inl e) = (None, progress_end p (rw e (piece_end t)))
+sofar_end {rest} (t, p) (inr (more, e)) = (Some (trim_end rest), progress_comment p (rw e (piece_comment t more)))
 
 -- an opening parenthesis ends the line
-pub sofar_opening : (line : List ℕ) (words : List Word) (text : List ℕ) → Sofar line words text → IsOpeningEnd text
+pub sofar_opening : {line : List ℕ} {words : List Word} {text : List ℕ} → Sofar line words text → IsOpeningEnd text
     → (comment : Option (List ℕ)) × IsOnlyReading line (words ++ mark 40 ∷ []) (ending_of comment)
-sofar_opening line words text so (blanks, rest, are, parts, ends) =
-    let all = words ++ mark 40 ∷ [] in
-    let past = sofar_mark line words text 40 (blanks ++ rest) so bracket_opening parts in
-    sofar_end line all rest (sofar_blanks line all (blanks ++ rest) rest past (blanks, are, refl)) ends
+sofar_opening so (blanks, rest, are, parts, ends) = sofar_end (sofar_blanks (sofar_mark so bracket_opening parts) (blanks, are, refl)) ends
 
 -- ---- the words' places
 
@@ -270,36 +266,9 @@ opening_filled first number text verb rest comment begins (more, b, others) =
 
 -- ---- one more line
 
-pair_class : (inside : Bool) (first second : List ℕ) (comment : Option (List ℕ))
-    → class_of inside (bare_word first ∷ bare_word second ∷ []) comment ≡ Ok (pair_line first second comment)
-unfolding class_of
-pair_class true first second comment = refl
-pair_class false first second comment = refl
-
-triple_class : (inside : Bool) (first second third : List ℕ) (comment : Option (List ℕ))
-    → class_of inside (bare_word first ∷ bare_word second ∷ bare_word third ∷ []) comment
-    ≡ Ok (triple_line first second third comment)
-unfolding class_of
-triple_class true first second third comment = refl
-triple_class false first second third comment = refl
-
 opening_class : (verb : List ℕ) (comment : Option (List ℕ)) → class_of false (bare_word verb ∷ mark 40 ∷ []) comment ≡ Ok (Open (bare_word verb) comment)
 unfolding class_of
 opening_class verb comment = refl
-
-closing_class : class_of true (mark 41 ∷ []) None ≡ Ok (Close None)
-unfolding class_of
-closing_class = refl
-
--- a line was cut off the unread text
-pub record IsCut (left : Unread) (front next : List ℕ) : Type 0 where
-  pub lines : lines_of left.rest ≡ front ∷ lines_of next
-  pub no_line_feed : HasNoLineFeed front
-  pub shorter : length next < length left.rest
-  pub in_range : length front + length next ≤ length left.rest
-  pub front_is : (more : List ℕ) × (left.rest ≡ front ++ more)
-  pub suffix : next ≡ drop (length left.rest - length next) left.rest
-  pub line_feed : 0 < length next → length left.rest ≡ length front + 1 + length next
 
 module _ (left : Unread) (lines : List (Line Placed)) (front next : List ℕ) (so : HasRead left lines) (cut : IsCut left front next) where
   abbrev offset : ℕ
@@ -308,35 +277,34 @@ module _ (left : Unread) (lines : List (Line Placed)) (front next : List ℕ) (s
   -- after a line that is these words alone
   words_read : (words : List Word) (comment : Option (List ℕ)) (at : Place)
       → at ≡ record left.at { number = left.at.number + 1 }
-      → class_of left.at.inside words comment ≡ Ok (Entry words comment) → IsOnlyReading front words (ending_of comment)
+      → 0 < length words → ends_open words ≡ false → begins_close words ≡ false → IsOnlyReading front words (ending_of comment)
       → (line : Line Placed) × (suffix : Option (List ℕ)) × (plain line ≡ Entry words suffix) × HasRead (unread left.source next at) (lines ++ line ∷ [])
-  words_read words comment at is class reading =
+  words_read words comment at is filled opens closes reading =
       let w = place_words offset left.at.number None front words comment reading.reads in
       let l : Line Placed = Entry w.tokens comment in
       let same : plain l ≡ Entry words comment = rw w.are refl in
       let only : IsOnlyLine left.at.inside front (Ok (plain l)) =
       rw same
-      (one_line left.at.inside front words comment reading (Entry words comment) class) in (
+      (one_line left.at.inside front words comment reading (Entry words comment)
+      (class_anywhere left.at.inside words comment filled opens closes)) in (
         l,
         comment,
         same,
-        read_more so front next l at is cut.lines cut.no_line_feed cut.shorter cut.in_range cut.front_is cut.suffix
-            cut.line_feed only (λ source more whole. stand_filled source offset front more w.tokens comment w.fill
+        read_more so front next l at is cut only (λ source more whole. stand_filled source offset front more w.tokens comment w.fill
             whole) w.numbered w.fill,
       )
 
   -- after a line that is two bare words
   pair_read : (first second : List ℕ) (at : Place) → at ≡ record left.at { number = left.at.number + 1 }
       → IsWordsText front (bare_word first ∷ bare_word second ∷ []) → IsPairRead (unread left.source next at) lines first second
-  pair_read first second at is (comment, reading) = words_read (bare_word first ∷ bare_word second ∷ []) comment at is
-      (pair_class left.at.inside first second comment) reading
+  pair_read first second at is (comment, reading) =
+      words_read (bare_word first ∷ bare_word second ∷ []) comment at is (omega arith) refl refl reading
 
   -- after a line that is three bare words
   triple_read : (first second third : List ℕ) (at : Place) → at ≡ record left.at { number = left.at.number + 1 }
       → IsWordsText front (bare_word first ∷ bare_word second ∷ bare_word third ∷ []) → IsTripleRead (unread left.source next at) lines first second third
   triple_read first second third at is (comment, reading) =
-      words_read (bare_word first ∷ bare_word second ∷ bare_word third ∷ []) comment at is
-      (triple_class left.at.inside first second third comment) reading
+      words_read (bare_word first ∷ bare_word second ∷ bare_word third ∷ []) comment at is (omega arith) refl refl reading
 
   -- after a line that opens a block
   opening_read : (verb : List ℕ) (token : Placed) (at : Place) → left.at.inside ≡ false
@@ -354,8 +322,7 @@ module _ (left : Unread) (lines : List (Line Placed)) (front next : List ℕ) (s
       (one_line false front words comment reading (Open (bare_word verb) comment) (opening_class verb comment)) in (
         comment,
         rw placed
-            (read_more so front next l at is cut.lines cut.no_line_feed cut.shorter cut.in_range cut.front_is cut.suffix
-            cut.line_feed only
+            (read_more so front next l at is cut only
             (λ source more whole. stand_take source offset (offset + length front) 1 ts
             (stand_filled source offset front more ts comment f.fill whole)) (refl, tt)
             (f.opening, f.spelled, f.fill)),
@@ -367,15 +334,14 @@ module _ (left : Unread) (lines : List (Line Placed)) (front next : List ℕ) (s
       → HasRead (unread left.source next at) (lines ++ Close None ∷ [])
   closing_read at inside is closing =
       let words : List Word = mark 41 ∷ [] in
-      let so_far : Sofar front words [] = sofar_mark front [] front 41 [] (false, progress_start front) bracket_closing closing in
+      let so_far : Sofar front words [] = sofar_mark (false, progress_start front) bracket_closing closing in
       let reading : IsOnlyReading front words (ending_of None) = progress_end so_far.1 (piece_end so_far.0) in
       let w = place_words offset left.at.number None front words None reading.reads in
       let at_mark : ℕ = offset + length reading.reads.1.blanks in
       let closing_mark : Placed = record { word = mark 41; line = left.at.number; span = Some (record { first = at_mark; after = at_mark + 1 }) } in
       let only : IsOnlyLine left.at.inside front (Ok (Close None)) =
-      rw inside (one_line true front words None reading (Close None) closing_class) in
-      read_more so front next (Close None) at is cut.lines cut.no_line_feed cut.shorter cut.in_range cut.front_is
-      cut.suffix cut.line_feed only (λ source more whole. omega arith) tt (closing_mark, refl, w.fill)
+      rw inside (one_line true front words None reading (Close None) (class_close words None refl (omega arith))) in
+      read_more so front next (Close None) at is cut only (λ source more whole. omega arith) tt (closing_mark, refl, w.fill)
 
   -- after an empty line
   blank_read : (at : Place) → at ≡ record left.at { number = left.at.number + 1 } → front ≡ [] → HasRead (unread left.source next at) (lines ++ Blank ∷ [])
@@ -383,8 +349,7 @@ module _ (left : Unread) (lines : List (Line Placed)) (front next : List ℕ) (s
       let only =
       one_line left.at.inside front [] None (progress_end (progress_start front)
       (rw empty (piece_end false))) Blank (class_blank left.at.inside) in
-      read_more so front next Blank at is cut.lines cut.no_line_feed cut.shorter cut.in_range cut.front_is cut.suffix
-      cut.line_feed only (λ source more whole. omega arith) tt (rw empty tt)
+      read_more so front next Blank at is cut only (λ source more whole. omega arith) tt (rw empty tt)
 
   -- after a simple line
   pub simple_read : (verb : List ℕ) (line : SimpleLine) (at : Place) → at ≡ after_simple left.at line → IsSimpleText left.at offset front verb line

@@ -1,7 +1,7 @@
 -- What the scanner's piece implies about the text, and what part of the text decides the piece.
 use Rattle.std.proofs.Common.{◌≡◌, ℕ, suc, ◌+◌, ◌-◌, ◌<◌, Bool, true, false, eqb, List, [], ◌∷◌, ◌++◌, length, get_or, Result, Ok, Err, Option, Some, None, refl, sym, ap, ◌∙◌, append_assoc, arith, inl, inr}
 use Rattle.std.specs.Prelude.{◌&&◌, ◌||◌, ◌⊎◌, ⊤}
-use Rattle.std.proofs.lemmas.Bool.{eq-eqb, ne_eqb, cases_Bool, cases_eq, false≢true, true≢false}
+use Rattle.std.proofs.lemmas.Bool.{ne_eqb, cases_Bool, cases_eq, false≢true, true≢false}
 use Rattle.std.proofs.lemmas.List.{length-append}
 use Rattle.gm_syntax_words.specs.declared.fault.SyntaxKind.{SyntaxKind}
 use Rattle.gm_syntax_words.specs.declared.fault.SyntaxKind.TheVariants.{BadByte, OpenString, BadEscape, BlockComment}
@@ -16,7 +16,7 @@ use Rattle.gm_syntax_words.specs.Bare.{begins, opens_comment, bare_len}
 use Rattle.gm_syntax_words.specs.Private.Scan.{quoted_len, raw_len, text_piece, piece_of}
 use Rattle.gm_syntax_words.proofs.Classes.{word_not_bracket, bracket_not_blank, quote_not_others, bad_not_others, word_not_others, other_ascii, slash_word, equals_word, quote_quote, grave_quote}
 use Rattle.gm_syntax_words.proofs.Steps.{bare_cons}
-use Rattle.gm_syntax_words.proofs.Scanned.{bare_front, QuotedFront, quoted_front, RawFront, raw_front}
+use Rattle.gm_syntax_words.proofs.Scanned.{opens_cases, arrow_is, arrow_true, bare_front, QuotedFront, quoted_front, RawFront, raw_front}
 
 abbrev pub make_word : Kind → List ℕ → Word
 make_word kind text = record { kind = kind; spelling = text }
@@ -186,10 +186,7 @@ stop_ascii (b ∷ after) z =
     ]
 
 no_arrow_at : (b : ℕ) (bytes : List ℕ) (rest : List ℕ) → (eqb b 61 && begins 62 bytes) ≡ false → b ∷ bytes ≡ 61 ∷ 62 ∷ rest → ⊥
-no_arrow_at b bytes rest h e =
-    let first : b ≡ 61 = cc in
-    let second : bytes ≡ 62 ∷ rest = cc in
-    true≢false (sym (ap (λ x. eqb x 61 && begins 62 bytes) first ∙ ap (λ t. begins 62 t) second) ∙ h)
+no_arrow_at b bytes rest h e = true≢false (sym (arrow_true rest (b ∷ bytes) e) ∙ h)
 
 bare_facts : (before : Option Word) (b : ℕ) (bytes : List ℕ) → Stops before (b ∷ bytes) → is_word_byte b ≡ true
     → opens_comment (b ∷ bytes) ≡ false → (eqb b 61 && begins 62 bytes) ≡ false
@@ -264,44 +261,18 @@ word_from_others : (b : ℕ) → is_blank b ≡ false → is_bracket_or_comma b 
 unfolding is_word_byte
 word_from_others b p q r s = rw (p, q, r, s) refl
 
-begins_cases : (d : ℕ) (bytes : List ℕ) → ((more : List ℕ) × (bytes ≡ d ∷ more)) ⊎ (begins d bytes ≡ false)
-begins_cases d [] = inr refl
-begins_cases d (c ∷ bytes) = elim (cases_eq c d) [ inl e ↦ inl (bytes, rw e refl) | inr n ↦ inr (ne_eqb c d n) ]
-
 -- the cases of a byte that may be in a bare word
 word_byte_facts : (t : Bool) (before : Option Word) (b : ℕ) (bytes : List ℕ) → Stops before (b ∷ bytes)
     → is_word_byte b ≡ true → Facts (piece_of t (b ∷ bytes)) before (b ∷ bytes)
 word_byte_facts t before b bytes stops word =
     elim (cases_Bool (opens_comment (b ∷ bytes))) [
-      | inl opens ↦ by_comment (decode b bytes opens)
+      | inl opens ↦ by_comment (opens_cases b bytes opens)
       | inr opens ↦ elim (cases_Bool (eqb b 61 && begins 62 bytes)) [
         | inr arrow ↦ rw (piece_bare t b bytes word opens arrow) (bare_facts before b bytes stops word opens arrow)
-        | inl arrow ↦ by_arrow opens (decode_arrow b bytes arrow)
+        | inl arrow ↦ by_arrow opens (arrow_is (b ∷ bytes) arrow)
       ]
     ]
   where
-    decode : (b : ℕ) (bytes : List ℕ) → opens_comment (b ∷ bytes) ≡ true
-        → ((more : List ℕ) × (b ∷ bytes ≡ 47 ∷ 47 ∷ more)) ⊎ ((more : List ℕ) × (b ∷ bytes ≡ 47 ∷ 42 ∷ more))
-    decode b bytes e = elim (cases_eq b 47) [
-      | inr n ↦ absurd (false≢true (sym (rw (ne_eqb b 47 n) refl) ∙ e))
-      | inl s ↦ elim (begins_cases 47 bytes) [
-        | inl m ↦ inl (m.0, rw (s, m.1) refl)
-        | inr n ↦ elim (begins_cases 42 bytes) [
-          | inl m ↦ inr (m.0, rw (s, m.1) refl)
-          | inr k ↦ absurd (false≢true (sym (rw (eq-eqb b 47 s, n, k) refl) ∙ e))
-        ]
-      ]
-    ]
-
-    decode_arrow : (b : ℕ) (bytes : List ℕ) → (eqb b 61 && begins 62 bytes) ≡ true → (more : List ℕ) × (b ∷ bytes ≡ 61 ∷ 62 ∷ more)
-    decode_arrow b bytes e = elim (cases_eq b 61) [
-      | inr n ↦ absurd (false≢true (sym (rw (ne_eqb b 61 n) refl) ∙ e))
-      | inl s ↦ elim (begins_cases 62 bytes) [
-        | inl m ↦ (m.0, rw (s, m.1) refl)
-        | inr n ↦ absurd (false≢true (sym (rw (eq-eqb b 61 s, n) refl) ∙ e))
-      ]
-    ]
-
     by_comment : ((more : List ℕ) × (b ∷ bytes ≡ 47 ∷ 47 ∷ more)) ⊎ ((more : List ℕ) × (b ∷ bytes ≡ 47 ∷ 42 ∷ more))
         → Facts (piece_of t (b ∷ bytes)) before (b ∷ bytes)
     by_comment (inl m) = rw (m.1, piece_comment t m.0) (not_after_slash before (47 ∷ m.0) (rw (← m.1) stops), m.0, refl)

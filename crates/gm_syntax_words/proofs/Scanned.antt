@@ -1,17 +1,40 @@
 -- The bare words and strings that the scanner finds have their shapes, and it finds them wherever they are.
-use Rattle.std.proofs.Common.{◌≡◌, ℕ, suc, ◌+◌, true, false, List, [], ◌∷◌, ◌++◌, length, Result, Ok, Err, refl, sym, ap, ◌∙◌, append_assoc, arith, inl, inr}
-use Rattle.std.specs.Prelude.{◌≢◌, ◌⊎◌, IsTrue}
+use Rattle.std.proofs.Common.{◌≡◌, ℕ, suc, ◌+◌, true, false, eqb, List, [], ◌∷◌, ◌++◌, length, Result, Ok, Err, refl, sym, ap, ◌∙◌, append_assoc, arith, inl, inr}
+use Rattle.std.specs.Prelude.{◌||◌, ◌≢◌, ◌⊎◌, IsTrue}
 use Rattle.std.specs.List.{AllByRecursion}
-use Rattle.std.proofs.lemmas.Bool.{eq-eqb, ne_eqb, cases_Bool, cases_eq, false≢true}
+use Rattle.std.proofs.lemmas.Bool.{and_parts, eqb-true, eq-eqb, ne_eqb, cases_Bool, cases_eq, false≢true}
 use Rattle.std.proofs.lemmas.List.{length-append}
 use Rattle.gm_syntax_words.specs.declared.fault.SyntaxKind.{SyntaxKind}
 use Rattle.gm_syntax_words.specs.declared.fault.SyntaxKind.TheVariants.{OpenString, BadEscape}
 use Rattle.gm_syntax_words.specs.Bytes.{is_word_byte}
 use Rattle.gm_syntax_words.specs.Words.{OpensComment, HoldsNoComment, escaped_value, HasNoGrave}
-use Rattle.gm_syntax_words.specs.Bare.{begins, opens_comment, bare_len}
+use Rattle.gm_syntax_words.specs.Bare.{begins, opens_comment, begins_arrow, bare_len}
 use Rattle.gm_syntax_words.specs.Private.Scan.{quoted_len, raw_len, longer}
 use Rattle.gm_syntax_words.proofs.Classes.{star_word}
 use Rattle.gm_syntax_words.proofs.Steps.{bare_cons, bare_stop_word, bare_stop_comment, bare_nil, longer_none, longer_longer, is_escaped, quoted_end, quoted_plain, quoted_escape, quoted_bad, quoted_nil, quoted_cut, raw_cons, raw_end, raw_nil, escape_is, escape_is_not}
+
+-- ---- the first bytes of a text
+
+first_two : (b c : ℕ) (bytes : List ℕ) (d : ℕ) → eqb b c ≡ true → begins d bytes ≡ true
+    → (more : List ℕ) × (b ∷ bytes ≡ c ∷ d ∷ more)
+first_two b c [] d first second = cc
+first_two b c (x ∷ bytes) d first second = (bytes, rw (eqb-true b c first, eqb-true x d second) refl)
+
+pub opens_cases : (b : ℕ) (bytes : List ℕ) → opens_comment (b ∷ bytes) ≡ true
+    → ((more : List ℕ) × (b ∷ bytes ≡ 47 ∷ 47 ∷ more)) ⊎ ((more : List ℕ) × (b ∷ bytes ≡ 47 ∷ 42 ∷ more))
+opens_cases b bytes e =
+    let p = and_parts (eqb b 47) (begins 47 bytes || begins 42 bytes) e in
+    elim (cases_Bool (begins 47 bytes)) [
+      | inl s ↦ inl (first_two b 47 bytes 47 p.0 s)
+      | inr n ↦ inr (first_two b 47 bytes 42 p.0 (rw n at p.1))
+    ]
+
+pub arrow_is : (text : List ℕ) → begins_arrow text ≡ true → (rest : List ℕ) × (text ≡ 61 ∷ 62 ∷ rest)
+arrow_is [] e = cc
+arrow_is (b ∷ bytes) e = let p = and_parts (eqb b 61) (begins 62 bytes) e in first_two b 61 bytes 62 p.0 p.1
+
+pub arrow_true : (rest : List ℕ) (text : List ℕ) → text ≡ 61 ∷ 62 ∷ rest → begins_arrow text ≡ true
+arrow_true rest text e = rw e refl
 
 -- ---- bare words
 
@@ -104,22 +127,7 @@ pub opens_false : (b c : ℕ) (bytes : List ℕ) → ¬ OpensComment b c → ope
 opens_false b c bytes h =
     elim (cases_Bool (opens_comment (b ∷ c ∷ bytes))) [
       | inr e ↦ e
-      | inl e ↦ absurd (h (decode e))
-    ]
-  where
-    decode : opens_comment (b ∷ c ∷ bytes) ≡ true → OpensComment b c
-    decode e = elim (cases_eq b 47) [
-      | inr n ↦ absurd (false≢true (sym (rw (ne_eqb b 47 n) refl) ∙ e))
-      | inl s ↦ (
-        s,
-        elim (cases_eq c 47) [
-          | inl d ↦ inl d
-          | inr n ↦ elim (cases_eq c 42) [
-            | inl d ↦ inr d
-            | inr m ↦ absurd (false≢true (sym (rw (eq-eqb b 47 s, ne_eqb c 47 n, ne_eqb c 42 m) refl) ∙ e))
-          ]
-        ],
-      )
+      | inl e ↦ absurd (h (elim (opens_cases b (c ∷ bytes) e) [ inl m ↦ (cc m.1, inl (cc m.1)) | inr m ↦ (cc m.1, inr (cc m.1)) ]))
     ]
 
 last_opens : (b : ℕ) (after : List ℕ) → bare_len after ≡ 0 → (b ≡ 47 → begins 47 after ≡ false) → opens_comment (b ∷ after) ≡ false

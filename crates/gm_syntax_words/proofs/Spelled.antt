@@ -1,5 +1,5 @@
 -- The spelling of a new word, and the value of a string.
-use Rattle.std.proofs.Common.{◌≡◌, ℕ, suc, ◌+◌, ◌-◌, ◌<◌, ◌≤◌, Bool, true, false, eqb, List, [], ◌∷◌, ◌++◌, length, get_or, take, drop, IsUtf8, refl, sym, ap, ◌∙◌, append_assoc, arith, inl, inr}
+use Rattle.std.proofs.Common.{◌≡◌, ℕ, suc, ◌+◌, ◌-◌, ◌<◌, ◌≤◌, true, false, eqb, List, [], ◌∷◌, ◌++◌, length, get_or, take, drop, IsUtf8, refl, sym, ap, ◌∙◌, append_assoc, arith, inl, inr}
 use Rattle.std.specs.Prelude.{◌≢◌, ◌⊎◌, ◌&&◌, not, ⊤}
 use Rattle.std.specs.List.{AllByRecursion}
 use Rattle.std.specs.Str.{IsCharBoundary}
@@ -10,22 +10,9 @@ use Rattle.gm_syntax_words.specs.Words.{IsBare, HasNoGrave, IsString, escaped_va
 use Rattle.gm_syntax_words.specs.Bare.{begins_arrow, bare_len, can_be_bare}
 use Rattle.gm_syntax_words.specs.Private.Scan.{plain_len}
 use Rattle.gm_syntax_words.proofs.Steps.{bare_nil, is_escaped, escape_is, escape_is_not}
-use Rattle.gm_syntax_words.proofs.Scanned.{bare_front, bare_len_is, escaped_plain, escaped_marked}
+use Rattle.gm_syntax_words.proofs.Scanned.{arrow_is, arrow_true, bare_front, bare_len_is, escaped_plain, escaped_marked}
 
 -- ---- bare words
-
-arrow_true : (rest : List ℕ) (text : List ℕ) → text ≡ 61 ∷ 62 ∷ rest → begins_arrow text ≡ true
-arrow_true rest text e = rw e refl
-
-arrow_is : (text : List ℕ) → begins_arrow text ≡ true → (rest : List ℕ) × (text ≡ 61 ∷ 62 ∷ rest)
-arrow_is [] e = cc
-arrow_is (b ∷ []) e = absurd (false≢true (sym (second (eqb b 61)) ∙ e))
-  where
-    second : (x : Bool) → (x && false) ≡ false
-    second true = refl
-    second false = refl
-arrow_is (b ∷ c ∷ rest) e = let p = and_both (eqb b 61) (eqb c 62) e in
-    (rest, rw (eqb-true b 61 p.0, eqb-true c 62 p.1) refl)
 
 pub is_bare_word : (text : List ℕ) → can_be_bare text ≡ true → IsBare text
 unfolding can_be_bare
@@ -158,16 +145,16 @@ escape_of value front (b ∷ after) lt h = record {
   whole = h.5;
 }
 
-pub next_marked : (value front after next : List ℕ) → Escape value front after → next ≡ drop 1 after → (0 < length next) × BeginsMark next
-next_marked value front after next h e =
+pub next_marked : {value front after next : List ℕ} → Escape value front after → next ≡ drop 1 after → (0 < length next) × BeginsMark next
+next_marked {next} h e =
     let p : next ≡ h.byte ∷ escaped_value h.more = rw (e, h.parts) refl in
     (omega (arith, ap length p), rw p h.marked)
 
 -- for an escape, the byte that it escapes is appended
-pub escape_pushed : (value front after marked mark next old plain new : List ℕ) → Escape value front after
+pub escape_pushed : {value front after marked mark next plain new : List ℕ} → (old : List ℕ) → Escape value front after
     → marked ≡ drop 1 after → mark ≡ take 1 marked → next ≡ drop 1 marked → plain ≡ old ++ front → new ≡ plain ++ mark
     → (more : List ℕ) × (next ≡ escaped_value more) × (new ++ more ≡ old ++ value)
-escape_pushed value front after marked mark next old plain new h is_marked is_mark is_next is_plain is_new =
+escape_pushed {front} {marked} {mark} {new} old h is_marked is_mark is_next is_plain is_new =
     let past : marked ≡ h.byte ∷ escaped_value h.more = rw (is_marked, h.parts) refl in
     let one : mark ≡ h.byte ∷ [] = rw (is_mark, past) refl in
     let pushed : new ≡ (old ++ front) ++ (h.byte ∷ []) = rw (is_new, is_plain, one) refl in (
@@ -178,30 +165,27 @@ escape_pushed value front after marked mark next old plain new h is_marked is_ma
           ∙ ap (λ l. old ++ l) (sym h.whole),
     )
 
-module _ (text front after : List ℕ) (is_front : front ≡ take (plain_len text) text) (is_after : after ≡ drop (plain_len text) text) where
-  front_is : front ≡ (plain_front text).front
-  front_is = let f = plain_front text in is_front ∙ ap (take (plain_len text)) f.parts ∙ take_at f.front f.after (plain_len text) (sym f.len)
+-- the text up to its first quote or backslash, and the text from there on
+pub record PlainCut (text front after : List ℕ) : Type 0 where
+  pub parts : text ≡ front ++ after
+  pub plain : IsPlain front
+  pub marked : BeginsMark after
 
-  after_is : after ≡ (plain_front text).after
-  after_is = let f = plain_front text in is_after ∙ ap (drop (plain_len text)) f.parts ∙ drop_at f.front f.after (plain_len text) (sym f.len)
+pub plain_cut : (text front after : List ℕ) → front ≡ take (plain_len text) text → after ≡ drop (plain_len text) text
+    → PlainCut text front after
+plain_cut text front after is_front is_after =
+    let f = plain_front text in
+    let len = sym f.len in
+    rw (is_front ∙ ap (take (plain_len text)) f.parts ∙ take_at f.front f.after (plain_len text) len)
+    (rw (is_after ∙ ap (drop (plain_len text)) f.parts ∙ drop_at f.front f.after (plain_len text) len)
+    (record { parts = f.parts; plain = f.plain; marked = f.marked }))
 
-  pub after_marked : BeginsMark after
-  after_marked = rw after_is (plain_front text).marked
+pub escaped_parts : {text front after : List ℕ} → PlainCut text front after → escaped_value text ≡ front ++ escaped_value after
+escaped_parts {front} {after} p = ap escaped_value p.parts ∙ escaped-append front after p.plain
 
-  pub escaped_parts : escaped_value text ≡ front ++ escaped_value after
-  escaped_parts =
-      let f = plain_front text in
-      ap escaped_value f.parts ∙ escaped-append f.front f.after f.plain
-      ∙ ap (λ l. l ++ escaped_value f.after) (sym front_is)
-      ∙ ap (λ l. front ++ escaped_value l) (sym after_is)
-
-  pub escape_at : (value : List ℕ) → text ≡ escaped_value value → EscapeAt value front after
-  escape_at value e =
-      let f = plain_front text in
-      let parts = sym e ∙ f.parts in
-      rw front_is
-      (rw after_is
-      (escape_parts value f.front f.after parts f.plain f.marked))
+pub escape_at : {text front after : List ℕ} → PlainCut text front after → (value : List ℕ) → text ≡ escaped_value value
+    → EscapeAt value front after
+escape_at {front} {after} p value e = escape_parts value front after (sym e ∙ p.parts) p.plain p.marked
 
 -- a text without quotes and backslashes needs no escapes
 pub plain_all : (text : List ℕ) → plain_len text ≡ length text → escaped_value text ≡ text

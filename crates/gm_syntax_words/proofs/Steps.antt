@@ -35,16 +35,6 @@ plain_piece after_bare b bytes h =
     let o = word_not_others b (plain_word b h) in
     rw (o.0, o.1, o.2, o.3, ne_eqb b 47 (plain_no_slash b h), ne_eqb b 61 (plain_no_equals b h)) refl
 
--- the test of one step of the loop
-runs_on : ℕ → List ℕ → Bool
-runs_on b bytes = is_word_byte b && not (opens_comment (b ∷ bytes))
-
-test_at : (bytes : List ℕ) (n : ℕ) (r : Bool) → n < length bytes
-    → (is_word_byte (get_or bytes n 0) && not (opens_comment (drop n bytes))) ≡ r
-    → runs_on (get_or bytes n 0) (drop (n + 1) bytes) ≡ r
-unfolding runs_on
-test_at bytes n r lt e = ap (λ t. is_word_byte (get_or bytes n 0) && not (opens_comment t)) (sym (drop_more bytes n 0 lt)) ∙ e
-
 plain_opens : (b : ℕ) (bytes : List ℕ) → is_plain b ≡ true → opens_comment (b ∷ bytes) ≡ false
 plain_opens b bytes h = rw (ne_eqb b 47 (plain_no_slash b h)) refl
 
@@ -57,8 +47,8 @@ plain_runs bytes n lt h =
 pub bare_goes_on : (bytes : List ℕ) (n : ℕ) → n < length bytes
     → (is_word_byte (get_or bytes n 0) && not (opens_comment (drop n bytes))) ≡ true
     → bare_len (drop n bytes) ≡ suc (bare_len (drop (n + 1) bytes))
-unfolding bare_len runs_on
-bare_goes_on bytes n lt e = rw (drop_more bytes n 0 lt) (rw (test_at bytes n true lt e) refl)
+unfolding bare_len
+bare_goes_on bytes n lt e = rw (drop_more bytes n 0 lt) (rw (rw (drop_more bytes n 0 lt) at e) refl)
 
 -- one more plain byte of a bare word
 pub plain_counts : (bytes : List ℕ) (n next len : ℕ) → next ≡ n + 1 → n < length bytes
@@ -69,8 +59,8 @@ plain_counts bytes n next len is lt h so =
 
 pub bare_stops : (bytes : List ℕ) (n : ℕ) → n < length bytes
     → (is_word_byte (get_or bytes n 0) && not (opens_comment (drop n bytes))) ≡ false → bare_len (drop n bytes) ≡ 0
-unfolding bare_len runs_on
-bare_stops bytes n lt e = rw (drop_more bytes n 0 lt) (rw (test_at bytes n false lt e) refl)
+unfolding bare_len
+bare_stops bytes n lt e = rw (drop_more bytes n 0 lt) (rw (rw (drop_more bytes n 0 lt) at e) refl)
 
 pub bare_stops_at_end : (bytes : List ℕ) (n : ℕ) → length bytes ≤ n → bare_len (drop n bytes) ≡ 0
 bare_stops_at_end bytes n le = at_drop_all bare_len bytes n le ∙ bare_nil

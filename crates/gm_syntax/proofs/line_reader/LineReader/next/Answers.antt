@@ -30,11 +30,17 @@ pub returns-in-Ok-clause-next : goal.returns-in-Ok-clause-next
 returns-in-Ok-clause-next c = λ lines so.
     let old : HasRead (unread c.self.inside.text.now c.self.inside.rest.now c.self.inside.place) lines =
     rw c.self.view_is so in
-    let cut = c.split_first_line.ensures in
+    let e = c.split_first_line.ensures in
     read_more old c.split_first_line.result.0.now c.split_first_line.result.1.now (line_of c.in-Ok.line)
-    c.after-self-inside.result c.after-self-inside.ensures cut.lines cut.no_line_feed cut.shorter cut.in_range
-    cut.front cut.suffix cut.line_feed
-    c.in-Ok.ensures.read c.in-Ok.ensures.placed c.in-Ok.ensures.numbered c.in-Ok.ensures.filled
+    c.after-self-inside.result c.after-self-inside.ensures (record {
+      lines = e.lines;
+      no_line_feed = e.no_line_feed;
+      shorter = e.shorter;
+      in_range = e.in_range;
+      front_is = e.front;
+      suffix = e.suffix;
+      line_feed = e.line_feed;
+    }) c.in-Ok.ensures.read c.in-Ok.ensures.placed c.in-Ok.ensures.numbered c.in-Ok.ensures.filled
 
 pub returns-in-Err-clause-next : goal.returns-in-Err-clause-next
 returns-in-Err-clause-next c = λ lines so.

@@ -1,6 +1,6 @@
 use Rattle.gm_syntax.specs.LineReading.{Unread, HasRead}
-use Rattle.gm_syntax.proofs.LineReading.{unread}
-use Rattle.gm_syntax.proofs.SimpleLines.{IsCut, simple_read}
+use Rattle.gm_syntax.proofs.LineReading.{IsCut, unread}
+use Rattle.gm_syntax.proofs.SimpleLines.{simple_read}
 use Rattle.gm_syntax.proofs.line_reader.LineReader.next_simple.Goals as goal
 
 pub returns-clause-read : goal.returns-clause-read
