@@ -34,8 +34,8 @@ pub struct FallbackStore<F: FolderList, K: Keeps = AllAnswers> {
     marks: Vec<Mark>,
     /// What is kept of the answered requests.
     asked: K,
-    /// The names whose requests were refused because the device failed. It takes no memory, and only proofs read it.
-    refusals: History,
+    /// The requests that were refused because the device failed. They take no memory, and only proofs read them.
+    refusals: History<FileName, AskFault>,
     // A folder follows each mark, for each name, so the walk can't leave the list.
     ghost between: { (name : Name) → length (marks_for name marks.items) < F.count_for (inner_folders folders) name },
 }
@@ -121,7 +121,7 @@ impl<F: FolderList, K: Keeps> Asks for FallbackStore<F, K> {
                 Ok(())
             }
             None => {
-                self.refusals = self.refusals.and_refused(name);
+                self.refusals = self.refusals.with(name, &AskFault::Device);
                 Err(AskFault::Device)
             }
         }

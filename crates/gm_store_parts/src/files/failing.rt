@@ -17,8 +17,8 @@ pub struct FailingFiles {
     inside: MemoryFiles,
     /// How many requests pass before the failure, or `None` once it has happened.
     left: Option<u64>,
-    /// The name of the refused request, once there was one. It takes no memory, and only proofs read it.
-    refusals: History,
+    /// The refused request, once there was one. It takes no memory, and only proofs read it.
+    refusals: History<FileName, AskFault>,
 }
 
 impl FailingFiles {
@@ -63,7 +63,7 @@ impl Asks for FailingFiles {
     {
         match self.left {
             Some(0) => {
-                self.refusals = self.refusals.and_refused(name);
+                self.refusals = self.refusals.with(name, &AskFault::Device);
                 self.left = None;
                 Err(AskFault::Device)
             }

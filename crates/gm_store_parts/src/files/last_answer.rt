@@ -15,7 +15,7 @@ pub struct LastAnswer {
     /// The last answer, or `Absent` before the first.
     last: Answer,
     /// The answered requests, with their answers.
-    history: History,
+    history: History<FileName, Answer>,
     // The last answer is that of the history, and has at most 16 MiB.
     ghost is_last: { IsWithinLimit (reply_of last) × IsLast (asked_in history) (reply_of last) },
 }
@@ -33,7 +33,7 @@ impl Keeps for LastAnswer {
     }
 
     fn keep(&mut self, _alloc: Global, name: &FileName, answer: Answer) -> Result<(), NoMemory> {
-        let history = self.history.and(name, &answer);
+        let history = self.history.with(name, &answer);
         *self = LastAnswer {
             last: answer,
             history,

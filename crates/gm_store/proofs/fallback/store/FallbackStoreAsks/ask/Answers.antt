@@ -1,4 +1,5 @@
 use Rattle.std.proofs.Common.{◌∙◌, List, Some, None, ap, arith, refl, subst}
+use Rattle.std.proofs.lemmas.List.{map_push}
 use Rattle.gm_store_parts.specs.Asked.{name_of, reply_of}
 use Rattle.gm_store_parts.specs.Steps.{HasCounted, MayStop}
 use Rattle.gm_store_parts.specs.declared.fallback.proxy_list.Mark.{Mark}
@@ -99,7 +100,7 @@ returns-in-None-clause-request g c =
           stop.0) marks stop.1,
     )
     refl
-    c.and_refused-self.ensures.refused (rw c.in-None.is at c.in_ok-outcome.ensures.cause)
+    (rw (c.with-self.ensures, map_push) refl) (rw c.in-None.is at c.in_ok-outcome.ensures.cause)
 
 pub returns-in_err-outcome-clause-request : goal.returns-in_err-outcome-clause-request
 returns-in_err-outcome-clause-request g c =
