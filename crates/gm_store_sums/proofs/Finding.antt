@@ -1,25 +1,27 @@
 -- Where the lines for a path and a version are in a table, and what they say about a hash.
 use Rattle.std.proofs.Common.{◌≡◌, ◌<◌, ◌≤◌, ◌+◌, ◌-◌, ℕ, Bool, true, false, not, List, [], length, map, ap, ◌∙◌, sym, refl, arith, slice_index_or, inl, inr}
-use Rattle.std.proofs.lemmas.Bool.{and_from, cases_lt, false_from_ne_true, true_from_ne_false}
+use mathlib.Core.Path.{ap₂}
+use Rattle.std.proofs.lemmas.Bool.{and_from, cases_lt, false_from_ne_true}
 use Rattle.std.proofs.lemmas.Cmp.{nat_list_cmp_total, on_total, then_total, tied_itself}
 use Rattle.std.proofs.lemmas.List.{get_or_default}
+use Rattle.std.proofs.lemmas.List.Folds.{Any-from_list_any, list_any-from_Any}
 use Rattle.std.proofs.lemmas.List.Sorted.{sorted_far, ranks_by, searchable_from_sorted}
 use Rattle.std.proofs.lemmas.Slice.Eq.{bytes_eq-Decides}
 use Rattle.std.specs.Cmp.{IsTotalOrder, first_so, second_so}
 use Rattle.std.specs.Cmp.Lexicographic.{slice_cmp}
 use Rattle.std.specs.List.{list_any}
 use Rattle.std.specs.List.Sorted.{IsNonDecreasingBy, IsPartitionPoint, IsPartitionedBy, IsSortedBy}
-use Rattle.std.specs.Ordering.{is_gt, is_le, is_lt, nat_cmp, ordering_index, ordering_reverse, ordering_then}
-use Rattle.std.specs.Prelude.{Contains, if◌then◌else◌}
+use Rattle.std.specs.Ordering.{is_le, is_lt, nat_cmp, ordering_index, ordering_reverse, ordering_then}
+use Rattle.std.specs.Prelude.{Contains}
 use Rattle.std.specs.Str.{bytes_eq}
 use Rattle.std.specs.declared.cmp.Ordering.{Ordering}
 use Rattle.std.specs.declared.cmp.Ordering.TheVariants.{Less, Equal, Greater}
 use Rattle.gm_store_sums.specs.Order.{AreInOrder, line_cmp, triple}
-use Rattle.gm_store_sums.specs.Private.Lines.{key_cmp}
-use Rattle.gm_store_sums.specs.Sums.{is_line_for, is_other_hash}
+use Rattle.gm_store_sums.specs.Private.Lines.{IsEndOf, IsStartOf, key_cmp}
+use Rattle.gm_store_sums.specs.Sums.{check_in, is_line_for, is_other_hash}
 use Rattle.gm_store_sums.specs.declared.sum_table.Sum.TheVariants.{Good, Unlisted, Differs}
 use Rattle.gm_store_sums.specs.declared.sum_table.SumLine.{SumLine}
-use Rattle.gm_store_sums.proofs.Summing.{Triple, any_map, any_found, any_none, line_for, other_apart}
+use Rattle.gm_store_sums.proofs.Summing.{Triple, any_map, line_for, other_apart}
 use Rattle.gm_name.proofs.Fitting.{then_first}
 use Rattle.gm_name.proofs.Texts.{slice_cmp-same}
 
@@ -115,11 +117,8 @@ Equal-from_neither : (o p : Ordering) → o ≡ ordering_reverse p → is_lt o �
 Equal-from_neither Less p e low high = cc low
 Equal-from_neither Equal p e low high = refl
 Equal-from_neither Greater Less e low high = cc high
-Equal-from_neither Greater Equal e low high = cc (ap is_gt e)
-Equal-from_neither Greater Greater e low high = cc (ap is_gt e)
-
-ap2 : {A B C : Type 0} (f : A → B → C) {x y : A} {u v : B} → x ≡ y → u ≡ v → f x u ≡ f y v
-ap2 f {y = y} {u = u} e g = ap (λ a. f a u) e ∙ ap (f y) g
+Equal-from_neither Greater Equal e low high = cc e
+Equal-from_neither Greater Greater e low high = cc e
 
 less_is_le : (o : Ordering) → is_lt o ≡ true → is_le o ≡ true
 less_is_le Less e = refl
@@ -146,23 +145,19 @@ key_above path version t low other = false_from_ne_true _ (λ e.
 
 -- where the lines for a path and version end: in front of the first line that is not below them, or after it
 pub ends_at : (lines : List SumLine) (path version : List ℕ) (start : ℕ) → AreInOrder lines
-    → IsPartitionPoint (λ line. is_lt (key_cmp (triple line) (path, version)) ≡ true)
-    (λ line. is_lt (key_cmp (triple line) (path, version)) ≡ false) lines start
+    → IsStartOf lines (path, version) start
     → ((d : SumLine) → start < length lines → false ≡ is_line_for path version (triple (slice_index_or lines start d)))
-    → IsPartitionPoint (λ line. is_le (key_cmp (triple line) (path, version)) ≡ true)
-    (λ line. is_le (key_cmp (triple line) (path, version)) ≡ false) lines start
+    → IsEndOf lines (path, version) start
 ends_at lines path version start order before other =
     parted_at (λ line. is_le (key_cmp (triple line) (path, version))) lines start
     (parted_up_to lines path version order) (λ k d low high. less_is_le _ (before.0 k d low high))
     (λ d within. key_above path version (triple (slice_index_or lines start d)) (before.1 start d (omega arith) within) (sym (other d within)))
 
 pub ends_after : (lines : List SumLine) (path version : List ℕ) (start : ℕ) → AreInOrder lines
-    → IsPartitionPoint (λ line. is_lt (key_cmp (triple line) (path, version)) ≡ true)
-    (λ line. is_lt (key_cmp (triple line) (path, version)) ≡ false) lines start → start < length lines
+    → IsStartOf lines (path, version) start → start < length lines
     → ((d : SumLine) → true ≡ is_line_for path version (triple (slice_index_or lines start d)))
     → ((d : SumLine) → start + 1 < length lines → false ≡ is_line_for path version (triple (slice_index_or lines (start + 1) d)))
-    → IsPartitionPoint (λ line. is_le (key_cmp (triple line) (path, version)) ≡ true)
-    (λ line. is_le (key_cmp (triple line) (path, version)) ≡ false) lines (start + 1)
+    → IsEndOf lines (path, version) (start + 1)
 ends_after lines path version start order before some here other =
     parted_at (λ line. is_le (key_cmp (triple line) (path, version))) lines (start + 1) (parted_up_to lines path version order)
     (λ k d low high. parted_up_to lines path version order k start d (omega arith) some
@@ -180,12 +175,8 @@ line_at lines k = slice_index_or lines k (record {
 pub reads_itself : (lines : List SumLine) (k : ℕ) → k < length lines → slice_index_or lines k (line_at lines k) ≡ line_at lines k
 reads_itself lines k within = get_or_default lines k _ _ within
 
-module _ (lines : List SumLine) (path version hash : List ℕ) (start end : ℕ)
-    (before : IsPartitionPoint (λ line. is_lt (key_cmp (triple line) (path, version)) ≡ true)
-    (λ line. is_lt (key_cmp (triple line) (path, version)) ≡ false) lines start)
-    (up_to : IsPartitionPoint (λ line. is_le (key_cmp (triple line) (path, version)) ≡ true)
-    (λ line. is_le (key_cmp (triple line) (path, version)) ≡ false) lines end)
-    (within : end ≤ length lines) where
+module _ (lines : List SumLine) (path version hash : List ℕ) (start end : ℕ) (before : IsStartOf lines (path, version) start)
+    (up_to : IsEndOf lines (path, version) end) (within : end ≤ length lines) where
   not_below : (y : SumLine) (k : ℕ) → slice_index_or lines k y ≡ y → is_line_for path version (triple y) ≡ true → k < start → ⊥
   not_below y k is for low =
       let below : is_lt (key_cmp (triple y) (path, version)) ≡ true =
@@ -217,38 +208,28 @@ module _ (lines : List SumLine) (path version hash : List ℕ) (start end : ℕ)
       (ap (λ line. is_lt (key_cmp (triple line) (path, version))) (sym is) ∙ before.1 k y low (omega arith))
       (ap (λ line. is_le (key_cmp (triple line) (path, version))) (sym is) ∙ up_to.0 k y (omega arith) high)
 
-  pub unlisted : end ≤ start → Unlisted ≡ (if not (list_any (is_line_for path version) (map triple lines)) then Unlisted
-      else (if list_any (is_other_hash path version hash) (map triple lines) then Differs else Good))
+  pub unlisted : end ≤ start → Unlisted ≡ check_in (map triple lines) path version hash
   unlisted same =
       let nothing : list_any (is_line_for path version) (map triple lines) ≡ false =
       any_map (is_line_for path version) triple lines ∙ false_from_ne_true _ (λ e.
-      let y = any_found (λ line. is_line_for path version (triple line)) lines e in
-      let k = found_at y.0 y.1 y.2 in
-      let low = k.1 in
-      let high = k.2 in
+      let (at, y, low_enough, is, for) = Any-from_list_any (λ line. is_line_for path version (triple line)) lines e in
+      let (k, low, high, there) = found_at y (at, low_enough, is) for in
       omega arith) in
-      ap (λ b. if not b then Unlisted else (if list_any (is_other_hash path version hash) (map triple lines) then Differs else Good)) (sym nothing)
+      rw nothing refl
 
   listed : (y : SumLine) → slice_index_or lines start y ≡ y → start < end → list_any (is_line_for path version) (map triple lines) ≡ true
-  listed y is some = any_map (is_line_for path version) triple lines ∙ true_from_ne_false _ (λ e.
-      let none = any_none (λ line. is_line_for path version (triple line)) lines e y (start, omega arith, is) in
-      let never : true ≡ false = sym (line_in_range y start is (omega arith) some) ∙ none in
-      cc never)
+  listed y is some = any_map (is_line_for path version) triple lines
+      ∙ list_any-from_Any _ lines (start, y, omega arith, is, line_in_range y start is (omega arith) some)
 
   -- a line for the path and version with another hash
   pub differs : (first y : SumLine) (k : ℕ) → slice_index_or lines start first ≡ first → slice_index_or lines k y ≡ y
       → start ≤ k → k < end → bytes_eq y.hash.now hash ≡ false
-      → Differs ≡ (if not (list_any (is_line_for path version) (map triple lines)) then Unlisted
-      else (if list_any (is_other_hash path version hash) (map triple lines) then Differs else Good))
+      → Differs ≡ check_in (map triple lines) path version hash
   differs first y k is_first is low high other =
       let found : list_any (is_other_hash path version hash) (map triple lines) ≡ true =
-      any_map (is_other_hash path version hash) triple lines ∙ true_from_ne_false _ (λ e.
-      let none = any_none (λ line. is_other_hash path version hash (triple line)) lines e y (k, omega arith, is) in
-      let both : is_other_hash path version hash (triple y) ≡ true = and_from _ _ (line_in_range y k is low high) (ap not other) in
-      let never : true ≡ false = sym both ∙ none in
-      cc never) in
-      sym (ap (λ b. if not b then Unlisted else (if list_any (is_other_hash path version hash) (map triple lines)
-      then Differs else Good)) (listed first is_first (omega arith)) ∙ ap (λ b. if b then Differs else Good) found)
+      any_map (is_other_hash path version hash) triple lines
+      ∙ list_any-from_Any _ lines (k, y, omega arith, is, and_from _ _ (line_in_range y k is low high) (ap not other)) in
+      rw (listed first is_first (omega arith), found) refl
 
   whole : (y : SumLine) → is_line_for path version (triple y) ≡ true → bytes_eq y.hash.now hash ≡ true → triple y ≡ (path, version, hash)
   whole y for same = line_for path version (triple y) for ∙ ap (λ h. (path, version, h)) ((bytes_eq-Decides y.hash.now hash).0 same)
@@ -256,35 +237,24 @@ module _ (lines : List SumLine) (path version hash : List ℕ) (start end : ℕ)
   -- between two lines with this hash there is no other
   pub good : (first last : SumLine) → AreInOrder lines → start < end → slice_index_or lines start first ≡ first
       → slice_index_or lines (end - 1) last ≡ last → bytes_eq first.hash.now hash ≡ true
-      → bytes_eq last.hash.now hash ≡ true → Good ≡ (if not (list_any (is_line_for path version) (map triple lines))
-      then Unlisted else (if list_any (is_other_hash path version hash) (map triple lines) then Differs else Good))
+      → bytes_eq last.hash.now hash ≡ true → Good ≡ check_in (map triple lines) path version hash
   good first last order some is_first is_last same_first same_last =
       let first_is : triple first ≡ (path, version, hash) = whole first (line_in_range first start is_first (omega arith) some) same_first in
       let last_is : triple last ≡ (path, version, hash) = whole last (line_in_range last (end - 1) is_last (omega arith) (omega arith)) same_last in
       let none : list_any (is_other_hash path version hash) (map triple lines) ≡ false =
       any_map (is_other_hash path version hash) triple lines ∙ false_from_ne_true _ (λ e.
-      let y = any_found (λ line. is_other_hash path version hash (triple line)) lines e in
-      let for = first_so (is_line_for path version (triple y.0)) (not (bytes_eq y.0.hash.now hash)) y.2 in
-      let k = found_at y.0 y.1 for in
-      let low = k.1 in
-      let high = k.2 in
-      let at_first : slice_index_or lines start y.0 ≡ first = get_or_default lines start y.0 first (omega arith) ∙ is_first in
-      let at_last : slice_index_or lines (end - 1) y.0 ≡ last = get_or_default lines (end - 1) y.0 last (omega arith) ∙ is_last in
-      let up : is_lt (line_cmp (triple y.0) (triple first)) ≡ false =
-      ap2 (λ a b. is_lt (line_cmp (triple a) (triple b))) (sym k.3) (sym at_first)
-      ∙ sorted_far (λ x y. is_lt (line_cmp (triple x) (triple y))) (ranks_by line_total triple) lines order start
-      k.0 y.0 low (omega arith) in
-      let down : is_lt (line_cmp (triple last) (triple y.0)) ≡ false =
-      ap2 (λ a b. is_lt (line_cmp (triple a) (triple b))) (sym at_last) (sym k.3)
-      ∙ sorted_far (λ x y. is_lt (line_cmp (triple x) (triple y))) (ranks_by line_total triple) lines order k.0
-      (end - 1) y.0 (omega arith) (omega arith) in
-      let even : line_cmp (triple y.0) (path, version, hash) ≡ Equal =
-      Equal-from_neither _ _ (line_total.antisymm (triple y.0) (path, version, hash))
-      (ap (λ t. is_lt (line_cmp (triple y.0) t)) (sym first_is) ∙ up)
-      (ap (λ t. is_lt (line_cmp t (triple y.0))) (sym last_is) ∙ down) in
-      let hash_even : slice_cmp nat_cmp y.0.hash.now hash ≡ Equal =
-      then_second (slice_cmp nat_cmp y.0.version.now version) _
-      (then_second (slice_cmp nat_cmp y.0.path.now path) _ even) in
-      other_apart path version hash (triple y.0) y.2 (slice_cmp-same y.0.hash.now hash hash_even)) in
-      sym (ap (λ b. if not b then Unlisted else (if list_any (is_other_hash path version hash) (map triple lines)
-      then Differs else Good)) (listed first is_first some) ∙ ap (λ b. if b then Differs else Good) none)
+      let (at, y, below, is, differs) = Any-from_list_any (λ line. is_other_hash path version hash (triple line)) lines e in
+      let (k, low, high, there) = found_at y (at, below, is) (first_so _ _ differs) in
+      let at_first : slice_index_or lines start y ≡ first = get_or_default lines start y first (omega arith) ∙ is_first in
+      let at_last : slice_index_or lines (end - 1) y ≡ last = get_or_default lines (end - 1) y last (omega arith) ∙ is_last in
+      let is_below : SumLine → SumLine → Bool = λ a b. is_lt (line_cmp (triple a) (triple b)) in
+      let far = sorted_far is_below (ranks_by line_total triple) lines order in
+      let up : is_below y first ≡ false = ap₂ is_below (sym there) (sym at_first) ∙ far start k y low (omega arith) in
+      let down : is_below last y ≡ false =
+      ap₂ is_below (sym at_last) (sym there) ∙ far k (end - 1) y (omega arith) (omega arith) in
+      let even : line_cmp (triple y) (path, version, hash) ≡ Equal =
+      Equal-from_neither _ _ (line_total.antisymm (triple y) (path, version, hash))
+      (ap (λ t. is_lt (line_cmp (triple y) t)) (sym first_is) ∙ up) (ap (λ t. is_lt (line_cmp t (triple y))) (sym last_is) ∙ down) in
+      let hash_even = then_second _ (slice_cmp nat_cmp y.hash.now hash) (then_second (slice_cmp nat_cmp y.path.now path) _ even) in
+      other_apart path version hash (triple y) differs (slice_cmp-same y.hash.now hash hash_even)) in
+      rw (listed first is_first some, none) refl

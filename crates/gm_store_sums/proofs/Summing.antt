@@ -1,10 +1,10 @@
 -- The hashes that lines list, and what a table says about them.
-use Rattle.std.proofs.Common.{◌≡◌, ◌≢◌, ◌-◌, ◌&&◌, ◌||◌, ℕ, Bool, true, false, not, zero, suc, List, [], ◌∷◌, ◌++◌, length, take, drop, map, ap, ◌∙◌, sym, refl, subst, inl, inr, arith, codes, Bor}
-use Rattle.std.proofs.lemmas.Bool.{and_from, cases_lt, not-true}
+use Rattle.std.proofs.Common.{◌≡◌, ◌≢◌, ◌-◌, ◌&&◌, ◌||◌, ℕ, Bool, true, false, not, List, [], ◌∷◌, ◌++◌, length, take, drop, map, ap, ◌∙◌, sym, refl, subst, inl, inr, arith, codes, Bor}
+use Rattle.std.proofs.lemmas.Bool.{and_from, cases_lt, false_from_ne_true, not-true}
 use Rattle.std.proofs.lemmas.Grind.{common_steps}
-use Rattle.std.proofs.lemmas.List.{append_cancel_right, map-append}
-use Rattle.std.proofs.lemmas.List.Elements.{Contains-append_cases, Contains-append_left, Contains-append_right}
-use Rattle.std.proofs.lemmas.List.Folds.{list_any-append, list_any_at}
+use Rattle.std.proofs.lemmas.List.{append_cancel_right, map_push}
+use Rattle.std.proofs.lemmas.List.Elements.{Contains-append_left, Contains-push, Contains-push_cases}
+use Rattle.std.proofs.lemmas.List.Folds.{Any-from_list_any, list_any-append, list_any_at}
 use Rattle.std.proofs.lemmas.List.Sorted.{Contains-permutation, IsPermutation-sym}
 use Rattle.std.proofs.lemmas.List.Sums.{passes_at_first}
 use Rattle.std.proofs.lemmas.Slice.Eq.{bytes_eq-Decides}
@@ -15,9 +15,8 @@ use Rattle.std.specs.Prelude.{◌↔◌, Contains, nat_eq, if◌then◌else◌}
 use Rattle.std.specs.Str.{bytes_eq}
 use Rattle.gm_name.specs.Lines.{fields, lines}
 use Rattle.gm_store_sums.specs.Private.Lines.{AddsGiven, Gives, HoldsSums}
-use Rattle.gm_store_sums.specs.Sums.{HasValidLines, IsSum, SaysOfHash, are_valid_fields, is_line_for, is_other_hash, lines_before_invalid}
+use Rattle.gm_store_sums.specs.Sums.{HasValidLines, IsSum, SaysOfHash, are_valid_fields, check_in, is_line_for, is_other_hash, lines_before_invalid}
 use Rattle.gm_store_sums.specs.declared.sum_table.Sum.TheVariants.{Good, Unlisted, Differs}
-use Rattle.gm_name.proofs.Logic.{cases, or-left}
 
 abbrev pub Triple : Type 0
 Triple = List ℕ × List ℕ × List ℕ
@@ -28,13 +27,6 @@ HoldsGiven given sums = (path version hash : List ℕ) → Contains sums (path, 
     ↔ (Contains given (path ∷ (version ++ codes "/go.mod") ∷ hash ∷ [])
     × (starts_with nat_eq hash (codes "h1:") ≡ true))
 
-one_only : {X : Type 0} (x y : X) → Contains (x ∷ []) y → x ≡ y
-one_only x y (zero, within, is) = is
-one_only x y (suc k, within, is) = absurd (omega arith)
-
-one_itself : {X : Type 0} (x : X) → Contains (x ∷ []) x
-one_itself x = (0, omega arith, refl)
-
 same_triple : (p v h path version hash : List ℕ) → p ∷ (v ++ codes "/go.mod") ∷ h ∷ [] ≡ path
     ∷ (version ++ codes "/go.mod") ∷ hash ∷ [] → ◌≡◌ {A = Triple} (p, v, h) (path, version, hash)
 same_triple p v h path version hash e =
@@ -42,7 +34,7 @@ same_triple p v h path version hash e =
     let ending : v ++ codes "/go.mod" ≡ version ++ codes "/go.mod" = cc e in
     let second : v ≡ version = append_cancel_right v version (codes "/go.mod") ending in
     let third : h ≡ hash = cc e in
-    ap (λ a. (a, v, h)) first ∙ ap (λ b. (path, b, h)) second ∙ ap (λ d. (path, version, d)) third
+    rw (first, second, third) refl
 
 take-drop_whole : (n : ℕ) (text : List ℕ) → text ≡ take n text ++ drop n text
 take-drop_whole n text = grind (arith, common_steps)
@@ -51,18 +43,17 @@ take-drop_whole n text = grind (arith, common_steps)
 given_more : (given : List (List (List ℕ))) (sums : List Triple) (words : List (List ℕ)) (p v h : List ℕ)
     → HoldsGiven given sums → Gives words p v h → HoldsGiven (given ++ words ∷ []) (sums ++ (p, v, h) ∷ [])
 given_more given sums words p v h holds gives = λ path version hash. (
-  λ has. cases (Contains-append_cases sums ((p, v, h) ∷ []) (path, version, hash) has)
-      (λ old. let both = (holds path version hash).0 old in (Contains-append_left given (words ∷ []) _ both.0, both.1))
-      (λ new. let same : ◌≡◌ {A = Triple} (p, v, h) (path, version, hash) = one_only _ _ new in (
-        Contains-append_right given (words ∷ []) _ (subst (Contains (words ∷ []))
-            (gives.0 ∙ ap (λ (t : Triple). t.0 ∷ (t.1 ++ codes "/go.mod") ∷ t.2 ∷ []) same) (one_itself words)),
-        ap (λ (t : Triple). starts_with nat_eq t.2 (codes "h1:")) (sym same) ∙ gives.1,
-      )),
-  λ has. cases (Contains-append_cases given (words ∷ []) (path ∷ (version ++ codes "/go.mod") ∷ hash ∷ []) has.0)
-      (λ old. Contains-append_left sums ((p, v, h) ∷ []) (path, version, hash) ((holds path version hash).1 (old, has.1)))
-      (λ new. Contains-append_right sums ((p, v, h) ∷ []) (path, version, hash)
-      (subst (Contains ((p, v, h) ∷ [])) (same_triple p v h path version hash (sym gives.0 ∙ one_only _ _ new))
-      (one_itself (p, v, h)))),
+  λ has. elim (Contains-push_cases sums (p, v, h) (path, version, hash) has) [
+    | inl old ↦ let both = (holds path version hash).0 old in (Contains-append_left given (words ∷ []) _ both.0, both.1)
+    | inr same ↦ subst (λ (t : Triple). Contains (given ++ words ∷ []) (t.0 ∷ (t.1 ++ codes "/go.mod") ∷ t.2 ∷ [])
+        × (starts_with nat_eq t.2 (codes "h1:") ≡ true)) same
+        (subst (Contains (given ++ words ∷ [])) gives.0 (Contains-push given words), gives.1)
+  ],
+  λ has. elim (Contains-push_cases given words _ has.0) [
+    | inl old ↦ Contains-append_left sums ((p, v, h) ∷ []) _ ((holds path version hash).1 (old, has.1))
+    | inr same ↦ subst (Contains (sums ++ (p, v, h) ∷ [])) (same_triple p v h path version hash (sym gives.0 ∙ same))
+        (Contains-push sums (p, v, h))
+  ],
 )
 
 -- one more line, which lists none
@@ -70,43 +61,23 @@ given_same : (given : List (List (List ℕ))) (sums : List Triple) (words : List
     → ((p v h : List ℕ) → ¬ (Gives words p v h)) → HoldsGiven (given ++ words ∷ []) sums
 given_same given sums words holds none = λ path version hash. (
   λ has. let both = (holds path version hash).0 has in (Contains-append_left given (words ∷ []) _ both.0, both.1),
-  λ has. cases (Contains-append_cases given (words ∷ []) (path ∷ (version ++ codes "/go.mod") ∷ hash ∷ []) has.0)
-      (λ old. (holds path version hash).1 (old, has.1))
-      (λ new. absurd (none path version hash (one_only _ _ new, has.1))),
+  λ has. elim (Contains-push_cases given words _ has.0) [
+    | inl old ↦ (holds path version hash).1 (old, has.1)
+    | inr same ↦ absurd (none path version hash (same, has.1))
+  ],
 )
-
-fields-push : (seen : List (Bor (List ℕ))) (line : Bor (List ℕ))
-    → map fields (map (λ line. line.now) (seen ++ line ∷ [])) ≡ map fields (map (λ line. line.now) seen)
-    ++ fields line.now ∷ []
-fields-push seen line = ap (map fields) (map-append (λ (line : Bor (List ℕ)). line.now) seen (line ∷ []))
-    ∙ map-append fields (map (λ line. line.now) seen) (line.now ∷ [])
-
-line_gives : (seen : List (Bor (List ℕ))) (line : Bor (List ℕ)) (sums new : List Triple) (p v h : List ℕ)
-    → HoldsGiven (map fields (map (λ line. line.now) seen)) sums → Gives (fields line.now) p v h
-    → new ≡ sums ++ (p, v, h) ∷ [] → HoldsGiven (map fields (map (λ line. line.now) (seen ++ line ∷ []))) new
-line_gives seen line sums new p v h holds gives grown =
-    subst (λ given. HoldsGiven given new) (sym (fields-push seen line))
-    (subst (HoldsGiven (map fields (map (λ line. line.now) seen) ++ fields line.now ∷ [])) (sym grown) (given_more _ sums (fields line.now) p v h holds gives))
-
-line_gives_none : (seen : List (Bor (List ℕ))) (line : Bor (List ℕ)) (sums : List Triple)
-    → HoldsGiven (map fields (map (λ line. line.now) seen)) sums
-    → ((p v h : List ℕ) → ¬ (Gives (fields line.now) p v h))
-    → HoldsGiven (map fields (map (λ line. line.now) (seen ++ line ∷ []))) sums
-line_gives_none seen line sums holds none =
-    subst (λ given. HoldsGiven given sums) (sym (fields-push seen line)) (given_same _ sums (fields line.now) holds none)
 
 -- one more line
 pub line_added : (seen : List (Bor (List ℕ))) (line : Bor (List ℕ)) (sums new : List Triple) → HoldsGiven (map fields (map (λ line. line.now) seen)) sums
     → AddsGiven (fields line.now) sums new → HoldsGiven (map fields (map (λ line. line.now) (seen ++ line ∷ []))) new
 line_added seen line sums new holds added = elim added [
-  | inl one ↦ line_gives seen line sums new one.0 one.1 one.2 holds one.3 one.4
-  | inr none ↦ subst (HoldsGiven (map fields (map (λ line. line.now) (seen ++ line ∷ [])))) (sym none.1) (line_gives_none seen line sums holds none.0)
+  | inl one ↦ rw (map_push, map_push, one.4) (given_more _ sums (fields line.now) one.0 one.1 one.2 holds one.3)
+  | inr none ↦ rw (map_push, map_push, none.1) (given_same _ sums (fields line.now) holds none.0)
 ]
 
 pub holds_all : (text : List ℕ) (sums : List Triple) → HoldsGiven (map fields (lines text)) sums → HoldsSums sums text
 holds_all text sums holds = λ path version hash. (
-  λ has. let both = (holds path version hash).0 has in
-      record { line = both.0; kind = both.1 },
+  λ has. let both = (holds path version hash).0 has in record { line = both.0; kind = both.1 },
   λ is. (holds path version hash).1 (is.line, is.kind),
 )
 
@@ -120,9 +91,7 @@ pub valid_more : (seen : List (Bor (List ℕ))) (line : Bor (List ℕ))
     → list_any is_invalid (map (λ line. line.now) seen) ≡ false → true ≡ are_valid_fields (fields line.now)
     → list_any is_invalid (map (λ line. line.now) (seen ++ line ∷ [])) ≡ false
 valid_more seen line none valid =
-    ap (list_any is_invalid) (map-append (λ (line : Bor (List ℕ)). line.now) seen (line ∷ []))
-    ∙ list_any-append is_invalid (map (λ line. line.now) seen) (line.now ∷ [])
-    ∙ ap (λ b. b || (is_invalid line.now || false)) none ∙ ap (λ b. not b || false) (sym valid)
+    rw (map_push, list_any-append, none, ← valid) refl
 
 -- where no line is invalid, the first invalid line is beyond the last one
 pub valid_all : (text : List ℕ) → list_any is_invalid (lines text) ≡ false → HasValidLines text
@@ -143,30 +112,10 @@ stripped text ending front same cut =
 
 -- ---- what a table says
 
-found_step : {X : Type 0} (f : X → Bool) (x : X) (xs : List X) (hit : Bool) → f x ≡ hit → list_any f (x ∷ xs) ≡ true
-    → (list_any f xs ≡ true → (y : X) × Contains xs y × (f y ≡ true)) → (y : X) × Contains (x ∷ xs) y × (f y ≡ true)
-found_step f x xs true e any rest = (x, (0, omega arith, refl), e)
-found_step f x xs false e any rest =
-    let later : list_any f xs ≡ true = ap (λ b. b || list_any f xs) (sym e) ∙ any in
-    let found = rest later in
-    (found.0, Contains-append_right (x ∷ []) xs found.0 found.1, found.2)
-
-pub any_found : {X : Type 0} (f : X → Bool) (xs : List X) → list_any f xs ≡ true → (x : X) × Contains xs x × (f x ≡ true)
-any_found f [] e = cc e
-any_found f (x ∷ xs) e = found_step f x xs (f x) refl e (any_found f xs)
-
-none_right : (a b : Bool) → (a || b) ≡ false → b ≡ false
-none_right true b e = cc e
-none_right false b e = e
-
-none_inside : {X : Type 0} {y : X} → Contains [] y → ⊥
-none_inside (k, within, is) = omega arith
-
 pub any_none : {X : Type 0} (f : X → Bool) (xs : List X) → list_any f xs ≡ false → (y : X) → Contains xs y → f y ≡ false
-any_none f [] e y has = absurd (none_inside has)
-any_none f (x ∷ xs) e y has = cases (Contains-append_cases (x ∷ []) xs y has)
-    (λ here. ap f (sym (one_only x y here)) ∙ or-left (f x) (list_any f xs) e)
-    (λ later. any_none f xs (none_right (f x) (list_any f xs) e) y later)
+any_none f xs none y (k, within, is) = false_from_ne_true _ (λ e.
+    let never : false ≡ true = sym none ∙ list_any_at f xs k y within (ap f is ∙ e) in
+    cc never)
 
 -- the lines for a path and a version list its hashes
 pub line_for : (path version : List ℕ) (t : Triple) → is_line_for path version t ≡ true → t ≡ (path, version, t.2)
@@ -201,31 +150,27 @@ says_step text path version hash sums false other holds e f = λ h is.
     let never : true ≡ false = sym (is_for path version h) ∙ any_none (is_line_for path version) sums e (path, version, h) ((holds path version h).1 is) in
     cc never
 says_step text path version hash sums true true holds e f =
-    let found = any_found (is_other_hash path version hash) sums f in
-    let line = line_for path version found.0 (first_so (is_line_for path version found.0) (not (bytes_eq found.0.2 hash)) found.2) in
-    (found.0.2, (holds path version found.0.2).0 (subst (Contains sums) line found.1), other_apart path version hash found.0 found.2)
+    let (k, one, within, is, differs) = Any-from_list_any (is_other_hash path version hash) sums f in
+    let line = line_for path version one (first_so _ _ differs) in
+    (one.2, (holds path version one.2).0 (subst (Contains sums) line (k, within, is)), other_apart path version hash one differs)
 says_step text path version hash sums true false holds e f =
-    let found = any_found (is_line_for path version) sums e in
-    let line = line_for path version found.0 found.2 in
+    let (k, one, within, is, for) = Any-from_list_any (is_line_for path version) sums e in
     let only = λ (other : List ℕ) (is : IsSum text path version other).
     same_hash path version hash other (any_none (is_other_hash path version hash) sums f (path, version, other)
     ((holds path version other).1 is)) in
-    let is = (holds path version found.0.2).0 (subst (Contains sums) line found.1) in
-    (subst (IsSum text path version) (only found.0.2 is) is, only)
+    let sum = (holds path version one.2).0 (subst (Contains sums) (line_for path version one for) (k, within, is)) in
+    (subst (IsSum text path version) (only one.2 sum) sum, only)
 
 -- reordering the lines keeps the hashes
 pub holds_moved : (text : List ℕ) (sums moved : List Triple) → IsPermutation sums moved → HoldsSums sums text → HoldsSums moved text
 holds_moved text sums moved change holds = λ path version hash. (
   λ has. (holds path version hash).0 (Contains-permutation _ _ _ (IsPermutation-sym _ _ change) has),
-  λ is.
-      Contains-permutation _ _ _ change ((holds path version hash).1 is),
+  λ is. Contains-permutation _ _ _ change ((holds path version hash).1 is),
 )
 
 pub says : (text path version hash : List ℕ) (sums : List Triple) → HoldsSums sums text
-    → SaysOfHash text path version hash (if not (list_any (is_line_for path version) sums) then Unlisted
-    else (if list_any (is_other_hash path version hash) sums then Differs else Good))
-says text path version hash sums holds = says_step text path version hash sums
-    (list_any (is_line_for path version) sums) (list_any (is_other_hash path version hash) sums) holds refl refl
+    → SaysOfHash text path version hash (check_in sums path version hash)
+says text path version hash sums holds = says_step text path version hash sums _ _ holds refl refl
 
 pub any_map : {X Y : Type 0} (f : Y → Bool) (h : X → Y) (xs : List X) → list_any f (map h xs) ≡ list_any (λ x. f (h x)) xs
 any_map f h [] = refl

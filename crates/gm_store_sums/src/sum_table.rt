@@ -1,12 +1,10 @@
 //! The table of the hashes in a go.sum, sorted so that lookups are fast.
 
 ghost use Rattle.std.specs.Prelude.{◌≡◌, ◌<◌, ◌≤◌, ◌↔◌, ℕ, IfOk, OnOk, length, map, slice_index_or, true, false};
-ghost use Rattle.std.specs.List.Sorted.{IsPartitionPoint};
-ghost use Rattle.std.specs.Ordering.{is_le, is_lt};
 ghost use Rattle.std.specs.Str.{bytes_eq};
 ghost use Rattle.gm_store_sums.specs.Hash.{file_hash};
 ghost use Rattle.gm_store_sums.specs.Order.{AreInOrder, triple};
-ghost use Rattle.gm_store_sums.specs.Private.Lines.{key_cmp};
+ghost use Rattle.gm_store_sums.specs.Private.Lines.{IsEndOf, IsStartOf, key_cmp};
 ghost use Rattle.gm_store_sums.specs.Sums.{HasValidLines, IsFirstInvalid, ReadsAs, check_in, is_line_for};
 ghost use Rattle.gm_store_sums.specs.declared.sum_table.SumLine.{SumLine};
 ghost use Rattle.gm_store_sums.specs.declared.sum_table.SumFault.TheVariants.{NoMemory as OutOfMemory};
@@ -154,10 +152,7 @@ fn find(lines: &[SumLine<'_>], path: &ModPath, version: &ModVersion, hash: &[u8]
 fn lines_before(lines: &[SumLine<'_>], path: &ModPath, version: &ModVersion) -> usize
     requires { AreInOrder lines.now }
     ensures within { result ≤ length lines.now }
-    ensures point { IsPartitionPoint
-        (λ line. is_lt (key_cmp (triple line) (path.now, version.now)) ≡ true)
-        (λ line. is_lt (key_cmp (triple line) (path.now, version.now)) ≡ false)
-        lines.now result }
+    ensures point { IsStartOf lines.now (path.now, version.now) result }
 {
     lines.partition_point(|line| compare_key(line, path, version).is_lt())
 }
@@ -166,15 +161,9 @@ fn lines_before(lines: &[SumLine<'_>], path: &ModPath, version: &ModVersion) -> 
 fn lines_up_to(lines: &[SumLine<'_>], path: &ModPath, version: &ModVersion, start: usize) -> usize
     requires order { AreInOrder lines.now }
     requires within { start ≤ length lines.now }
-    requires point { IsPartitionPoint
-        (λ line. is_lt (key_cmp (triple line) (path.now, version.now)) ≡ true)
-        (λ line. is_lt (key_cmp (triple line) (path.now, version.now)) ≡ false)
-        lines.now start }
+    requires point { IsStartOf lines.now (path.now, version.now) start }
     ensures within { result ≤ length lines.now }
-    ensures point { IsPartitionPoint
-        (λ line. is_le (key_cmp (triple line) (path.now, version.now)) ≡ true)
-        (λ line. is_le (key_cmp (triple line) (path.now, version.now)) ≡ false)
-        lines.now result }
+    ensures point { IsEndOf lines.now (path.now, version.now) result }
 {
     // Most files have one line or none, so two lines are looked at before all of them are searched.
     if !is_for(lines, start, path, version) {
