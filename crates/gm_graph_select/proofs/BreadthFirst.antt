@@ -8,7 +8,7 @@ use Rattle.std.proofs.lemmas.Bool.{cases_eq, cases_lt, eqb-true, false_from_ne_t
 use Rattle.std.proofs.lemmas.List.{get_or_append_left, get_or_default, get_or-set_other, get_or-take, length-map, length-replicate, length-take-le, map-append, reverse-append, take_more}
 use Rattle.std.proofs.lemmas.List.Elements.{All-contains, All-push, All-weaker, Contains-append_cases, Contains-push_cases}
 use Rattle.std.proofs.lemmas.List.Sorted.{IsNonDecreasingBy-short}
-use Rattle.gm_name.specs.ModuleVersion.{ModuleVersion, module_at}
+use Rattle.gm_name.specs.ModuleVersion.{ModuleVersion, module_at, pair_total}
 use Rattle.gm_graph_select.specs.declared.step.Step.{Step}
 use Rattle.gm_graph_select.specs.declared.step.Step.TheVariants.{Main, Of}
 use Rattle.gm_graph_select.specs.declared.searching.Search.{Search}
@@ -17,12 +17,12 @@ use Rattle.gm_graph_select.specs.Adjacency.{GraphView}
 use Rattle.gm_graph_select.specs.Graph.{Edges, edge, step_cmp, among}
 use Rattle.gm_graph_select.specs.Chains.{IsChain, IsLevel, IsPredecessor, IsReached, Leads, along, at_main, begins, goes_on}
 use Rattle.gm_graph_select.specs.Private.Marking.{AreMarked, HasMark}
-use Rattle.gm_graph_select.specs.Private.Numbering.{AreInList, AreLeaving, HasList, IsGraph, step_at, steps_of}
+use Rattle.gm_graph_select.specs.Private.Numbering.{AreInList, AreLeaving, IsGraph, step_at, steps_of}
 use Rattle.gm_graph_select.specs.Order.{HaveSame}
 use Rattle.gm_graph_select.specs.Private.Searching.{AreEndsFound, AreNewVisits, ArePassed, AreTraced, IsEdgeTo, IsFollowed, IsSearchedTo, IsTraced, IsTracedTo, IsVisitDue, IsWithin, count_left, numbers_visited, visit_at, visited_step}
 use Rattle.gm_graph_select.proofs.Ascending.{member_head, no_member, one_member}
 use Rattle.gm_graph_select.proofs.Marks.{both_marked, count_set, none_marked, none_more, one_marked}
-use Rattle.gm_graph_select.proofs.NumberedSteps.{less_number, same_number, same_rank, step_number, step_of_rank, steps_ascend}
+use Rattle.gm_graph_select.proofs.NumberedSteps.{less_number, one_place, same_number, step_number, step_of_rank}
 use Rattle.gm_graph_select.proofs.RankedLists.{from_mapped}
 
 -- ---- levels
@@ -42,7 +42,7 @@ module _ (E : Edges) (n : ℕ) (y : ModuleVersion) (far : IsWithin E n (Of y) �
       go _ (along {s} {n = j} l e) low =
           let high = at_least s e j l in
           let same : j ≡ n = omega (arith, low, high) in
-          none s (record { leads = subst (λ (m : ℕ). Leads E s m) same l; least = at_least s e }) e
+          none s (record { leads = rw⁻¹ same l; least = at_least s e }) e
 
   -- A vertex that an edge leads to from a step of the level is one level further.
   pub is_further : (s : Step) → IsLevel E s n → E s y → IsLevel E (Of y) (suc n)
@@ -76,19 +76,19 @@ module _ (E : Edges) (steps : List Step) (visits : List Visit) (v : Visit) where
   traced_later place later w inside le (low, inl main) = (low, inl main)
   traced_later place later w inside le (low, inr (y, is, below, before)) =
       let kept = sym (visit_kept visits v w.before (omega (arith, below, inside))) in
-      (low, inr (y, is, omega (arith, below, le), subst (λ (u : Visit). IsPredecessor E (step_at steps u.number) y) kept before))
+      (low, inr (y, is, omega (arith, below, le), rw⁻¹ kept before))
 
   pub traced_more : (w : Visit) → IsTraced E steps visits (length visits) w → IsTraced E steps (visits ++ v ∷ []) (length (visits ++ v ∷ [])) w
   traced_more w h = traced_later (length visits) (length (visits ++ v ∷ [])) w (omega arith) (omega (arith, length-append visits (v ∷ []))) h
 
   all_traced : IsTraced E steps visits (length visits) v → AreTraced E steps visits → AreTraced E steps (visits ++ v ∷ [])
   all_traced last each k below = elim (cases_lt k (length visits)) [
-    | inl lt ↦ subst (λ (u : Visit). IsTraced E steps (visits ++ v ∷ []) k u) (sym (visit_kept visits v k lt))
+    | inl lt ↦ rw (visit_kept visits v k lt)
         (traced_later k k (visit_at visits k) (omega (arith, lt)) (omega arith) (each k lt))
     | inr ge ↦
         (let is : length visits ≡ k = omega (arith, ge, below, length-append visits (v ∷ [])) in
-        subst (λ (n : ℕ). IsTraced E steps (visits ++ v ∷ []) n (visit_at (visits ++ v ∷ []) n)) is
-        (subst (λ (u : Visit). IsTraced E steps (visits ++ v ∷ []) (length visits) u) (sym (visit_last visits v))
+        rw⁻¹ is
+        (rw (visit_last visits v)
         (traced_later (length visits) (length visits) v (omega arith) (omega arith) last)))
   ]
 
@@ -96,9 +96,9 @@ module _ (E : Edges) (steps : List Step) (visits : List Visit) (v : Visit) where
 
 visits_marked : {old mid new : List Bool} (first second : List Visit) → AreMarked old (numbers_visited first) mid
     → AreMarked mid (numbers_visited second) new → AreMarked old (numbers_visited (first ++ second)) new
-visits_marked {old} {mid} {new} first second a b =
-    subst (λ (ns : List ℕ). AreMarked old ns new) (sym (map-append (λ (v : Visit). v.number) first second))
-    (both_marked old mid new (numbers_visited first) (numbers_visited second) a b)
+visits_marked first second a b =
+    rw (map-append (λ (v : Visit). v.number) first second)
+    (both_marked a b)
 
 module _ (place : ℕ) (IsSuch : ℕ → Type 0) (old : Search) where
   pub none_new : (new : Search) → new.is_found.items ≡ old.is_found.items → new.next.items ≡ old.next.items
@@ -106,7 +106,7 @@ module _ (place : ℕ) (IsSuch : ℕ → Type 0) (old : Search) where
   none_new new same next = record {
     more = [];
     next = next ∙ sym (append-nil old.next.items);
-    found = subst (λ (marks : List Bool). AreMarked old.is_found.items [] marks) (sym same) (none_more old.is_found.items);
+    found = rw same (none_more old.is_found.items);
     count = (let kept = ap count_left same in omega (arith, kept));
     each = λ v h. absurd (no_member v h);
   }
@@ -118,9 +118,9 @@ module _ (place : ℕ) (IsSuch : ℕ → Type 0) (old : Search) where
   one_new new number made next below none such = record {
     more = v ∷ [];
     next = next;
-    found = subst (λ (marks : List Bool). AreMarked old.is_found.items (number ∷ []) marks) (sym made) (one_marked old.is_found.items number below);
+    found = rw made (one_marked old.is_found.items number below);
     count = (let fewer = count_set old.is_found.items number below none in let left = ap count_left made in omega (arith, fewer, left));
-    each = λ w h. subst (λ (u : Visit). (u.before ≡ place) × IsSuch u.number × (HasMark old.is_found.items u.number → ⊥)) (one_member v w h)
+    each = λ w h. rw⁻¹ (one_member v w h)
         (refl, such, λ mark. false≢true (sym none ∙ mark));
   }
     where
@@ -143,12 +143,12 @@ module _ (place : ℕ) (IsSuch : ℕ → Type 0) (old : Search) where
 -- ---- the edges of a visited step
 
 -- They stay found.
-pub ends_later : (G : GraphView) (goal : ModuleVersion) (old new : List Bool) (numbers : List ℕ) (number : ℕ)
+pub ends_later : (G : GraphView) (goal : ModuleVersion) {old new : List Bool} {numbers : List ℕ} (number : ℕ)
     → AreMarked old numbers new → AreEndsFound G goal old number → AreEndsFound G goal new number
-ends_later G goal old new numbers number marked ends y e =
+ends_later G goal number marked ends y e =
     let (miss, mark) = ends y e in (miss, λ i low at. (marked.each i).1 (inl (mark i low at)))
 
-module _ (G : GraphView) (are : IsGraph G) (goal : ℕ) (inside : goal < length G.vertices) (found : List Bool) (ranks : List ℕ)
+module _ {G : GraphView} (are : IsGraph G) (goal : ℕ) (inside : goal < length G.vertices) (found : List Bool) (ranks : List ℕ)
     (each : All (λ (rank : ℕ). (rank ≢ goal) × HasMark found (rank + 1)) ranks) where
   -- The edges to the vertices with these ranks were followed.
   pub ends_found : (number : ℕ) → AreLeaving G number ranks → AreEndsFound G (module_at G.vertices goal) found number
@@ -156,9 +156,8 @@ module _ (G : GraphView) (are : IsGraph G) (goal : ℕ) (inside : goal < length 
       let (rank, there, is) = from_mapped (module_at G.vertices) ranks y ((leaving.each y).1 e) in
       let below = All-contains (λ (r : ℕ). r < length G.vertices) ranks rank leaving.within there in
       let (miss, mark) = All-contains (λ (r : ℕ). (r ≢ goal) × HasMark found (r + 1)) ranks rank each there in (
-        (λ same. miss (same_rank G.vertices are.ascending rank goal below inside (is ∙ same))),
-        (λ i low at. subst (λ (n : ℕ). HasMark found n)
-            (same_number (steps_of G) (steps_ascend G are) (rank + 1) i (omega (arith, below, length-map G.vertices Of)) low
+        (λ same. miss (one_place pair_total (λ y. y) G.vertices are.ascending rank goal ([], []) below inside (is ∙ same))),
+        (λ i low at. rw⁻¹ (same_number are (rank + 1) i (omega (arith, below, length-map G.vertices Of)) low
             (step_of_rank G.vertices rank below ∙ ap Of is ∙ sym at)) mark),
       )
 
@@ -166,7 +165,7 @@ module _ (G : GraphView) (are : IsGraph G) (goal : ℕ) (inside : goal < length 
   pub list_passed : (passed : List Bool) (list : ℕ) → AreInList G list ranks → ArePassed G (module_at G.vertices goal) found passed
       → ArePassed G (module_at G.vertices goal) found (set passed list true)
   list_passed passed list leaving old number other low has mark = elim (cases_eq other list) [
-    | inl same ↦ ends_found number (leaving number low (subst (λ (p : ℕ). HasList G number p) same has))
+    | inl same ↦ ends_found number (leaving number low (rw⁻¹ same has))
     | inr unlike ↦ old number other low has (sym (get_or-set_other passed list other true false unlike) ∙ mark)
   ]
 
@@ -176,7 +175,7 @@ pub rank_followed : (goal : ℕ) (old new : List Bool) (ranks : List ℕ) (i : �
     → All (λ (rank : ℕ). (rank ≢ goal) × HasMark old (rank + 1)) (take i ranks)
     → All (λ (rank : ℕ). (rank ≢ goal) × HasMark new (rank + 1)) (take (i + 1) ranks)
 rank_followed goal old new ranks i marked below miss each =
-    subst (λ (rs : List ℕ). All (λ (rank : ℕ). (rank ≢ goal) × HasMark new (rank + 1)) rs) (sym (take_more ranks i 0 below))
+    rw (take_more ranks i 0 below)
     (All-push (λ (rank : ℕ). (rank ≢ goal) × HasMark new (rank + 1)) (take i ranks) (get_or ranks i 0)
     (All-weaker (λ (rank : ℕ). (rank ≢ goal) × HasMark old (rank + 1)) (λ (rank : ℕ). (rank ≢ goal) × HasMark new (rank + 1))
     (λ rank (apart, h). (apart, (marked.each (rank + 1)).1 (inl h))) (take i ranks) each)
@@ -195,16 +194,16 @@ module _ {G : GraphView} {goal : ModuleVersion} {level : ℕ} {start : Search} {
   -- A step of the level with an edge is that of a visit that is due.
   visit_to : (s : Step) (y : ModuleVersion) → E s y → IsLevel E s level → (v : Visit) × Contains due v × (step_at steps v.number ≡ s)
   visit_to s y e l =
-      let (i, inside, at) = step_number G are s y e in
-      let (v, there, number) = h.listed i inside (subst (λ (t : Step). IsLevel E t level) (sym at) l) in
+      let (i, inside, at) = step_number are s y e in
+      let (v, there, number) = h.listed i inside (rw at l) in
       (v, there, ap (step_at steps) number ∙ at)
 
   -- No visit was made yet.
   pub level_begins : IsFollowed G goal level start.is_found.items [] start
   level_begins = record {
-    found = subst (λ (vs : List Visit). AreMarked start.is_found.items (numbers_visited vs) start.is_found.items) (sym h.none) (none_more start.is_found.items);
+    found = rw h.none (none_more start.is_found.items);
     count = (let long = ap length h.none in omega (arith, long));
-    each = λ v g. absurd (no_member v (subst (λ (vs : List Visit). Contains vs v) h.none g));
+    each = λ v g. absurd (no_member v (rw h.none at g));
     ends = λ v g. absurd (no_member v g);
     visits = h.visits;
     passed = h.passed;
@@ -217,16 +216,16 @@ module _ {G : GraphView} {goal : ModuleVersion} {level : ℕ} {start : Search} {
     on_level = (h.each v (i, below, sym is)).0
 
     now_traced : AreTraced E steps t.visits.items
-    now_traced = subst (λ (vs : List Visit). AreTraced E steps vs) (sym longer) (all_traced E steps s.visits.items v traced f.visits)
+    now_traced = rw longer (all_traced E steps s.visits.items v traced f.visits)
 
     -- Its step is the predecessor of a vertex that no visit before it leads to.
     predecessor : (y : ModuleVersion) → E (step_at steps v.number) y → (IsWithin E level (Of y) → ⊥)
         → ((w : Visit) → Contains (take i due) w → E (step_at steps w.number) y → ⊥)
         → (place : ℕ) → place ≡ length s.visits.items → IsPredecessor E (visited_step steps t.visits.items place) y
     predecessor y e far none place at =
-        subst (λ (vs : List Visit). IsPredecessor E (visited_step steps vs place) y) (sym longer)
-        (subst (λ (p : ℕ). IsPredecessor E (visited_step steps (s.visits.items ++ v ∷ []) p) y) (sym at)
-        (subst (λ (u : Visit). IsPredecessor E (step_at steps u.number) y) (sym (visit_last s.visits.items v)) (record {
+        rw longer
+        (rw at
+        (rw (visit_last s.visits.items v) (record {
           is_edge = e;
           level = level;
           nearer = on_level;
@@ -237,12 +236,12 @@ module _ {G : GraphView} {goal : ModuleVersion} {level : ℕ} {start : Search} {
         lower : (a : Step) → E a y → IsLevel E a level → is_lt (step_cmp a (step_at steps v.number)) ≡ true → ⊥
         lower a there l low =
             let (w, (p, room, found), same) = visit_to a y there l in
-            let less : w.number < v.number = less_number steps (steps_ascend G are) w.number v.number
+            let less : w.number < v.number = less_number are w.number v.number
             (h.each w (p, room, found)).1.0 traced.0
-            (subst (λ (b : Step). is_lt (step_cmp b (step_at steps v.number)) ≡ true) (sym same) low) in
+            (rw same low) in
             elim (cases_lt p i) [
               | inl lt ↦ none w (p, omega (arith, length-take-le i due (omega (arith, below)), lt), get_or-take i due p w lt ∙ found)
-                  (subst (λ (b : Step). E b y) (sym same) there)
+                  (rw same there)
               | inr ge ↦
                   (let up : (get_or due i w).number ≤ (get_or due p w).number = h.ascending i p w ge room in
                   let here : (get_or due i w).number ≡ v.number = ap (λ (u : Visit). u.number) (get_or_default due i w v below ∙ sym is) in
@@ -266,31 +265,31 @@ module _ {G : GraphView} {goal : ModuleVersion} {level : ℕ} {start : Search} {
       its_visit u there =
           let (place, (low, y, at, e), none) = new.each u there in
           let far : IsWithin E level (Of y) → ⊥ = λ w.
-          none ((f.found.each u.number).1 (inl ((h.found u.number low).1 (subst (λ (a : Step). IsWithin E level a) (sym at) w)))) in
+          none ((f.found.each u.number).1 (inl ((h.found u.number low).1 (rw at w)))) in
           let long = ap length longer in
           let before : u.before < length t.visits.items = omega (arith, place, long, length-append s.visits.items (v ∷ [])) in
           let from = predecessor y e far (λ w made a. none ((f.ends w made y a).1 u.number low at)) u.before place in
           let further = is_further E level y far (step_at steps v.number) on_level e in
-          (subst (λ (a : Step). IsLevel E a (suc level)) (sym at) further, (low, inr (y, at, before, from)))
+          (rw at further, (low, inr (y, at, before, from)))
 
       -- It doesn't.
       pub visit_made : (ArePassed G goal s.is_found.items s.is_passed.items → ArePassed G goal t.is_found.items t.is_passed.items
           × AreEndsFound G goal t.is_found.items v.number)
           → IsFollowed G goal level start.is_found.items (take (i + 1) due) t
       visit_made ends = record {
-        found = subst (λ (vs : List Visit). AreMarked start.is_found.items (numbers_visited vs) t.is_found.items) (sym new.next)
+        found = rw new.next
             (visits_marked s.next.items new.more f.found new.found);
         count = (let old = f.count in let fewer = new.count in omega (arith, old, fewer, ap length new.next, length-append s.next.items new.more));
-        each = λ u there. elim (Contains-append_cases s.next.items new.more u (subst (λ (vs : List Visit). Contains vs u) new.next there)) [
+        each = λ u there. elim (Contains-append_cases s.next.items new.more u (rw⁻¹ new.next there)) [
           | inl before ↦ (
             (f.each u before).0,
-            subst (λ (vs : List Visit). IsTraced E steps vs (length vs) u) (sym longer) (traced_more E steps s.visits.items v u (f.each u before).1),
+            rw longer (traced_more E steps s.visits.items v u (f.each u before).1),
           )
           | inr later ↦ its_visit u later
         ];
-        ends = λ u there. elim (Contains-push_cases (take i due) v u (subst (λ (vs : List Visit). Contains vs u) taken there)) [
-          | inl before ↦ ends_later G goal s.is_found.items t.is_found.items (numbers_visited new.more) u.number new.found (f.ends u before)
-          | inr last ↦ subst (λ (w : Visit). AreEndsFound G goal t.is_found.items w.number) last (ends f.passed).1
+        ends = λ u there. elim (Contains-push_cases (take i due) v u (rw⁻¹ taken there)) [
+          | inl before ↦ ends_later G goal u.number new.found (f.ends u before)
+          | inr last ↦ rw⁻¹ last (ends f.passed).1
         ];
         visits = now_traced;
         passed = (ends f.passed).0;
@@ -310,19 +309,19 @@ module _ {G : GraphView} {goal : ModuleVersion} {level : ℕ} {start : Search} {
   module _ {s : Search} (f : IsFollowed G goal level start.is_found.items due s) where
     found_end : (a : Step) (y : ModuleVersion) → IsLevel E a level → E a y
         → (y ≢ goal) × ((i : ℕ) → i < length steps → step_at steps i ≡ Of y → HasMark s.is_found.items i)
-    found_end a y l e = let (v, there, same) = visit_to a y e l in f.ends v there y (subst (λ (b : Step). E b y) (sym same) e)
+    found_end a y l e = let (v, there, same) = visit_to a y e l in f.ends v there y (rw same e)
 
     found_next : (i : ℕ) → i < length steps → IsWithin E (suc level) (step_at steps i) → HasMark s.is_found.items i
     found_next i inside w = true_from_ne_false (get_or s.is_found.items i false) (λ none. go none (step_at steps i) refl)
       where
         old : (a : Step) → step_at steps i ≡ a → IsWithin E level a → HasMark s.is_found.items i
-        old a is g = (f.found.each i).1 (inl ((h.found i inside).1 (subst (λ (b : Step). IsWithin E level b) (sym is) g)))
+        old a is g = (f.found.each i).1 (inl ((h.found i inside).1 (rw is g)))
 
         go : get_or s.is_found.items i false ≡ false → (a : Step) → step_at steps i ≡ a → ⊥
         go none Main is = false≢true (sym none ∙ old Main is (0, omega arith, at_main))
         go none (Of y) is = not_further E level y (λ g. false≢true (sym none ∙ old (Of y) is g))
             (λ a l e. false≢true (sym none ∙ (found_end a y l e).1 i inside is))
-            (subst (λ (a : Step). IsWithin E (suc level) a) is w)
+            (rw⁻¹ is w)
 
     -- A step that was found was found before, or is that of a visit to the next level.
     found_by : (i : ℕ) → HasMark s.is_found.items i → HasMark start.is_found.items i ⊎ ((v : Visit) × Contains s.next.items v × (v.number ≡ i))
@@ -330,7 +329,7 @@ module _ {G : GraphView} {goal : ModuleVersion} {level : ℕ} {start : Search} {
 
     pub level_more : {t : Search} {next : List Visit} → t ≡ record s { next = t.next } → t.next.items ≡ [] → HaveSame s.next.items next
         → IsNonDecreasingBy (λ (v : Visit). v.number) next → IsSearchedTo G goal (suc level) t next
-    level_more {t} {next} others none same up = subst (λ (u : Search). IsSearchedTo G goal (suc level) u next) (sym others) (record {
+    level_more {t} {next} others none same up = rw others (record {
       size = f.found.count ∙ h.size;
       found = λ i inside. ((λ g. within i inside g), (λ w. found_next i inside w));
       listed = dues;
@@ -348,7 +347,7 @@ module _ {G : GraphView} {goal : ModuleVersion} {level : ℕ} {start : Search} {
           | inr (v, there, number) ↦ (
             suc level,
             omega arith,
-            subst (λ (n : ℕ). Leads E (step_at steps n) (suc level)) number (f.each v there).0.leads,
+            rw⁻¹ number (f.each v there).0.leads,
           )
         ]
 
@@ -363,17 +362,17 @@ module _ {G : GraphView} {goal : ModuleVersion} {level : ℕ} {start : Search} {
 pub first_level : (G : GraphView) (goal : ModuleVersion) (begun : Search) (due : List Visit) → IsGraph G → due ≡ record { number = 0; before = 0 } ∷ []
     → begun.is_found.items ≡ set (replicate (length (steps_of G)) false) 0 true → begun.visits.items ≡ [] → begun.next.items ≡ []
     → ((list : ℕ) → HasMark begun.is_passed.items list → ⊥) → IsSearchedTo G goal 0 begun due
-first_level G goal begun due are is found visits next passed = subst (λ (d : List Visit). IsSearchedTo G goal 0 begun d) (sym is) (record {
+first_level G goal begun due are is found visits next passed = rw is (record {
   size = marked.count ∙ length-replicate (length steps) false;
   found = λ i inside. (
     (λ g. elim ((marked.each i).0 g) [
       | inl old ↦ absurd (none_marked (length steps) i old)
-      | inr first ↦ subst (λ (n : ℕ). IsWithin E 0 (step_at steps n)) (one_member 0 i first) (0, omega arith, at_main)
+      | inr first ↦ rw⁻¹ (one_member 0 i first) (0, omega arith, at_main)
     ]),
     (λ w. (marked.each i).1 (inr (0, omega arith, sym (only i inside w)))),
   );
   listed = λ i inside l. (v, (0, omega arith, refl), sym (only i inside (0, omega arith, l.leads)));
-  each = λ w there. subst (λ (u : Visit). IsVisitDue G 0 begun.visits.items u) (one_member v w there)
+  each = λ w there. rw⁻¹ (one_member v w there)
       (record { leads = at_main; least = λ m h. omega arith }, (omega arith, inl refl));
   ascending = IsNonDecreasingBy-short (λ (u : Visit). u.number) (v ∷ []) (omega arith);
   visits = λ k below. absurd (let nil = ap length visits in omega (arith, below, nil));
@@ -392,11 +391,11 @@ first_level G goal begun due are is found visits next passed = subst (λ (d : Li
     v = record { number = 0; before = 0 }
 
     marked : AreMarked (replicate (length steps) false) (0 ∷ []) begun.is_found.items
-    marked = subst (λ (marks : List Bool). AreMarked (replicate (length steps) false) (0 ∷ []) marks) (sym found)
+    marked = rw found
         (one_marked (replicate (length steps) false) 0 (omega (arith, length-replicate (length steps) false)))
 
     only : (i : ℕ) → i < length steps → IsWithin E 0 (step_at steps i) → i ≡ 0
-    only i inside w = same_number steps (steps_ascend G are) i 0 inside (omega arith) (within_none E (step_at steps i) w)
+    only i inside w = same_number are i 0 inside (omega arith) (within_none E (step_at steps i) w)
 
 -- Nothing leads to a vertex that the graph has not.
 pub no_vertex : (G : GraphView) (goal : ModuleVersion) → IsGraph G → (Contains G.vertices goal → ⊥) → IsReached (among G.edges) (Of goal) → ⊥
@@ -420,7 +419,7 @@ module _ (E : Edges) (steps : List Step) (visits : List Visit) where
   pub back_begins : (goal : ModuleVersion) (p : ℕ) (items : List Step) → items ≡ Of goal ∷ []
       → IsPredecessor E (visited_step steps visits p) goal → (c : List Step) → IsChain E (visited_step steps visits p) c
       → IsChain E (Of goal) (c ++ reverse items)
-  back_begins goal p items is before c h = subst (λ (l : List Step). IsChain E (Of goal) (c ++ reverse l)) (sym is) (goes_on h before)
+  back_begins goal p items is before c h = rw is (goes_on h before)
 
   -- one step back
   pub back_more : (goal : ModuleVersion) (k : ℕ) (x : ModuleVersion) (items more : List Step) → IsTraced E steps visits k (visit_at visits k)
@@ -434,14 +433,13 @@ module _ (E : Edges) (steps : List Step) (visits : List Visit) where
       longer : (c : List Step) → IsChain E (Of y) (c ++ Of y ∷ []) → IsChain E (Of goal) (c ++ reverse more)
       longer c h =
           let alike : Of y ≡ Of x = sym same ∙ at in
-          subst (λ (l : List Step). IsChain E (Of goal) l)
-          (append_assoc c (Of x ∷ []) (reverse items) ∙ ap (λ (l : List Step). c ++ l) (sym (ap reverse is ∙ reverse-append items (Of x ∷ []))))
-          (chain (c ++ Of x ∷ []) (subst (λ (s : Step). IsChain E s (c ++ Of x ∷ [])) (sym at)
-          (subst (λ (s : Step). IsChain E s (c ++ s ∷ [])) alike h)))
+          rw⁻¹ (append_assoc c (Of x ∷ []) (reverse items) ∙ ap (λ (l : List Step). c ++ l) (sym (ap reverse is ∙ reverse-append items (Of x ∷ []))))
+          (chain (c ++ Of x ∷ []) (rw at
+          (rw⁻¹ alike h)))
 
   -- The main module was reached.
   pub back_done : (goal : ModuleVersion) (at : Step) (items all : List Step) → at ≡ Main
       → all ≡ reverse (items ++ Main ∷ []) → ((c : List Step) → IsChain E at c
       → IsChain E (Of goal) (c ++ reverse items)) → IsChain E (Of goal) all
-  back_done goal at items all main is chain = subst (λ (l : List Step). IsChain E (Of goal) l) (sym (is ∙ reverse-append items (Main ∷ [])))
-      (chain (Main ∷ []) (subst (λ (s : Step). IsChain E s (Main ∷ [])) (sym main) begins))
+  back_done goal at items all main is chain = rw (is ∙ reverse-append items (Main ∷ []))
+      (chain (Main ∷ []) (rw main begins))

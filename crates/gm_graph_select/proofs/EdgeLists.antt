@@ -1,5 +1,5 @@
 -- The edges of adjacency lists are those with their pairs of numbers.
-use Rattle.std.proofs.Common.{◌≡◌, ◌∙◌, ◌<◌, ℕ, List, [], ◌∷◌, ◌++◌, map, ap, ap₂, refl, subst, sym}
+use Rattle.std.proofs.Common.{◌≡◌, ◌∙◌, ◌<◌, ℕ, List, [], ◌∷◌, ◌++◌, map, ap, ap₂, refl, sym}
 use Rattle.std.specs.Prelude.{All}
 use Rattle.gm_graph_select.specs.declared.step.Edge.{Edge}
 use Rattle.gm_graph_select.specs.Adjacency.{HaveNumbers, IsBelow, IsNumbered, StepEdges, edges_from, edges_of}
@@ -36,6 +36,6 @@ pub next_below : (count : ℕ) (pairs : List NumberedEdge) (pair : NumberedEdge)
     → pairs ≡ pair ∷ rest → All (AreEndsBelow count) pairs
     → IsBelow count pair.0 × (pair.1 < count) × All (AreEndsBelow count) rest
 next_below count pairs pair rest is below =
-    let all : All (AreEndsBelow count) (pair ∷ rest) = subst (λ (ps : List NumberedEdge). All (AreEndsBelow count) ps) is below in
+    let all : All (AreEndsBelow count) (pair ∷ rest) = rw is at below in
     let here : AreEndsBelow count pair = All-head (AreEndsBelow count) pair rest all in
     (here.0, here.1, All-tail (AreEndsBelow count) pair rest all)

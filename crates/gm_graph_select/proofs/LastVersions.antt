@@ -1,14 +1,13 @@
 -- Among vertices in ascending order, the last ones of their paths are the selected ones.
-use Rattle.std.proofs.Common.{Option, ◌≡◌, ◌≢◌, ◌⊎◌, ◌&&◌, ℕ, zero, suc, Bool, true, false, List, [], ◌∷◌, map, Contains, ap, ◌∙◌, sym, refl, subst, inl, inr, arith}
+use Rattle.std.proofs.Common.{Option, ◌≡◌, ◌≢◌, ◌⊎◌, ◌&&◌, ℕ, Bool, true, false, List, [], ◌∷◌, map, Contains, ap, ◌∙◌, sym, refl, inl, inr, arith}
 use Rattle.std.specs.Prelude.{if◌then◌else◌, not}
 use Rattle.std.specs.declared.cmp.Ordering.{Ordering}
 use Rattle.std.specs.declared.cmp.Ordering.TheVariants.{Less, Equal, Greater}
 use Rattle.std.specs.Ordering.{is_gt, nat_cmp, ordering_reverse, ordering_then}
 use Rattle.std.specs.Cmp.Lexicographic.{slice_cmp}
 use Rattle.std.specs.Str.{bytes_eq}
-use Rattle.std.proofs.lemmas.Bool.{false≢true}
+use Rattle.std.proofs.lemmas.Bool.{cases_Bool, false≢true}
 use Rattle.std.proofs.lemmas.Cmp.{nat_list_cmp_total}
-use Rattle.std.proofs.lemmas.List.{get_or_default}
 use Rattle.std.proofs.lemmas.Slice.Eq.{bytes_eq-Decides}
 use Rattle.gm_version.specs.Version.{version_cmp}
 use Rattle.gm_version.specs.VersionOrder.{version_total}
@@ -18,7 +17,7 @@ use Rattle.gm_graph_select.specs.BuildList.{AreSelected, IsBuildList, entry_of, 
 use Rattle.gm_graph_select.specs.Graph.{AreEnds, Edges}
 use Rattle.gm_graph_select.specs.Greatest.{first_has_path, greatest_of, is_selected}
 use Rattle.gm_graph_select.specs.Order.{IsAscending}
-use Rattle.gm_graph_select.proofs.Ascending.{less_itself, member_cases, member_head, member_tail, no_member, pairs_head, pairs_tail}
+use Rattle.gm_graph_select.proofs.Ascending.{less_itself, member_cases, member_head, member_tail, no_member, pairs_cons, pairs_head, pairs_tail}
 use Rattle.gm_graph_select.proofs.Greatest.{equal_itself}
 
 abbrev Below : ModuleVersion → ModuleVersion → Type 0
@@ -37,7 +36,7 @@ below_parts x y h = go (slice_cmp nat_cmp x.0 y.0) refl h
     go Greater e h = cc
 
 no_lower_path : (x y : ModuleVersion) → x.0 ≡ y.0 → path_cmp x y ≡ Less → ⊥
-no_lower_path x y same less = less_itself nat_list_cmp_total x.0 (subst (λ (p : List ℕ). slice_cmp nat_cmp x.0 p ≡ Less) (sym same) less)
+no_lower_path x y same less = less_itself nat_list_cmp_total x.0 (rw (← same) at less)
 
 lower_version : (x y : ModuleVersion) → Below x y → x.0 ≡ y.0 → version_cmp x.1 y.1 ≡ Less
 lower_version x y h same = elim (below_parts x y h) [
@@ -102,7 +101,7 @@ selected_first main z zs up e =
       bytes_eq-differ z.0 main two.0,
       member_head z zs,
       (λ y there same. elim (member_cases z y zs there) [
-        | inl is ↦ subst (λ (v : ModuleVersion). is_gt (version_cmp v.1 z.1) ≡ false) is (equal_itself z.1)
+        | inl is ↦ rw⁻¹ is (equal_itself z.1)
         | inr later ↦ absurd (other_paths z zs up two.1 y later same)
       ]),
     )
@@ -114,7 +113,7 @@ selected_behind main z zs up x is =
       is.0,
       member_tail z x zs is.1,
       (λ y there same. elim (member_cases z y zs there) [
-        | inl first ↦ subst (λ (v : ModuleVersion). is_gt (version_cmp v.1 x.1) ≡ false) first
+        | inl first ↦ rw⁻¹ first
             (ap is_gt (lower_version z x lower (ap (λ (v : ModuleVersion). v.0) first ∙ same)))
         | inr later ↦ is.2 y later same
       ]),
@@ -125,7 +124,7 @@ selected_by : (main : List ℕ) (z : ModuleVersion) (zs : List ModuleVersion) �
     → (x : ModuleVersion) (b : Bool) → is_selected main z zs ≡ b
     → Contains (if b then z ∷ greatest_of main zs else greatest_of main zs) x → IsGreatestOf main (z ∷ zs) x
 selected_by main z zs up behind x true e h = elim (member_cases z x (greatest_of main zs) h) [
-  | inl is ↦ subst (λ (v : ModuleVersion). IsGreatestOf main (z ∷ zs) v) is (selected_first main z zs up e)
+  | inl is ↦ rw⁻¹ is (selected_first main z zs up e)
   | inr later ↦ selected_behind main z zs up x (behind x later)
 ]
 selected_by main z zs up behind x false e h = selected_behind main z zs up x (behind x h)
@@ -134,6 +133,17 @@ selected_is : (main : List ℕ) (xs : List ModuleVersion) → IsAscending pair_c
     → Contains (greatest_of main xs) x → IsGreatestOf main xs x
 selected_is main [] up x h = absurd (no_member x h)
 selected_is main (z ∷ zs) up x h = selected_by main z zs up (λ y there. selected_is main zs (pairs_tail Below z zs up) y there) x (is_selected main z zs) refl h
+
+-- What is selected among the vertices behind the first one is selected.
+selected_later : (main : List ℕ) (z x : ModuleVersion) (zs : List ModuleVersion) → Contains (greatest_of main zs) x → Contains (greatest_of main (z ∷ zs)) x
+selected_later main z x zs h = along (is_selected main z zs)
+  where
+    along : (b : Bool) → Contains (if b then z ∷ greatest_of main zs else greatest_of main zs) x
+    along true = member_tail z x (greatest_of main zs) h
+    along false = h
+
+selected_now : (main : List ℕ) (z : ModuleVersion) (zs : List ModuleVersion) → is_selected main z zs ≡ true → Contains (greatest_of main (z ∷ zs)) z
+selected_now main z zs is = rw is (member_head z (greatest_of main zs))
 
 -- No vertex of the same path comes after the greatest version.
 last_of_path : (z : ModuleVersion) (zs : List ModuleVersion) → IsAscending pair_cmp (z ∷ zs)
@@ -149,35 +159,47 @@ is_selected_in : (main : List ℕ) (xs : List ModuleVersion) → IsAscending pai
     → IsGreatestOf main xs x → Contains (greatest_of main xs) x
 is_selected_in main [] up x is = absurd (no_member x is.1)
 is_selected_in main (z ∷ zs) up x is = elim (member_cases z x zs is.1) [
-  | inl first ↦ here first (is_selected main z zs) (subst (λ (v : ModuleVersion). is_selected main v zs ≡ true) (sym first) (kept first))
-  | inr later ↦ along (is_selected main z zs) (is_selected_in main zs (pairs_tail Below z zs up) x (is.0, later, λ y there. is.2 y (member_tail z y zs there)))
+  | inl first ↦ rw⁻¹ first (selected_now main z zs (rw first (both_not (bytes_eq x.0 main) (first_has_path x.0 zs) (apart_texts x.0 main is.0)
+      (last_of_path x zs (rw first at up) (λ y there. is.2 y (member_tail z y zs there))))))
+  | inr later ↦ selected_later main z x zs
+      (is_selected_in main zs (pairs_tail Below z zs up) x (is.0, later, λ y there. is.2 y (member_tail z y zs there)))
 ]
-  where
-    kept : z ≡ x → is_selected main x zs ≡ true
-    kept first = both_not (bytes_eq x.0 main) (first_has_path x.0 zs) (apart_texts x.0 main is.0)
-        (last_of_path x zs (subst (λ (v : ModuleVersion). IsAscending pair_cmp (v ∷ zs)) first up) (λ y there. is.2 y (member_tail z y zs there)))
 
-    here : z ≡ x → (b : Bool) → b ≡ true → Contains (if b then z ∷ greatest_of main zs else greatest_of main zs) x
-    here first true e = subst (λ (v : ModuleVersion). Contains (z ∷ greatest_of main zs) v) first (member_head z (greatest_of main zs))
-    here first false e = cc
+-- ---- each path has a selected vertex
 
-    along : (b : Bool) → Contains (greatest_of main zs) x → Contains (if b then z ∷ greatest_of main zs else greatest_of main zs) x
-    along true h = member_tail z x (greatest_of main zs) h
-    along false h = h
+abbrev HasSelected : List ℕ → List ModuleVersion → List ℕ → Type 0
+HasSelected main xs path = (x : ModuleVersion) × Contains (greatest_of main xs) x × (x.0 ≡ path)
+
+-- Among the vertices from one on, if the next one has its path only if there is one behind it.
+selected_from : (main : List ℕ) (z : ModuleVersion) (zs : List ModuleVersion) → z.0 ≢ main
+    → (first_has_path z.0 zs ≡ true → HasSelected main zs z.0) → HasSelected main (z ∷ zs) z.0
+selected_from main z zs apart behind = elim (cases_Bool (first_has_path z.0 zs)) [
+  | inl more ↦ let (x, there, is) = behind more in (x, selected_later main z x zs there, is)
+  | inr last ↦ (z, selected_now main z zs (both_not (bytes_eq z.0 main) (first_has_path z.0 zs) (apart_texts z.0 main apart) last), refl)
+]
+
+selected_behind_first : (main : List ℕ) (z : ModuleVersion) (zs : List ModuleVersion) → z.0 ≢ main
+    → ((y : ModuleVersion) → Contains zs y → y.0 ≢ main → HasSelected main zs y.0) → first_has_path z.0 zs ≡ true → HasSelected main zs z.0
+selected_behind_first main z [] apart each none = absurd (false≢true none)
+selected_behind_first main z (next ∷ zs) apart each same =
+    let is = (bytes_eq-Decides next.0 z.0).0 same in
+    let (x, there, path) = each next (member_head next zs) (λ e. apart (sym is ∙ e)) in (x, there, path ∙ is)
+
+-- Each path of the vertices but the main module's has one.
+pub path_selected : (main : List ℕ) (xs : List ModuleVersion) (y : ModuleVersion) → Contains xs y → y.0 ≢ main → HasSelected main xs y.0
+path_selected main [] y there apart = absurd (no_member y there)
+path_selected main (z ∷ zs) y there apart = elim (member_cases z y zs there) [
+  | inl is ↦ rw⁻¹ is (selected_from main z zs (rw is apart)
+      (selected_behind_first main z zs (rw is apart) (λ v within other. path_selected main zs v within other)))
+  | inr later ↦ let (x, found, is) = path_selected main zs y later apart in (x, selected_later main z x zs found, is)
+]
 
 -- ---- their order
-
-pairs_more : (x : ModuleVersion) (xs : List ModuleVersion) → ((y : ModuleVersion) → Contains xs y → path_cmp x y ≡ Less)
-    → IsAscending path_cmp xs → IsAscending path_cmp (x ∷ xs)
-pairs_more x xs low up zero zero d lt below = absurd (omega (arith, lt))
-pairs_more x xs low up zero (suc j) d lt below = low _ (j, omega (arith, below), get_or_default xs j _ d (omega (arith, below)))
-pairs_more x xs low up (suc i) zero d lt below = absurd (omega (arith, lt))
-pairs_more x xs low up (suc i) (suc j) d lt below = up i j d (omega (arith, lt)) (omega (arith, below))
 
 ascend_by : (main : List ℕ) (z : ModuleVersion) (zs : List ModuleVersion) → IsAscending pair_cmp (z ∷ zs)
     → IsAscending path_cmp (greatest_of main zs) → (b : Bool) → is_selected main z zs ≡ b
     → IsAscending path_cmp (if b then z ∷ greatest_of main zs else greatest_of main zs)
-ascend_by main z zs up behind true e = pairs_more z (greatest_of main zs)
+ascend_by main z zs up behind true e = pairs_cons (λ x y. path_cmp x y ≡ Less) z (greatest_of main zs)
     (λ y h. let there = (selected_is main zs (pairs_tail Below z zs up) y h).1 in
     lower_path z y (pairs_head Below z y zs up there) (other_paths z zs up (not_and_parts (bytes_eq z.0 main) (first_has_path z.0 zs) e).1 y there)) behind
 ascend_by main z zs up behind false e = behind

@@ -1,18 +1,14 @@
 -- The laws hold.
-use Rattle.std.proofs.Common.{◌≡◌, ◌≢◌, ◌<◌, ◌≤◌, ℕ, zero, suc, false, List, [], ◌∷◌, ◌++◌, length, take, drop, get_or, map, Option, Some, None, Contains, append_assoc, ap, ◌∙◌, sym, refl, subst, inl, inr, arith, length-append, length-drop}
-use Rattle.std.specs.Prelude.{AllPairs, All}
+use Rattle.std.proofs.Common.{◌≡◌, ◌≢◌, ◌<◌, ◌≤◌, ℕ, zero, suc, false, List, [], ◌∷◌, ◌++◌, length, take, drop, get_or, map, Option, Contains, append_assoc, ap, ◌∙◌, sym, refl, inl, inr, arith, length-append, length-drop}
+use Rattle.std.specs.Prelude.{AllPairs}
 use Rattle.std.specs.Cmp.{IsTotalOrder, on_total}
-use Rattle.std.specs.Cmp.Lexicographic.{nat_list_cmp_total, slice_cmp}
-use Rattle.std.specs.Ordering.{is_gt, is_lt, nat_cmp, ordering_reverse}
+use Rattle.std.specs.Cmp.Lexicographic.{nat_list_cmp_total}
+use Rattle.std.specs.Ordering.{is_lt, ordering_reverse}
 use Rattle.std.specs.declared.cmp.Ordering.{Ordering}
 use Rattle.std.specs.declared.cmp.Ordering.TheVariants.{Less, Equal, Greater}
 use Rattle.std.proofs.lemmas.Bool.{false≢true}
-use Rattle.std.proofs.lemmas.List.{get_or-map, length-map, length-take, take-append-drop}
-use Rattle.std.proofs.lemmas.List.Kept.{AllPairs-cons}
-use Rattle.std.proofs.lemmas.List.Elements.{Contains-append_right, Contains-get_or}
-use Rattle.gm_version.specs.Version.{version_cmp}
+use Rattle.std.proofs.lemmas.List.{length-take, take-append-drop}
 use Rattle.gm_name.specs.ModuleVersion.{ModuleVersion}
-use Rattle.gm_graph_select.specs.declared.step.Edge.{Edge}
 use Rattle.gm_graph_select.specs.declared.step.Step.{Step}
 use Rattle.gm_graph_select.specs.declared.step.Step.TheVariants.{Main, Of}
 use Rattle.gm_graph_select.specs.Graph.{Edges, among, step_cmp}
@@ -21,17 +17,18 @@ use Rattle.gm_name.specs.Private.ModuleVersion.{pair-anti}
 use Rattle.gm_graph_select.specs.BuildList.{IsAt, IsBuildList, IsEntryOf, IsSelected, entry_of, main_entry, path_cmp, path_of}
 use Rattle.gm_graph_select.specs.Chains.{at_main, along, IsPredecessor, IsChain, begins, goes_on, IsLevel, IsReached, IsRooted}
 use Rattle.gm_graph_select.specs.Laws.{EntryWith, ArePages, no_more, one_more, entries_of_pages, ChainIsShortest, EntriesAreReached, MainIsFirst, OneBuildList, OneChain, OneRest, PagesExist, PagesJoin, RowsAreEnds, RowsSatisfy}
-use Rattle.gm_graph_select.proofs.Ascending.{less_itself, member_cases, member_head, member_tail, pairs_split, same_lists}
-use Rattle.gm_graph_select.proofs.Greatest.{IsGreatest, bests, ending}
-use Rattle.gm_graph_select.proofs.Same.{EndAlike, alike_selected, ending_ends, ends_alike, ends_of}
+use Rattle.gm_graph_select.proofs.Ascending.{less_itself, member_cases, member_tail, pairs_cons, pairs_map, pairs_split, same_lists}
+use Rattle.gm_graph_select.proofs.Inserting.{ends_ordered, ends_selected, ordered_ends}
+use Rattle.gm_graph_select.proofs.LastVersions.{path_selected}
 use Rattle.gm_graph_select.proofs.RankedLists.{from_mapped, in_mapped}
-use Rattle.gm_graph_select.proofs.RestRows.{one_at, one_entry}
+use Rattle.gm_graph_select.proofs.RestRows.{entry_there, one_at, one_entry}
 
 path_total : IsTotalOrder path_cmp
 path_total = on_total (λ (x : ModuleVersion). x.0) nat_list_cmp_total
 
-nowhere : ModuleVersion
-nowhere = ([], [])
+-- The entries have different paths.
+abbrev pub AreApart : {R : Type 0} → List ℕ → EntryWith R → EntryWith R → Type 0
+AreApart main a b = path_of main a.0 ≢ path_of main b.0
 
 -- ---- the build list of any relation
 
@@ -49,39 +46,23 @@ module _ {R : Type 0} {main : List ℕ} {replaces : ModuleVersion → Option R} 
 
   -- Each selected vertex has a row.
   pub selected_row : (x : ModuleVersion) → IsSelected main E x → Contains entries (entry_of replaces x)
-  selected_row x is = subst (λ es. Contains es (entry_of replaces x)) (sym list.entries_are)
+  selected_row x is = rw list.entries_are
       (member_tail main_entry (entry_of replaces x) (map (entry_of replaces) list.selected)
       (in_mapped (entry_of replaces) list.selected x ((list.each x).1 is)))
 
   -- No two entries have the same path.
-  pub distinct : AllPairs (λ a b. path_of main a.0 ≢ path_of main b.0) entries
-  distinct = subst (λ es. AllPairs (λ a b. path_of main a.0 ≢ path_of main b.0) es)
-      (sym list.entries_are) (AllPairs-cons (λ a b. path_of main a.0 ≢ path_of main b.0) main_entry
-      (map (entry_of replaces) list.selected) firsts others)
-    where
-      path_at : (k : ℕ) (d : EntryWith R) → k < length list.selected
-          → path_of main (get_or (map (entry_of replaces) list.selected) k d).0 ≡ (get_or list.selected k nowhere).0
-      path_at k d below = ap (λ e. path_of main e.0) (get_or-map (entry_of replaces) list.selected k nowhere d below)
-
-      firsts : All (λ b. main ≢ path_of main b.0) (map (entry_of replaces) list.selected)
-      firsts k d below same =
-          let inside : k < length list.selected = rw length-map at below in
-          ((list.each (get_or list.selected k nowhere)).0 (Contains-get_or list.selected k nowhere inside)).not_main (sym (same ∙ path_at k d inside))
-
-      others : AllPairs (λ a b. path_of main a.0 ≢ path_of main b.0) (map (entry_of replaces) list.selected)
-      others i j d lt below same =
-          let inside : j < length list.selected = rw length-map at below in
-          let x = get_or list.selected i nowhere in
-          let y = get_or list.selected j nowhere in
-          let less : slice_cmp nat_cmp x.0 y.0 ≡ Less = list.ascending i j nowhere lt inside in
-          let paths : x.0 ≡ y.0 = sym (path_at i d (omega arith)) ∙ same ∙ path_at j d inside in
-          less_itself nat_list_cmp_total x.0 (subst (λ (p : List ℕ). slice_cmp nat_cmp x.0 p ≡ Less) (sym paths) less)
+  pub distinct : AllPairs (AreApart main) entries
+  distinct = rw list.entries_are (pairs_cons (AreApart main) main_entry (map (entry_of replaces) list.selected)
+      (λ entry there same.
+      let (x, inside, is) = from_mapped (entry_of replaces) list.selected entry there in
+      ((list.each x).0 inside).not_main (ap (λ e. path_of main e.0) is ∙ sym same))
+      (pairs_map (AreApart main) (entry_of replaces) list.selected (λ i j d lt below same.
+      less_itself nat_list_cmp_total (get_or list.selected j d).0 (rw same at (list.ascending i j d lt below)))))
 
   pub reached_entry : (path : List ℕ) (s : Step) → IsRooted E → IsEntryOf main entries path s → IsReached E s
   reached_entry path Main rooted entry = (0, at_main)
   reached_entry path (Of x) rooted (entry, rest, at, is) =
-      let there = subst (λ es. Contains es entry) (sym at.parts) (Contains-append_right at.before (entry ∷ rest) entry (member_head entry rest)) in
-      let (t, edge) = (row_selected x entry.1 (subst (λ (s : Step). Contains entries (s, entry.1)) is there)).is_end in
+      let (t, edge) = (row_selected x entry.1 (rw⁻¹ is (entry_there at))).is_end in
       let (n, leads) = rooted t x edge in
       (suc n, along leads edge)
 
@@ -89,26 +70,10 @@ pub rows_are_ends : {R : Type 0} → RowsAreEnds R
 rows_are_ends main replaces edges entries list x right there = (row_selected list x right there).is_end
 
 pub rows_satisfy : {R : Type 0} → RowsSatisfy R
-rows_satisfy {R} main replaces edges entries list y end apart = go ((bests main ends).0 y.0) ((bests main ends).1 y.0)
-  where
-    ends : List ModuleVersion
-    ends = map (λ (e : Edge). e.to) edges
-
-    alike : EndAlike (ending ends) (among edges)
-    alike = ends_alike ends (ending ends) (among edges) (ending_ends ends) (ends_of edges)
-
-    go : (o : Option ModuleVersion) → IsGreatest main (ending ends) y.0 o
-        → (x : ModuleVersion) × (right : Option R) × Contains entries (Of x, right) × (x.0 ≡ y.0)
-        × (is_gt (version_cmp y.1 x.1) ≡ false)
-    go None g = absurd (apart (g y ((alike y).1 end) refl))
-    go (Some x) (is, selected) = (
-      x,
-      replaces x,
-      selected_row list x
-          (alike_selected main (ending ends) (among edges) alike x selected),
-      is,
-      selected.greatest y ((alike y).1 end) (sym is),
-    )
+rows_satisfy main replaces edges entries list y end apart =
+    let (x, there, is) = path_selected main (ordered_ends edges) y ((ends_ordered edges y).1 end) apart in
+    let selected = ((ends_selected main edges).each x).0 there in
+    (x, replaces x, selected_row list x selected, is, selected.greatest y end (sym is))
 
 pub same_build_lists : {R : Type 0} {main : List ℕ} {replaces : ModuleVersion → Option R} {E : Edges} {a b : List (EntryWith R)}
     → IsBuildList main replaces E a → IsBuildList main replaces E b → a ≡ b
@@ -172,8 +137,8 @@ one_before E s t y a b =
     let high = b.further.least (suc a.level) a.further.leads in
     let same : a.level ≡ b.level = omega (arith, low, high) in
     not_either s t
-    (b.least s a.is_edge (subst (λ (n : ℕ). IsLevel E s n) same a.nearer))
-    (a.least t b.is_edge (subst (λ (n : ℕ). IsLevel E t n) (sym same) b.nearer))
+    (b.least s a.is_edge (rw⁻¹ same a.nearer))
+    (a.least t b.is_edge (rw same b.nearer))
 
 of_main : (E : Edges) {s : Step} {b : List Step} → IsChain E s b → s ≡ Main → b ≡ Main ∷ []
 of_main E begins e = refl
@@ -184,14 +149,14 @@ of_vertex : (E : Edges) {s : Step} {b : List Step} → IsChain E s b → (y : Mo
 of_vertex E begins y e = absurd (let same : Main ≡ Of y = e in cc same)
 of_vertex E (goes_on {s} {y = z} {steps} c before) y e =
     let same : z ≡ y = cc e in
-    (s, steps, c, subst (λ (w : ModuleVersion). IsPredecessor E s w) same before, ap (λ (w : ModuleVersion). steps ++ Of w ∷ []) same)
+    (s, steps, c, rw⁻¹ same before, ap (λ (w : ModuleVersion). steps ++ Of w ∷ []) same)
 
 same_chains : (E : Edges) {s : Step} {a : List Step} → IsChain E s a → (b : List Step) → IsChain E s b → a ≡ b
 same_chains E begins b h = sym (of_main E h refl)
 same_chains E (goes_on {s} {y} {steps} c before) b h =
     let (t, more, d, other, is) = of_vertex E h y refl in
     let same : t ≡ s = one_before E t s y other before in
-    ap (λ (l : List Step). l ++ Of y ∷ []) (same_chains E c more (subst (λ (u : Step). IsChain E u more) same d)) ∙ sym is
+    ap (λ (l : List Step). l ++ Of y ∷ []) (same_chains E c more (rw⁻¹ same d)) ∙ sym is
 
 pub one_chain : OneChain
 one_chain edges s a b h g = same_chains (among edges) h b g
@@ -204,7 +169,7 @@ snoc x (y ∷ xs) =
     let (front, last, is) = snoc y xs in
     (x ∷ front, last, ap (λ l. x ∷ l) is)
 
-module _ {R : Type 0} (main : List ℕ) (entries : List (EntryWith R)) (apart : AllPairs (λ a b. path_of main a.0 ≢ path_of main b.0) entries) (n : ℕ) where
+module _ {R : Type 0} (main : List ℕ) (entries : List (EntryWith R)) (apart : AllPairs (AreApart main) entries) (n : ℕ) where
   -- What is left after a page follows the page's last entry.
   page_end : (before left front : List (EntryWith R)) (last : EntryWith R) → entries ≡ before ++ left
       → take n left ≡ front ++ last ∷ [] → IsAt main entries (path_of main last.0) last (drop n left)
@@ -217,8 +182,8 @@ module _ {R : Type 0} (main : List ℕ) (entries : List (EntryWith R)) (apart : 
           ∙ sym (append_assoc before front (last ∷ drop n left))
 
       others : (x : EntryWith R) → Contains (before ++ front) x → path_of main x.0 ≢ path_of main last.0
-      others x h = pairs_split (λ a b. path_of main a.0 ≢ path_of main b.0) (before ++ front) (drop n left) last x
-          (subst (λ l. AllPairs (λ a b. path_of main a.0 ≢ path_of main b.0) l) parts apart) h
+      others x h = pairs_split (AreApart main) (before ++ front) (drop n left) last x
+          (rw⁻¹ parts apart) h
 
   further : (before left : List (EntryWith R)) → entries ≡ before ++ left → entries ≡ (before ++ take n left) ++ drop n left
   further before left whole = whole ∙ ap (λ l. before ++ l) (sym (take-append-drop n left))
@@ -232,7 +197,7 @@ module _ {R : Type 0} (main : List ℕ) (entries : List (EntryWith R)) (apart : 
       let same : rest ≡ drop n left = (one_at main entries (path_of main last.0) entry last rest (drop n left) at
       (page_end before left front last whole page)).1 in
       let rest_whole : entries ≡ (before ++ take n left) ++ rest =
-      subst (λ l. entries ≡ (before ++ take n left) ++ l) (sym same) (further before left whole) in
+      rw same (further before left whole) in
       ap (λ l. take n left ++ l) (pages_join_from (before ++ take n left) rest pages rest_whole more ∙ same) ∙ take-append-drop n left
 
   -- one page, followed by the others

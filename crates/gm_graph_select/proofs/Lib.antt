@@ -4,7 +4,6 @@ pub mod Listing
 pub mod Same
 pub mod Greatest
 pub mod LastVersions
-pub mod Ranges
 pub mod Ascending
 pub mod Inserting
 pub mod Lawful

@@ -1,15 +1,15 @@
 -- A listed path has a first entry, and edges lead to it.
-use Rattle.std.proofs.Common.{◌≡◌, ◌≢◌, ℕ, zero, suc, List, [], ◌∷◌, Contains, ap, ◌∙◌, sym, refl, subst, inl, inr, arith}
+use Rattle.std.proofs.Common.{◌≡◌, ◌≢◌, ℕ, zero, suc, List, [], ◌∷◌, Contains, ap, ◌∙◌, refl, inl, inr, arith}
 use Rattle.std.specs.Str.{bytes_eq}
 use Rattle.std.proofs.lemmas.Bool.{cases_Bool}
 use Rattle.std.proofs.lemmas.Slice.Eq.{bytes_eq-Decides}
-use Rattle.std.proofs.lemmas.List.Elements.{Contains-append_right}
 use Rattle.gm_graph_select.specs.declared.step.Edge.{Edge}
 use Rattle.gm_graph_select.specs.declared.step.Step.{Step}
 use Rattle.gm_graph_select.specs.BuildList.{IsAt, IsEntryOf, HasEntryFor, path_of}
 use Rattle.gm_graph_select.specs.Chains.{IsReached}
 use Rattle.gm_graph_select.specs.Graph.{among}
 use Rattle.gm_graph_select.specs.Laws.{EntryWith}
+use Rattle.gm_graph_select.proofs.RestRows.{entry_there}
 use Rattle.gm_name.proofs.Texts.{bytes_eq-differ}
 
 abbrev Found : {R : Type 0} → List ℕ → List (EntryWith R) → List ℕ → Type 0
@@ -23,7 +23,7 @@ behind main e es path other (entry, (suc k, below, is), same) = (entry, (k, omeg
 not_before : {R : Type 0} (main : List ℕ) (e : EntryWith R) (before : List (EntryWith R)) (path : List ℕ) → path_of main e.0 ≢ path
     → ((x : EntryWith R) → Contains before x → path_of main x.0 ≢ path) → (x : EntryWith R) → Contains (e ∷ before) x
     → path_of main x.0 ≢ path
-not_before main e before path other others x (zero, below, is) = subst (λ y. path_of main y.0 ≢ path) is other
+not_before main e before path other others x (zero, below, is) = rw⁻¹ is other
 not_before main e before path other others x (suc k, below, is) = others x (k, omega arith, is)
 
 found_later : {R : Type 0} (main : List ℕ) (e : EntryWith R) (es : List (EntryWith R)) (path : List ℕ) → path_of main e.0 ≢ path
@@ -57,6 +57,4 @@ pub reached_entry : {R : Type 0} {main path : List ℕ} (edges : List Edge) (ent
     → ¬ ((s : Step) × IsEntryOf main entries path s × IsReached (among edges) s) → ¬ (HasEntryFor main entries path)
 reached_entry {R} {main} {path} edges entries reached none listed =
     let (entry, rest, at) = first_at main entries path listed in
-    reached entry
-    (subst (λ (es : List (EntryWith R)). Contains es entry) (sym at.parts) (Contains-append_right at.before (entry ∷ rest) entry (0, omega arith, refl)))
-    (λ is. none (entry.0, (entry, rest, at, refl), is))
+    reached entry (entry_there at) (λ is. none (entry.0, (entry, rest, at, refl), is))

@@ -1,5 +1,5 @@
 -- Marks of the numbers that sources and their lists name.
-use Rattle.std.proofs.Common.{◌≡◌, ◌⊎◌, ◌<◌, ◌+◌, ◌∙◌, ℕ, zero, suc, Bool, cond, List, [], ◌∷◌, ◌++◌, Option, Some, None, Contains, length, append-nil, true, false, get_or, replicate, set, take, ap, arith, inl, inr, refl, subst, sym}
+use Rattle.std.proofs.Common.{◌≡◌, ◌⊎◌, ◌<◌, ◌+◌, ◌∙◌, ℕ, zero, suc, Bool, cond, List, [], ◌∷◌, ◌++◌, Option, Some, None, Contains, length, append-nil, true, false, get_or, replicate, set, take, ap, arith, inl, inr, refl, sym}
 use Rattle.std.specs.List.{flat_map}
 use Rattle.std.specs.Option.{option_to_list}
 use Rattle.std.proofs.lemmas.Bool.{cases_eq, cases_lt, false≢true}
@@ -11,6 +11,27 @@ use Rattle.gm_graph_select.specs.Adjacency.{StepEdges}
 use Rattle.gm_graph_select.specs.Private.Marking.{AreMarked, HasMark, named_by}
 use Rattle.gm_graph_select.specs.Private.Searching.{count_left}
 use Rattle.gm_graph_select.proofs.Ascending.{member_head, no_member, one_member}
+
+-- ---- lists of parts
+
+module _ {T X : Type 0} (parts : T → List X) where
+  pub in_flat : (all : List T) (one : T) (x : X) → Contains all one → Contains (parts one) x → Contains (flat_map parts all) x
+  in_flat [] one x there h = absurd (no_member one there)
+  in_flat (first ∷ all) one x (zero, below, is) h =
+      Contains-append_left (parts first) (flat_map parts all) x
+      (rw is h)
+  in_flat (first ∷ all) one x (suc k, below, is) h =
+      Contains-append_right (parts first) (flat_map parts all) x
+      (in_flat all one x (k, omega (arith, below), is) h)
+
+  pub from_flat : (all : List T) (x : X) → Contains (flat_map parts all) x → (one : T) × Contains all one × Contains (parts one) x
+  from_flat [] x h = absurd (no_member x h)
+  from_flat (first ∷ all) x h = elim (Contains-append_cases (parts first) (flat_map parts all) x h) [
+    | inl here ↦ (first, (0, omega arith, refl), here)
+    | inr later ↦ (let (one, (k, below, is), at) = from_flat all x later in (one, (suc k, omega (arith, below), is), at))
+  ]
+
+-- ---- marks
 
 -- A marked number is one of those that there are.
 pub marked_inside : (marks : List Bool) (number : ℕ) → HasMark marks number → number < length marks
@@ -51,7 +72,7 @@ one_marked marks number inside = record { count = length-set marks number true; 
 
     back : (k : ℕ) → HasMark marks k ⊎ Contains (number ∷ []) k → HasMark (set marks number true) k
     back k so = elim (cases_eq k number) [
-      | inl is ↦ subst (λ (n : ℕ). HasMark (set marks number true) n) (sym is) marked
+      | inl is ↦ rw is marked
       | inr ne ↦ get_or-set_other marks number k true false ne ∙ elim so [
         | inl h ↦ h
         | inr here ↦ absurd (ne (sym (one_member number k here)))
@@ -63,13 +84,13 @@ marked_already marks number mark = record {
   count = refl;
   each = λ k. (
     (λ h. inl h),
-    (λ so. elim so [ inl h ↦ h | inr here ↦ subst (λ (n : ℕ). HasMark marks n) (one_member number k here) mark ]),
+    (λ so. elim so [ inl h ↦ h | inr here ↦ rw⁻¹ (one_member number k here) mark ]),
   );
 }
 
 -- Some numbers were marked, and then others.
-pub both_marked : (old mid new : List Bool) (first second : List ℕ) → AreMarked old first mid → AreMarked mid second new → AreMarked old (first ++ second) new
-both_marked old mid new first second a b = record {
+pub both_marked : {old mid new : List Bool} {first second : List ℕ} → AreMarked old first mid → AreMarked mid second new → AreMarked old (first ++ second) new
+both_marked {old} {mid} {new} {first} {second} a b = record {
   count = b.count ∙ a.count;
   each = λ k. (there k, back k);
 }
@@ -89,41 +110,25 @@ both_marked old mid new first second a b = record {
 
 module _ {T : Type 0} (names : T → List ℕ) where
   -- The numbers that one more item names were marked.
-  pub next_named : (old mid new : List Bool) (all : List T) (i : ℕ) (one : T) → i < length all → one ≡ get_or all i one
+  pub next_named : {old mid new : List Bool} (all : List T) (i : ℕ) (one : T) → i < length all → one ≡ get_or all i one
       → AreMarked old (flat_map names (take i all)) mid → AreMarked mid (names one) new
       → AreMarked old (flat_map names (take (i + 1) all)) new
-  next_named old mid new all i one inside is so more =
-      subst (λ (ns : List ℕ). AreMarked old ns new) same
-      (both_marked old mid new (flat_map names (take i all)) (flat_map names (one ∷ [])) so
-      (subst (λ (ns : List ℕ). AreMarked mid ns new) (sym (append-nil (names one))) more))
+  next_named all i one inside is so more =
+      rw⁻¹ same
+      (both_marked so
+      (rw (append-nil (names one)) more))
     where
       same : flat_map names (take i all) ++ flat_map names (one ∷ []) ≡ flat_map names (take (i + 1) all)
       same = sym (flat_map-append names (take i all) (one ∷ []))
           ∙ ap (λ (o : T). flat_map names (take i all ++ o ∷ [])) is
           ∙ ap (λ (os : List T). flat_map names os) (sym (take_more all i one inside))
 
-  pub named_from : (all : List T) (one : T) (number : ℕ) → Contains all one → Contains (names one) number → Contains (flat_map names all) number
-  named_from [] one number there h = absurd (no_member one there)
-  named_from (first ∷ all) one number (zero, below, is) h =
-      Contains-append_left (names first) (flat_map names all) number
-      (subst (λ (o : T). Contains (names o) number) (sym is) h)
-  named_from (first ∷ all) one number (suc k, below, is) h =
-      Contains-append_right (names first) (flat_map names all) number
-      (named_from all one number (k, omega (arith, below), is) h)
-
-  pub named_only : (all : List T) (number : ℕ) → Contains (flat_map names all) number → (one : T) × Contains all one × Contains (names one) number
-  named_only [] number h = absurd (no_member number h)
-  named_only (first ∷ all) number h = elim (Contains-append_cases (names first) (flat_map names all) number h) [
-    | inl here ↦ (first, (0, omega arith, refl), here)
-    | inr later ↦ (let (one, (k, below, is), at) = named_only all number later in (one, (suc k, omega (arith, below), is), at))
-  ]
-
 -- ---- numbers that the edges of steps name
 
 -- Edges name the number of the step that they leave, and those that they lead to.
 pub names_from : (one : StepEdges) (number : ℕ) → one.from ≡ Some number → Contains (named_by one) number
 names_from one number is = Contains-append_left (option_to_list one.from) one.to number
-    (subst (λ (from : Option ℕ). Contains (option_to_list from) number) (sym is) (member_head number []))
+    (rw is (member_head number []))
 
 pub names_to : (one : StepEdges) (number : ℕ) → Contains one.to number → Contains (named_by one) number
 names_to one number h = Contains-append_right (option_to_list one.from) one.to number h

@@ -1,5 +1,5 @@
 -- Numbers in ascending order that are moved to the front, each once.
-use Rattle.std.proofs.Common.{◌≡◌, ◌≢◌, ◌+◌, ◌-◌, ◌<◌, ◌≤◌, ◌∙◌, ℕ, zero, suc, List, [], ◌∷◌, ◌++◌, Contains, ap, arith, drop, get_or, inl, inr, length, set, subst, sym, take}
+use Rattle.std.proofs.Common.{◌≡◌, ◌≢◌, ◌+◌, ◌-◌, ◌<◌, ◌≤◌, ◌∙◌, ℕ, zero, suc, List, [], ◌∷◌, ◌++◌, Contains, ap, arith, drop, get_or, inl, inr, length, set, sym, take}
 use Rattle.std.specs.declared.cmp.Ordering.TheVariants.{Less}
 use Rattle.std.specs.List.Sorted.{IsNonDecreasing}
 use Rattle.std.specs.Ordering.{nat_cmp}
@@ -26,7 +26,7 @@ module _ {T : Type 0} (now old : List T) (i : ℕ) (rest : drop i now ≡ drop i
   pub same_later : (j : ℕ) → i ≤ j → drop j now ≡ drop j old
   same_later j le =
       let at : i + (j - i) ≡ j = omega (arith, le) in
-      subst (λ (k : ℕ). drop k now ≡ drop k old) at
+      rw⁻¹ at
       (sym (drop-drop (j - i) i now) ∙ ap (λ (xs : List T). drop (j - i) xs) rest ∙ drop-drop (j - i) i old)
 
 -- ---- numbers that were moved
@@ -39,7 +39,7 @@ pub record AreMoved (old now : List ℕ) (place count : ℕ) : Type 0 where
   pub members : HaveSame (take place old) (take count now)
   pub rest : drop place now ≡ drop place old
 
-module _ (old now : List ℕ) (place count : ℕ) (are : AreMoved old now place count) (inside : place < length old) where
+module _ {old now : List ℕ} {place count : ℕ} (are : AreMoved old now place count) (inside : place < length old) where
   abbrev number : ℕ
   number = get_or now place 0
 
@@ -53,19 +53,19 @@ module _ (old now : List ℕ) (place count : ℕ) (are : AreMoved old now place 
     few = omega (arith, are.few);
     size = are.size;
     ascending = are.ascending;
-    members = subst (λ (xs : List ℕ). HaveSame xs (take count now)) (sym one_more) both;
+    members = rw one_more both;
     rest = same_later now old place are.rest (place + 1) (omega arith);
   }
     where
       there : Contains (take count now) number
-      there = subst (λ (n : ℕ). Contains (take count now) n) (get_or-take count now (count - 1) 0 (omega (arith, some)) ∙ is)
+      there = rw⁻¹ (get_or-take count now (count - 1) 0 (omega (arith, some)) ∙ is)
           (Contains-get_or (take count now) (count - 1) 0 (omega (arith, some, are.few, are.size, inside, length-take-le count now)))
 
       both : HaveSame (take place old ++ number ∷ []) (take count now)
       both x = (
         (λ h. elim (Contains-push_cases (take place old) number x h) [
           | inl before ↦ (are.members x).0 before
-          | inr same ↦ subst (λ (n : ℕ). Contains (take count now) n) same there
+          | inr same ↦ rw⁻¹ same there
         ]),
         (λ h. Contains-append_left (take place old) (number ∷ []) x ((are.members x).1 h)),
       )
@@ -78,11 +78,11 @@ module _ (old now : List ℕ) (place count : ℕ) (are : AreMoved old now place 
       record {
         few = omega (arith, are.few);
         size = length-set now count number ∙ are.size;
-        ascending = subst (λ (xs : List ℕ). IsAscending nat_cmp xs) (sym front)
+        ascending = rw front
             (pairs_append (λ (a b : ℕ). nat_cmp a b ≡ Less) (take count now) (number ∷ []) are.ascending
             (λ i j d lt below. absurd (omega (arith, lt, below))) between);
-        members = subst (λ (xs : List ℕ). HaveSame xs (take (count + 1) (set now count number))) (sym one_more)
-            (subst (λ (xs : List ℕ). HaveSame (take place old ++ number ∷ []) xs) (sym front)
+        members = rw one_more
+            (rw front
             (same_append (take place old) (take count now) (number ∷ []) (number ∷ []) are.members (λ x. ((λ h. h), (λ h. h)))));
         rest = drop-set-lt (place + 1) now count number (omega (arith, are.few)) ∙ same_later now old place are.rest (place + 1) (omega arith);
       }
@@ -118,10 +118,10 @@ module _ (old now : List ℕ) (place count : ℕ) (are : AreMoved old now place 
                 (are.ascending k (count - 1) x lt (omega (arith, some, front_size))) in
                 omega (arith, up, is, same, default, top))
             | inr ge ↦ (let at : k ≡ count - 1 = omega (arith, ge, below, front_size) in
-                let found : get_or (take count now) (count - 1) x ≡ x = subst (λ (n : ℕ). get_or (take count now) n x ≡ x) at is in
+                let found : get_or (take count now) (count - 1) x ≡ x = rw⁻¹ at is in
                 omega (arith, found, same, default, top))
           ]
 
       between : (x y : ℕ) → Contains (take count now) x → Contains (number ∷ []) y → nat_cmp x y ≡ Less
-      between x y h (zero, below, is) = subst (λ (n : ℕ). nat_cmp x n ≡ Less) is (cmp-lt x number (below_number x h))
+      between x y h (zero, below, is) = rw⁻¹ is (cmp-lt x number (below_number x h))
       between x y h (suc k, below, is) = absurd (omega (arith, below))

@@ -1,5 +1,5 @@
 -- Parts of a list of numbers that lie apart.
-use Rattle.std.proofs.Common.{◌≡◌, ◌-◌, ◌+◌, ◌<◌, ◌≤◌, ◌∙◌, ℕ, List, [], ◌∷◌, ◌++◌, ap, ap₂, arith, drop, get_or, length, refl, set, subst, sym, take}
+use Rattle.std.proofs.Common.{◌≡◌, ◌-◌, ◌+◌, ◌<◌, ◌≤◌, ◌∙◌, ℕ, List, [], ◌∷◌, ◌++◌, ap, ap₂, arith, drop, get_or, length, refl, set, sym, take}
 use Rattle.std.specs.Prelude.{All}
 use Rattle.std.specs.List.{AllZip, between}
 use Rattle.std.proofs.lemmas.List.{drop-set-lt, drop_more, length-append, length-drop, length-set, length-take-le, map-append, take-take, take_all, take_more, take_more_set}
@@ -66,14 +66,13 @@ pub record AreRankedTo (ranks old : List ℕ) (spans : List Span) (now : List �
   pub rest : drop end now ≡ drop end old
   pub zip : AllZip (IsByRanks ranks) (lists_at old (take place spans)) (lists_at now (take place left))
 
-module _ (ranks old : List ℕ) (spans : List Span) (now : List ℕ) (left : List Span) (place : ℕ) (are : AreRankedTo ranks old spans now left place) where
+module _ {ranks old : List ℕ} {spans : List Span} {now : List ℕ} {left : List Span} {place : ℕ} (are : AreRankedTo ranks old spans now left place) where
   module _ (one : Span) (inside : place < length spans) (is : one ≡ get_or left place one) where
     here : one ≡ get_or spans place one
     here = is ∙ same_here left spans place are.to_come one (omega (arith, inside, are.count)) inside
 
     next : AreSpansApart are.end (one ∷ drop (place + 1) spans) (length old)
-    next = subst (λ (all : List Span). AreSpansApart are.end all (length old))
-        (drop_more spans place one inside ∙ ap (λ (s : Span). s ∷ drop (place + 1) spans) (sym here)) are.ahead
+    next = rw (drop_more spans place one inside ∙ ap (λ (s : Span). s ∷ drop (place + 1) spans) (sym here)) at are.ahead
 
     pub within_now : AreSpansApart 0 (one ∷ []) (length now)
     within_now = (omega arith, next.1, omega (arith, are.size, apart_order (drop (place + 1) spans) one.end (length old) next.2))
@@ -88,17 +87,16 @@ module _ (ranks old : List ℕ) (spans : List Span) (now : List ℕ) (left : Lis
       count = length-set left place given ∙ are.count;
       to_come = drop-set-lt (place + 1) left place given (omega arith) ∙ same_later left spans place are.to_come (place + 1) (omega arith);
       end = one.end;
-      done = subst (λ (all : List Span). AreSpansApart 0 all one.end) (sym front)
+      done = rw front
           (apart_further (take place left ++ given ∷ []) 0 given.end one.end
           (apart_push (take place left) given 0 are.end are.done (omega (arith, by.inside.0, next.0)) by.inside.1)
           by.inside.2);
       ahead = next.2;
       rest = by.after ∙ same_later now old are.end are.rest one.end (omega (arith, next.0, next.1));
-      zip = subst (λ (all : List (List ℕ)). AllZip (IsByRanks ranks) (lists_at old (take (place + 1) spans)) all)
-          (sym (ap (λ (all : List Span). lists_at new all) front ∙ new_lists))
-          (subst (λ (all : List (List ℕ)). AllZip (IsByRanks ranks) all (lists_at now (take place left) ++ part_at new given ∷ [])) (sym old_lists)
+      zip = rw (ap (λ (all : List Span). lists_at new all) front ∙ new_lists)
+          (rw old_lists
           (AllZip-push (IsByRanks ranks) (lists_at old (take place spans)) (lists_at now (take place left)) (part_at old one) (part_at new given) are.zip
-          (subst (λ (xs : List ℕ). IsByRanks ranks xs (part_at new given)) (part_after now old one are.end next.0 are.rest) by.is)));
+          (rw⁻¹ (part_after now old one are.end next.0 are.rest) by.is)));
     }
       where
         front : take (place + 1) (set left place given) ≡ take place left ++ given ∷ []
@@ -122,11 +120,11 @@ module _ (ranks old : List ℕ) (spans : List Span) (now : List ℕ) (left : Lis
 
     -- All parts have ranks.
     pub all_ranked : AllZip (IsByRanks ranks) (lists_at old spans) (lists_at now left)
-    all_ranked = subst (λ (all : List Span). AllZip (IsByRanks ranks) (lists_at old all) (lists_at now left)) all_spans
-        (subst (λ (all : List Span). AllZip (IsByRanks ranks) (lists_at old (take place spans)) (lists_at now all)) all_left are.zip)
+    all_ranked = rw⁻¹ all_spans
+        (rw⁻¹ all_left are.zip)
 
     pub all_apart : AreSpansApart 0 left (length old)
-    all_apart = apart_further left 0 are.end (length old) (subst (λ (all : List Span). AreSpansApart 0 all are.end) all_left are.done)
+    all_apart = apart_further left 0 are.end (length old) (rw⁻¹ all_left are.done)
         (apart_order (drop place spans) are.end (length old) are.ahead)
 
 -- ---- the part at one span
@@ -166,7 +164,7 @@ module _ (ranks old : List ℕ) (span : Span) (part : List ℕ) (count : ℕ) wh
     part_ranked by = record {
       start = refl;
       inside = (omega arith, omega arith, omega (arith, few, within.1));
-      is = subst (λ (xs : List ℕ). IsByRanks ranks (part_at old span) xs) (sym front) by;
+      is = rw front by;
       size = new_size;
       before = take-put_mid_below start width old part start (omega arith) (omega (arith, within.1, within.2));
       after = drop-put_mid start width old part span.end (omega (arith, within.1)) (omega (arith, within.1, within.2)) size;

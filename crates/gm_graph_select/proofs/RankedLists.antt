@@ -1,18 +1,19 @@
 -- Lists and sources by ranks: they have the same edges, in ascending order.
-use Rattle.std.proofs.Common.{◌≡◌, ◌+◌, ◌<◌, ℕ, zero, suc, Bool, true, false, List, [], ◌∷◌, Option, Some, None, length, map, get_or, Contains, ap, ap₂, ◌∙◌, sym, refl, subst, inl, inr, arith, slice_index}
+use Rattle.std.proofs.Common.{◌≡◌, ◌+◌, ◌<◌, ℕ, zero, suc, Bool, true, false, List, [], ◌∷◌, Option, Some, None, length, map, get_or, Contains, ap, ap₂, ◌∙◌, sym, refl, inl, inr, arith, slice_index}
 use Rattle.std.specs.Prelude.{⊤, All, AllPairs}
 use Rattle.std.specs.declared.cmp.Ordering.{Ordering}
-use Rattle.std.specs.declared.cmp.Ordering.TheVariants.{Less, Equal, Greater}
-use Rattle.std.specs.Cmp.{IsTotalOrder, nat_cmp_total, on_total, Equal-is}
+use Rattle.std.specs.declared.cmp.Ordering.TheVariants.{Less}
+use Rattle.std.specs.Cmp.{IsTotalOrder, nat_cmp_total, Equal-is}
 use Rattle.std.specs.Cmp.Lexicographic.{options_total}
 use Rattle.std.specs.FinMap.{nat_cmp-IsAntisymmetric}
 use Rattle.std.specs.List.{AllZip, IsDistinct}
 use Rattle.std.specs.List.Sorted.{IsPermutation, IsSortedByKey}
 use Rattle.std.specs.Option.{option_cmp, option_map}
-use Rattle.std.specs.Ordering.{is_eq, is_lt, nat_cmp, ordering_reverse, ordering_then}
+use Rattle.std.specs.Ordering.{is_eq, is_lt, nat_cmp, ordering_then}
 use Rattle.std.proofs.lemmas.Bool.{cases_Bool, false≢true}
+use Rattle.std.proofs.lemmas.Cmp.{tied_itself}
 use Rattle.std.proofs.lemmas.List.{get_or-map, length-map}
-use Rattle.std.proofs.lemmas.List.Elements.{All-cons, All-contains, All-head, All-nil, All-tail, AllZip-get_or, Contains-append_cases, Contains-append_left, Contains-append_right, Contains-get_or, length_all_zip}
+use Rattle.std.proofs.lemmas.List.Elements.{All-cons, All-contains, All-head, All-nil, All-tail, AllZip-get_or, Contains-get_or, length_all_zip}
 use Rattle.std.proofs.lemmas.List.Sorted.{All-permutation, Contains-permutation, IsPermutation-map, IsPermutation-sym}
 use Rattle.std.proofs.lemmas.Map.Keys.{IsDistinct-IsPermutation, IsDistinct-from_apart, apart_from_distinct}
 use Rattle.gm_name.specs.ModuleVersion.{ModuleVersion, module_at, pair_cmp}
@@ -27,10 +28,10 @@ use Rattle.gm_graph_select.specs.Graph.{edge, edge_cmp, step_cmp}
 use Rattle.gm_graph_select.specs.Private.Marking.{HasMark}
 use Rattle.gm_graph_select.specs.Order.{HaveSame, IsAscending}
 use Rattle.gm_graph_select.specs.Private.Ranking.{IsRanked}
-use Rattle.gm_graph_select.specs.StepOrder.{step_eq, step_equiv}
-use Rattle.gm_graph_select.proofs.Ascending.{pairs_append, pairs_head, pairs_tail, same_append}
-use Rattle.gm_graph_select.proofs.Ranges.{step_itself}
-use Rattle.gm_graph_select.proofs.Sorts.{from_adjacent}
+use Rattle.gm_graph_select.specs.StepOrder.{step_eq, step_equiv, step_total}
+use Rattle.gm_graph_select.proofs.Ascending.{pairs_append, pairs_head, pairs_map, pairs_tail, same_append}
+use Rattle.gm_graph_select.proofs.Marks.{from_flat, in_flat}
+use Rattle.gm_graph_select.proofs.Sorts.{keys_ascend, ties_flip}
 
 -- ---- mapped lists
 
@@ -43,49 +44,40 @@ from_mapped f (x ∷ xs) y (zero, below, is) = (x, (0, omega arith, refl), is)
 from_mapped f (x ∷ xs) y (suc k, below, is) = let (z, (j, under, at), e) = from_mapped f xs y (k, omega arith, is) in (z, (suc j, omega arith, at), e)
 
 -- the edge of a number
-abbrev leading : List ModuleVersion → StepEdges → ℕ → Edge
+abbrev pub leading : List ModuleVersion → StepEdges → ℕ → Edge
 leading vertices one number = edge (left_by vertices one) (module_at vertices number)
 
 -- ---- the edges of steps
 
-pub edges_each : (vertices : List ModuleVersion) (all : List StepEdges) (one : StepEdges) (e : Edge) → Contains all one
-    → Contains (edges_from vertices one) e → Contains (edges_of vertices all) e
-edges_each vertices [] one e there h = absurd (omega (arith, there.1))
-edges_each vertices (first ∷ all) one e (zero, below, is) h =
-    Contains-append_left (edges_from vertices first) (edges_of vertices all) e
-    (subst (λ (o : StepEdges). Contains (edges_from vertices o) e) (sym is) h)
-edges_each vertices (first ∷ all) one e (suc k, below, is) h =
-    Contains-append_right (edges_from vertices first) (edges_of vertices all) e
-    (edges_each vertices all one e (k, omega arith, is) h)
+pub edges_each : (vertices : List ModuleVersion) (all : List StepEdges) (one : StepEdges) (number : ℕ) → Contains all one
+    → Contains one.to number → Contains (edges_of vertices all) (leading vertices one number)
+edges_each vertices all one number there held = in_flat (edges_from vertices) all one _ there (in_mapped (leading vertices one) one.to number held)
 
 pub edges_only : (vertices : List ModuleVersion) (all : List StepEdges) (e : Edge) → Contains (edges_of vertices all) e
-    → (one : StepEdges) × Contains all one × Contains (edges_from vertices one) e
-edges_only vertices [] e h = absurd (omega (arith, h.1))
-edges_only vertices (first ∷ all) e h = elim (Contains-append_cases (edges_from vertices first) (edges_of vertices all) e h) [
-  | inl here ↦ (first, (0, omega arith, refl), here)
-  | inr later ↦ (let (one, (k, below, is), at) = edges_only vertices all e later in (one, (suc k, omega arith, is), at))
-]
+    → (one : StepEdges) × Contains all one × (number : ℕ) × Contains one.to number × (leading vertices one number ≡ e)
+edges_only vertices all e h =
+    let (one, there, at) = from_flat (edges_from vertices) all e h in
+    let (number, held, is) = from_mapped (leading vertices one) one.to e at in
+    (one, there, number, held, is)
 
 -- StepEdges lists in another order have the same edges.
 edges_permuted : (vertices : List ModuleVersion) (old new : List StepEdges) → IsPermutation old new → HaveSame (edges_of vertices old) (edges_of vertices new)
 edges_permuted vertices old new same e = (along old new same, along new old (IsPermutation-sym old new same))
   where
     along : (a b : List StepEdges) → IsPermutation a b → Contains (edges_of vertices a) e → Contains (edges_of vertices b) e
-    along a b is h = let (one, there, at) = edges_only vertices a e h in edges_each vertices b one e (Contains-permutation a b one is there) at
+    along a b is h =
+        let (one, there, number, held, at) = edges_only vertices a e h in
+        rw⁻¹ at (edges_each vertices b one number (Contains-permutation a b one is there) held)
 
 -- ---- ascending edges
 
 module _ (vertices : List ModuleVersion) (up : IsAscending pair_cmp vertices) where
   to_ascends : (s : Step) (to : List ℕ) → IsAscending nat_cmp to → All (λ n. n < length vertices) to
       → IsAscending edge_cmp (map (λ (n : ℕ). edge s (module_at vertices n)) to)
-  to_ascends s to ranks within i j d lt below =
-      let lead = λ (n : ℕ). edge s (module_at vertices n) in
-      let inside : j < length to = rw length-map at below in
-      let a = get_or to i 0 in
-      let b = get_or to j 0 in
-      ap₂ edge_cmp (get_or-map lead to i 0 d (omega arith)) (get_or-map lead to j 0 d inside)
-      ∙ ap (λ (o : Ordering). ordering_then o (pair_cmp (module_at vertices a) (module_at vertices b))) (step_itself s)
-      ∙ up a b ([], []) (number-less a b (ranks i j 0 lt inside)) (within j 0 inside)
+  to_ascends s to ranks within = pairs_map (λ a b. edge_cmp a b ≡ Less) (λ (n : ℕ). edge s (module_at vertices n)) to (λ i j d lt below.
+      let a = get_or to i d in
+      let b = get_or to j d in
+      rw (tied_itself step_total s) (up a b ([], []) (number-less a b (ranks i j d lt below)) (within j d below)))
 
   lower_step : (a b : Option ℕ) → IsBelow (length vertices) b → option_cmp nat_cmp a b ≡ Less → step_cmp (step_with vertices a) (step_with vertices b) ≡ Less
   lower_step None None within e = absurd (cc e)
@@ -107,12 +99,10 @@ module _ (vertices : List ModuleVersion) (up : IsAscending pair_cmp vertices) wh
       between : (a b : Edge) → Contains (edges_from vertices one) a → Contains (edges_of vertices all) b → edge_cmp a b ≡ Less
       between a b h k =
           let (n, there, is) = from_mapped (leading vertices one) one.to a h in
-          let (other, later, at) = edges_only vertices all b k in
-          let (m, found, same) = from_mapped (leading vertices other) other.to b at in
+          let (other, later, m, found, same) = edges_only vertices all b k in
           let numbers = All-contains (IsNumbered (length vertices)) all other (All-tail (IsNumbered (length vertices)) one all numbered) later in
-          ap₂ edge_cmp (sym is) (sym same)
-          ∙ ap (λ (o : Ordering). ordering_then o (pair_cmp (module_at vertices n) (module_at vertices m)))
-          (lower_step one.from other.from numbers.from (pairs_head LeavesLower one other all lower later))
+          rw (← is, ← same) (ap (λ (o : Ordering). ordering_then o (pair_cmp (module_at vertices n) (module_at vertices m)))
+          (lower_step one.from other.from numbers.from (pairs_head LeavesLower one other all lower later)))
 
 -- The edges of a graph by ranks are in ascending order.
 pub ranked_edges_ascend : (vertices : List ModuleVersion) (all : List StepEdges) → AreRanked vertices all → IsAscending edge_cmp (edges_of vertices all)
@@ -123,34 +113,12 @@ ranked_edges_ascend vertices all are = edges_ascend vertices are.vertices_ascend
 abbrev same_from : StepEdges → StepEdges → Bool
 same_from a b = is_eq (option_cmp nat_cmp a.from b.from)
 
-later_list : (r : Ordering) → is_lt (ordering_reverse r) ≡ false → is_eq r ≡ false → r ≡ Less
-later_list Less e f = refl
-later_list Equal e f = absurd (cc f)
-later_list Greater e f = absurd (cc e)
-
-options : IsTotalOrder (option_cmp nat_cmp)
+pub options : IsTotalOrder (option_cmp nat_cmp)
 options = options_total nat_cmp_total
-
-lists_order : IsTotalOrder (λ (a b : StepEdges). option_cmp nat_cmp a.from b.from)
-lists_order = on_total (λ (one : StepEdges). one.from) options
 
 lists_ascend : (all : List StepEdges) → IsSortedByKey (λ (one : StepEdges). one.from) (option_cmp nat_cmp) all
     → IsDistinct same_from all → AllPairs LeavesLower all
-lists_ascend all sorted distinct = from_adjacent lists_order all (λ k d inside.
-    let a = get_or all k d in
-    let b = get_or all (k + 1) d in
-    let apart = apart_from_distinct same_from all k (k + 1) d distinct (omega arith) inside in
-    let low : is_lt (ordering_reverse (option_cmp nat_cmp a.from b.from)) ≡ false =
-    ap is_lt (sym (options.antisymm b.from a.from)) ∙ sorted k d (omega arith) inside in
-    sym (ap is_lt (later_list (option_cmp nat_cmp a.from b.from) low apart)))
-
-eq_flips : (r : Ordering) → is_eq (ordering_reverse r) ≡ is_eq r
-eq_flips Less = refl
-eq_flips Equal = refl
-eq_flips Greater = refl
-
-from_flips : (a b : StepEdges) → same_from a b ≡ same_from b a
-from_flips a b = ap is_eq (options.antisymm a.from b.from) ∙ eq_flips (option_cmp nat_cmp b.from a.from)
+lists_ascend all sorted distinct = keys_ascend options (λ (one : StepEdges). one.from) all (λ k d inside. sorted k d (omega arith) inside) distinct
 
 same_options : (p q : Option ℕ) → is_eq (option_cmp nat_cmp p q) ≡ true → p ≡ q
 same_options None None e = refl
@@ -249,24 +217,23 @@ module _ (modules : List ModuleVersion) (marks : List Bool) (ordered : List Modu
         there h =
             let (number, held, is) = from_mapped (leading modules old) old.to e h in
             let found = (has.members (slice_index ranks number)).0 (in_mapped (slice_index ranks) old.to number held) in
-            subst (λ (f : Edge). Contains (edges_from ordered new) f) (edge_kept number held ∙ is)
+            rw⁻¹ (edge_kept number held ∙ is)
             (in_mapped (leading ordered new) new.to (slice_index ranks number) found)
 
         back : Contains (edges_from ordered new) e → Contains (edges_from modules old) e
         back h =
             let (rank, held, is) = from_mapped (leading ordered new) new.to e h in
             let (number, found, at) = from_mapped (slice_index ranks) old.to rank ((has.members rank).1 held) in
-            subst (λ (f : Edge). Contains (edges_from modules old) f)
-            (sym (edge_kept number found) ∙ ap (λ (n : ℕ). leading ordered new n) at ∙ is)
+            rw⁻¹ (sym (edge_kept number found) ∙ ap (λ (n : ℕ). leading ordered new n) at ∙ is)
             (in_mapped (leading modules old) old.to number found)
 
     numbered_kept : IsNumbered (length ordered) new
     numbered_kept = record {
-      from = subst (λ (from : Option ℕ). IsBelow (length ordered) from) (sym has.from) (below_kept old.from numbered.from);
+      from = rw has.from (below_kept old.from numbered.from);
       to = λ k d below.
           let rank = get_or new.to k d in
           let (number, found, at) = from_mapped (slice_index ranks) old.to rank ((has.members rank).1 (Contains-get_or new.to k d below)) in
-          subst (λ (n : ℕ). n < length ordered) at (are number (All-contains (HasMark marks) old.to number numbered.to found)).within;
+          rw⁻¹ at (are number (All-contains (HasMark marks) old.to number numbered.to found)).within;
     }
 
   all_same : (old new : List StepEdges) → All (NamesMarked marks) old → AllZip (HasRanks ranks) old new → HaveSame (edges_of modules old) (edges_of ordered new)
@@ -326,7 +293,7 @@ module _ (modules : List ModuleVersion) (marks : List Bool) (ordered : List Modu
     lists_are_ranked up distinct = record {
       vertices_ascend = up;
       numbered = All-permutation (IsNumbered (length ordered)) by.lists new by.permutation (all_numbered old by.lists numbered by.each);
-      lists_ascend = lists_ascend new by.sorted (IsDistinct-IsPermutation same_from from_flips by.lists new
+      lists_ascend = lists_ascend new by.sorted (IsDistinct-IsPermutation same_from (λ a b. ties_flip options a.from b.from) by.lists new
           by.permutation (apart_kept old by.lists numbered by.each distinct));
       each_ascends = All-permutation (λ (one : StepEdges). IsAscending nat_cmp one.to) by.lists new by.permutation (each_ascends old by.lists by.each);
     }

@@ -1,29 +1,32 @@
 -- The ranks of vertices: numbering, sorting, and what is then known of ranks.
-use Rattle.std.proofs.Common.{◌≡◌, ◌≢◌, ◌⊎◌, ◌+◌, ◌<◌, ◌≤◌, ◌↔◌, ℕ, Bool, true, false, List, [], ◌∷◌, ◌++◌, length, map, set, take, get_or, Contains, append_assoc, ap, ap₂, ◌∙◌, sym, refl, subst, inl, inr, arith, slice_index}
+use Rattle.std.proofs.Common.{◌≡◌, ◌≢◌, ◌⊎◌, ◌+◌, ◌<◌, ◌≤◌, ◌↔◌, ℕ, Bool, false, List, [], ◌∷◌, ◌++◌, length, map, set, take, get_or, Contains, append_assoc, ap, ap₂, ◌∙◌, sym, refl, inl, inr, arith, slice_index}
 use Rattle.std.specs.Prelude.{All, if◌then◌else◌}
 use Rattle.std.specs.declared.cmp.Ordering.{Ordering}
 use Rattle.std.specs.declared.cmp.Ordering.TheVariants.{Less, Equal, Greater}
 use Rattle.std.specs.List.{IsDistinct}
 use Rattle.std.specs.List.Sorted.{IsPermutation, IsSorted}
-use Rattle.std.specs.Ordering.{is_eq, is_lt, nat_cmp, ordering_reverse, ordering_then}
+use Rattle.std.specs.Ordering.{is_eq, is_lt, nat_cmp, ordering_then}
 use Rattle.std.proofs.lemmas.Bool.{cases_Bool, cases_eq, false≢true}
-use Rattle.std.proofs.lemmas.List.{get_or-map, get_or-set_other, get_or-set_same, get_or_append_left, get_or_at, get_or_default, get_or_push, length-append, length-map, length-take-le, length_push, take_more}
+use Rattle.std.proofs.lemmas.List.{get_or-set_other, get_or-set_same, get_or_append_left, get_or_at, get_or_push, length-append, length-map, length-take-le, length_push, take_more}
 use Rattle.std.proofs.lemmas.List.Elements.{All-contains, Contains-append_left, Contains-get_or, Contains-push, Contains-push_cases}
 use Rattle.std.proofs.lemmas.List.Quantifiers.{all_pairs_push}
-use Rattle.std.proofs.lemmas.List.Sorted.{Contains-permutation, IsPermutation-map, IsPermutation-sym, length_permutation}
+use Rattle.std.proofs.lemmas.List.Sorted.{Contains-permutation, IsPermutation-sym, length_permutation}
 use Rattle.std.proofs.lemmas.Map.Keys.{IsDistinct-IsPermutation, IsDistinct-from_apart, apart_from_distinct}
 use Rattle.gm_name.specs.ModuleVersion.{ModuleVersion, module_at, pair_cmp, pair_eq, pair_ties, pair_total}
 use Rattle.gm_graph_select.specs.declared.ranking.Numbered.{Numbered}
 use Rattle.gm_graph_select.specs.Private.Marking.{HasMark}
 use Rattle.gm_graph_select.specs.Order.{IsAscending}
 use Rattle.gm_graph_select.specs.Private.Ranking.{AreMarkedModules, IsMarkedModule, IsPlaced, IsRanked}
-use Rattle.gm_graph_select.proofs.Ascending.{member_cases}
+use Rattle.gm_graph_select.proofs.Ascending.{member_cases, pairs_map}
 use Rattle.gm_graph_select.proofs.RankedLists.{AreRanks, from_mapped, in_mapped}
 use Rattle.gm_graph_select.proofs.Marks.{marked_inside}
-use Rattle.gm_graph_select.proofs.Sorts.{from_adjacent}
+use Rattle.gm_graph_select.proofs.Sorts.{keys_ascend, ties_flip}
 
 abbrev vertex_of : Numbered → ModuleVersion
 vertex_of one = one.vertex
+
+abbrev same_vertex : Numbered → Numbered → Bool
+same_vertex a b = is_eq (pair_cmp a.vertex b.vertex)
 
 -- ---- ranks, one vertex at a time
 
@@ -110,7 +113,7 @@ module _ {front : List ModuleVersion} {marks : List Bool} {all : List Numbered} 
     each = λ one. (
       (λ h. wider one ((are.each one).0 h)),
       (λ placed. elim (cases_eq one.number (length front)) [
-        | inl same ↦ absurd (unmarked (subst (λ (n : ℕ). HasMark marks n) same placed.marked))
+        | inl same ↦ absurd (unmarked (rw⁻¹ same placed.marked))
         | inr apart ↦ (are.each one).1 (narrower one placed apart)
       ]),
     );
@@ -125,10 +128,10 @@ module _ {front : List ModuleVersion} {marks : List Bool} {all : List Numbered} 
     each = λ one. (
       (λ h. elim (Contains-push_cases all next one h) [
         | inl old ↦ wider one ((are.each one).0 old)
-        | inr new ↦ subst (λ (o : Numbered). IsPlaced (front ++ x ∷ []) marks o) new last
+        | inr new ↦ rw⁻¹ new last
       ]),
       (λ placed. elim (cases_eq one.number (length front)) [
-        | inl same ↦ subst (λ (o : Numbered). Contains (all ++ next ∷ []) o) (is_next one placed same) (Contains-push all next)
+        | inl same ↦ rw⁻¹ (is_next one placed same) (Contains-push all next)
         | inr apart ↦ Contains-append_left all (next ∷ []) one ((are.each one).1 (narrower one placed apart))
       ]),
     );
@@ -138,7 +141,7 @@ module _ {front : List ModuleVersion} {marks : List Bool} {all : List Numbered} 
       last : IsPlaced (front ++ x ∷ []) marks next
       last = record {
         within = omega (arith, number_is, length_push front x);
-        marked = subst (λ (n : ℕ). HasMark marks n) (sym number_is) marked;
+        marked = rw number_is marked;
         is = vertex_is ∙ sym (get_or_push front x ([], []) next.number (sym number_is));
       }
 
@@ -156,10 +159,10 @@ module _ {front : List ModuleVersion} {marks : List Bool} {all : List Numbered} 
   pub next_numbered : (next : Numbered) → next.number ≡ length front → next.vertex ≡ x
       → AreMarkedModules (front ++ x ∷ []) marks (if get_or marks next.number false then all ++ next ∷ [] else all)
   next_numbered next number_is vertex_is = elim (cases_Bool (get_or marks next.number false)) [
-    | inl marked ↦ subst (λ (b : Bool). AreMarkedModules (front ++ x ∷ []) marks (if b then all ++ next ∷ [] else all)) (sym marked)
-        (numbered_too next number_is vertex_is (subst (λ (n : ℕ). HasMark marks n) number_is marked))
-    | inr not ↦ subst (λ (b : Bool). AreMarkedModules (front ++ x ∷ []) marks (if b then all ++ next ∷ [] else all)) (sym not)
-        (passed_over (λ marked. false≢true (sym not ∙ subst (λ (n : ℕ). HasMark marks n) (sym number_is) marked)))
+    | inl marked ↦ rw marked
+        (numbered_too next number_is vertex_is (rw⁻¹ number_is marked))
+    | inr not ↦ rw not
+        (passed_over (λ marked. false≢true (sym not ∙ rw number_is marked)))
   ]
 
 -- The next of the modules that are left.
@@ -184,22 +187,14 @@ next_module modules rest x i within is = (inside, size, taken)
 
 module _ {modules : List ModuleVersion} {marks : List Bool} {all : List Numbered} (are : AreMarkedModules modules marks all) where
   -- Their vertices are distinct if the modules are.
-  all_distinct : IsDistinct pair_eq modules → IsDistinct pair_eq (map vertex_of all)
-  all_distinct distinct = IsDistinct-from_apart pair_eq (map vertex_of all) apart
-    where
-      vertex_is : (k : ℕ) (d : ModuleVersion) (e : Numbered) → k < length all → get_or (map vertex_of all) k d ≡ get_or modules (get_or all k e).number d
-      vertex_is k d e below =
-          let placed = (are.each (get_or all k e)).0 (Contains-get_or all k e below) in
-          get_or-map vertex_of all k e d below ∙ placed.is ∙ get_or_default modules (get_or all k e).number ([], []) d placed.within
-
-      apart : (i j : ℕ) (d : ModuleVersion) → i < j → j < length (map vertex_of all)
-          → pair_eq (get_or (map vertex_of all) i d) (get_or (map vertex_of all) j d) ≡ false
-      apart i j d lt below =
-          let e : Numbered = record { vertex = d; number = 0 } in
-          let inside : j < length all = omega (arith, below, length-map all vertex_of) in
-          ap₂ pair_eq (vertex_is i d e (omega (arith, lt, inside))) (vertex_is j d e inside)
-          ∙ apart_from_distinct pair_eq modules (get_or all i e).number (get_or all j e).number d distinct
-          (are.ascending i j e lt inside) ((are.each (get_or all j e)).0 (Contains-get_or all j e inside)).within
+  all_distinct : IsDistinct pair_eq modules → IsDistinct same_vertex all
+  all_distinct distinct = IsDistinct-from_apart same_vertex all (λ i j d lt below.
+      let a = get_or all i d in
+      let b = get_or all j d in
+      let first = (are.each a).0 (Contains-get_or all i d (omega arith)) in
+      let second = (are.each b).0 (Contains-get_or all j d below) in
+      rw (first.is, second.is, ← pair_ties) (apart_from_distinct pair_eq modules a.number b.number ([], []) distinct
+      (are.ascending i j d lt below) second.within))
 
   module _ (ordered : List Numbered) (same : IsPermutation all ordered) where
     its_place : (one : Numbered) → Contains ordered one → IsPlaced modules marks one
@@ -240,41 +235,14 @@ module _ {modules : List ModuleVersion} {marks : List Bool} {all : List Numbered
 
     -- ---- sorted vertices
 
-    later_vertex : (r s : Ordering) → is_lt (ordering_then (ordering_reverse r) s) ≡ false → is_eq r ≡ false → r ≡ Less
-    later_vertex Less s e f = refl
-    later_vertex Equal s e f = absurd (cc f)
-    later_vertex Greater s e f = absurd (cc e)
-
-    eq_flips : (r : Ordering) → is_eq (ordering_reverse r) ≡ is_eq r
-    eq_flips Less = refl
-    eq_flips Equal = refl
-    eq_flips Greater = refl
-
-    pair_flips : (x y : ModuleVersion) → pair_eq x y ≡ pair_eq y x
-    pair_flips x y = pair_ties x y ∙ ap is_eq (pair_total.antisymm x y) ∙ eq_flips (pair_cmp y x) ∙ sym (pair_ties y x)
+    first_not_less : (r s : Ordering) → is_lt (ordering_then r s) ≡ false → is_lt r ≡ false
+    first_not_less Less s e = cc
+    first_not_less Equal s e = refl
+    first_not_less Greater s e = refl
 
     -- Sorted, distinct vertices ascend.
     pub vertices_ascend : IsSorted (λ (a b : Numbered). ordering_then (pair_cmp a.vertex b.vertex)
         (nat_cmp a.number b.number)) ordered → IsDistinct pair_eq modules → IsAscending pair_cmp (map vertex_of ordered)
-    vertices_ascend sorted distinct = from_adjacent pair_total (map vertex_of ordered) next
-      where
-        apart : IsDistinct pair_eq (map vertex_of ordered)
-        apart = IsDistinct-IsPermutation pair_eq pair_flips (map vertex_of all) (map vertex_of ordered)
-            (IsPermutation-map vertex_of all ordered same) (all_distinct distinct)
-
-        next : (k : ℕ) (d : ModuleVersion) → k + 1 < length (map vertex_of ordered)
-            → true ≡ is_lt (pair_cmp (get_or (map vertex_of ordered) k d) (get_or (map vertex_of ordered) (k + 1) d))
-        next k d inside =
-            let e : Numbered = record { vertex = d; number = 0 } in
-            let within : k + 1 < length ordered = omega (arith, inside, length-map ordered vertex_of) in
-            let a = get_or ordered k e in
-            let b = get_or ordered (k + 1) e in
-            let left : get_or (map vertex_of ordered) k d ≡ a.vertex = get_or-map vertex_of ordered k e d (omega arith) in
-            let right : get_or (map vertex_of ordered) (k + 1) d ≡ b.vertex = get_or-map vertex_of ordered (k + 1) e d within in
-            let differ : is_eq (pair_cmp a.vertex b.vertex) ≡ false =
-            sym (pair_ties a.vertex b.vertex) ∙ sym (ap₂ pair_eq left right)
-            ∙ apart_from_distinct pair_eq (map vertex_of ordered) k (k + 1) d apart (omega arith) inside in
-            let low : is_lt (ordering_then (ordering_reverse (pair_cmp a.vertex b.vertex)) (nat_cmp b.number a.number)) ≡ false =
-            ap (λ (r : Ordering). is_lt (ordering_then r (nat_cmp b.number a.number)))
-            (sym (pair_total.antisymm b.vertex a.vertex)) ∙ sorted k e (omega arith) within in
-            sym (ap is_lt (ap₂ pair_cmp left right ∙ later_vertex (pair_cmp a.vertex b.vertex) (nat_cmp b.number a.number) low differ))
+    vertices_ascend sorted distinct = pairs_map (λ x y. pair_cmp x y ≡ Less) vertex_of ordered
+        (keys_ascend pair_total vertex_of ordered (λ k d inside. first_not_less _ _ (sorted k d (omega arith) inside))
+        (IsDistinct-IsPermutation same_vertex (λ a b. ties_flip pair_total a.vertex b.vertex) all ordered same (all_distinct distinct)))

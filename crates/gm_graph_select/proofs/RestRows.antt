@@ -1,5 +1,5 @@
 -- What follows the rows that were skipped.
-use Rattle.std.proofs.Common.{◌≡◌, ◌≢◌, ℕ, List, map, [], ◌∷◌, ◌++◌, Contains, ap, ◌∙◌, sym, refl, subst, inl, inr, append_assoc, append-nil, arith}
+use Rattle.std.proofs.Common.{◌≡◌, ◌≢◌, ℕ, List, map, [], ◌∷◌, ◌++◌, Contains, ap, ◌∙◌, sym, refl, inl, inr, append_assoc, append-nil, arith}
 use Rattle.std.proofs.lemmas.List.Elements.{Contains-append_right, Contains-push_cases}
 use Rattle.std.specs.Option.{option_map}
 use mathlib.Core.List.{map-map}
@@ -23,22 +23,22 @@ module _ {R : Type 0} {main path : List ℕ} {entries old left : List (EntryWith
     before = h.before ++ entry ∷ [];
     parts = h.parts ∙ ap (λ t. h.before ++ t) e ∙ sym (append_assoc h.before (entry ∷ []) left);
     others = λ one there. elim (Contains-push_cases h.before entry one there)
-        [ inl earlier ↦ h.others one earlier | inr same ↦ subst (λ r. path_of main r.0 ≢ path) same differs ];
+        [ inl earlier ↦ h.others one earlier | inr same ↦ rw⁻¹ same differs ];
   }
 
   -- The entry of the path was found.
   pub at_found : path_of main entry.0 ≡ path → IsRemainder main entries path old → IsAt main entries path entry left
   at_found is h = record { before = h.before; parts = h.parts ∙ ap (λ t. h.before ++ t) e; path_is = is; others = h.others }
 
+-- The entry of the path is there.
+pub entry_there : {R : Type 0} {main path : List ℕ} {entries rest : List (EntryWith R)} {entry : EntryWith R} → IsAt main entries path entry rest
+    → Contains entries entry
+entry_there {rest} {entry} at = rw at.parts (Contains-append_right at.before (entry ∷ rest) entry (0, omega arith, refl))
+
 -- An entry of the path is listed.
 pub entry_listed : {R : Type 0} (main : List ℕ) (entries : List (EntryWith R)) (path : List ℕ) (s : Step)
     → IsEntryOf main entries path s → HasEntryFor main entries path
-entry_listed main entries path s (entry, rest, at, is) = (
-  entry,
-  subst (λ es. Contains es entry) (sym at.parts)
-      (Contains-append_right at.before (entry ∷ rest) entry (0, omega arith, refl)),
-  at.path_is,
-)
+entry_listed main entries path s (entry, rest, at, is) = (entry, entry_there at, at.path_is)
 
 -- The first entry of a path is unique.
 same_first : {R : Type 0} (main : List ℕ) (path : List ℕ) (a b : EntryWith R) (rest more before other : List (EntryWith R))
@@ -49,10 +49,10 @@ same_first main path a b rest more [] [] e p q none nil = let same : a ∷ rest 
     (let one : a ≡ b = cc same in one, let two : rest ≡ more = cc same in two)
 same_first main path a b rest more [] (y ∷ other) e p q none nil =
     absurd (let same : a ∷ rest ≡ y ∷ (other ++ b ∷ more) = e in let one : a ≡ y = cc same in
-    nil y (0, omega arith, refl) (subst (λ x. path_of main x.0 ≡ path) one p))
+    nil y (0, omega arith, refl) (rw⁻¹ one p))
 same_first main path a b rest more (x ∷ before) [] e p q none nil =
     absurd (let same : x ∷ (before ++ a ∷ rest) ≡ b ∷ more = e in let one : x ≡ b = cc same in
-    none x (0, omega arith, refl) (subst (λ z. path_of main z.0 ≡ path) (sym one) q))
+    none x (0, omega arith, refl) (rw one q))
 same_first main path a b rest more (x ∷ before) (y ∷ other) e p q none nil =
     let same : x ∷ (before ++ a ∷ rest) ≡ y ∷ (other ++ b ∷ more) = e in
     let tails : before ++ a ∷ rest ≡ other ++ b ∷ more = cc same in
@@ -72,7 +72,7 @@ one_entry main entries path s t (a, rest, h, is) (b, more, g, other) = sym is �
 pub not_found : {R : Type 0} {main path : List ℕ} {entries left : List (EntryWith R)} → left ≡ [] → IsRemainder main entries path left
     → HasEntryFor main entries path → ⊥
 not_found e h (entry, there, is) =
-    h.others entry (subst (λ t. Contains t entry) (h.parts ∙ ap (λ t. h.before ++ t) e ∙ append-nil h.before) there) is
+    h.others entry (rw⁻¹ (h.parts ∙ ap (λ t. h.before ++ t) e ∙ append-nil h.before) there) is
 
 pub behind_from : {R : Type 0} {main path : List ℕ} {entries left : List (EntryWith R)} → entries ≡ left → IsRemainder main entries path left
 behind_from e = record { before = []; parts = e; others = λ other h. absurd (omega (arith, h.1)) }
@@ -96,7 +96,7 @@ module _ {R V : Type 0} (see : R → V) where
     parts = ap (map seen) at.parts ∙ map-append seen at.before (entry ∷ rest);
     path_is = at.path_is;
     others = λ other there. let (one, inside, same) = from_mapped seen at.before other there in
-        subst (λ (e : EntryWith V). path_of main e.0 ≢ path) same (at.others one inside);
+        rw⁻¹ same (at.others one inside);
   }
 
   pub rest_seen : {main path : List ℕ} (rows left : List (Row R)) → IsRestAfter main (entries_in rows) path (entries_in left)

@@ -10,7 +10,6 @@ use Rattle.gm_graph_select.specs.declared.step.Step.TheVariants.{Main, Of}
 use Rattle.gm_graph_select.specs.Graph.{AreEnds, Edges, IsEdgeEnd, among, edge}
 use Rattle.gm_graph_select.specs.BuildList.{IsSelected, IsBuildList}
 use Rattle.gm_graph_select.specs.Order.{HaveSame}
-use Rattle.gm_graph_select.proofs.Greatest.{ending}
 use Rattle.gm_graph_select.specs.Chains.{Leads, at_main, along, IsLevel, IsPredecessor, IsChain, begins, goes_on, IsReached, IsRooted}
 
 -- The two relations hold between the same steps and vertices.
@@ -29,12 +28,6 @@ alike_back E F h y = ((h y).1, (h y).0)
 
 same_ends : (E F : Edges) → AreSame E F → EndAlike E F
 same_ends E F h y = ((λ end. (end.0, (h end.0 y).0 end.1)), (λ end. (end.0, (h end.0 y).1 end.1)))
-
-pub ends_alike : (ends : List ModuleVersion) (E F : Edges) → AreEnds ends E → AreEnds ends F → EndAlike E F
-ends_alike ends E F e f y = ((λ end. (f y).0 ((e y).1 end)), (λ end. (e y).0 ((f y).1 end)))
-
-pub ending_ends : (ends : List ModuleVersion) → AreEnds ends (ending ends)
-ending_ends ends y = ((λ there. (Main, there)), (λ end. end.1))
 
 pub ends_same : (xs ys : List ModuleVersion) (E : Edges) → HaveSame xs ys → AreEnds xs E → AreEnds ys E
 ends_same xs ys E same are y = ((λ h. (are y).0 ((same y).1 h)), (λ end. (same y).0 ((are y).1 end)))
@@ -58,7 +51,7 @@ ends_of edges y = (from, to)
         let (k, below, at) = there in
         (k, rw length-map below, get_or-map (λ (e : Edge). e.to) edges k (edge s y) y below ∙ ap (λ (e : Edge). e.to) at)
 
-pub alike_selected : (main : List ℕ) (E F : Edges) → EndAlike E F → (x : ModuleVersion) → IsSelected main E x → IsSelected main F x
+alike_selected : (main : List ℕ) (E F : Edges) → EndAlike E F → (x : ModuleVersion) → IsSelected main E x → IsSelected main F x
 alike_selected main E F h x is = record {
   not_main = is.not_main;
   is_end = (h x).0 is.is_end;

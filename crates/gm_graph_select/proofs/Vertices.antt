@@ -1,7 +1,7 @@
 -- The vertices of a graph: the modules that its sources and their lists name.
 use Rattle.std.specs.Ordering.{nat_cmp}
 use Rattle.std.specs.List.Sorted.{IsPermutation, IsSortedByKey}
-use Rattle.std.proofs.Common.{◌≡◌, ◌⊎◌, ◌↔◌, ◌∙◌, ◌<◌, ℕ, Bool, List, Option, None, Some, Contains, get_or, length, map, ap, inl, inr, refl, subst, sym}
+use Rattle.std.proofs.Common.{◌≡◌, ◌⊎◌, ◌↔◌, ◌∙◌, ℕ, Bool, List, Option, None, Some, Contains, get_or, length, map, ap, inl, inr, refl, sym}
 use Rattle.std.specs.Prelude.{All}
 use Rattle.std.specs.List.{AllZip, IsDistinct}
 use Rattle.std.specs.Option.{option_cmp}
@@ -9,7 +9,6 @@ use Rattle.std.proofs.lemmas.List.Elements.{Contains-get_or}
 use Rattle.gm_name.specs.ModuleVersion.{ModuleVersion, module_at, pair_cmp}
 use Rattle.gm_graph_select.specs.declared.adjacency.Source.{Source}
 use Rattle.gm_graph_select.specs.declared.step.Edge.{Edge}
-use Rattle.gm_graph_select.specs.declared.step.Step.{Step}
 use Rattle.gm_graph_select.specs.declared.step.Step.TheVariants.{Main, Of}
 use Rattle.gm_graph_select.specs.Adjacency.{AreRanked, StepEdges, by_step, edges_of, left_by, same_step, sources_of, step_with}
 use Rattle.gm_graph_select.specs.Private.Adjacency.{IsByRanks, source_by_ranks}
@@ -17,7 +16,7 @@ use Rattle.gm_graph_select.specs.Graph.{IsEdgeEnd, among, edge}
 use Rattle.gm_graph_select.specs.Private.Marking.{HasMark, named_by, numbers_named}
 use Rattle.gm_graph_select.specs.Order.{HaveSame, IsAscending}
 use Rattle.gm_graph_select.specs.Private.Ranking.{IsMarkedModule}
-use Rattle.gm_graph_select.proofs.Marks.{marked_inside, named_from, named_only, names_from, names_only, names_to}
+use Rattle.gm_graph_select.proofs.Marks.{from_flat, in_flat, marked_inside, names_from, names_only, names_to}
 use Rattle.gm_graph_select.proofs.RankedLists.{AreByRanks, IsFromMarked, NamesMarked, edges_each, edges_only, from_mapped, in_mapped, lists_are_ranked, same_edges, steps_by_ranks, AreRanks}
 
 module _ (modules : List ModuleVersion) (marks : List Bool) (all : List StepEdges)
@@ -34,7 +33,7 @@ module _ (modules : List ModuleVersion) (marks : List Bool) (all : List StepEdge
       one = get_or all k d
 
       marked : (number : ℕ) → Contains (named_by one) number → HasMark marks number
-      marked number h = (are number).1 (named_from named_by all one number (Contains-get_or all k d below) h)
+      marked number h = (are number).1 (in_flat named_by all one number (Contains-get_or all k d below) h)
 
       from_of : (from : Option ℕ) → one.from ≡ from → IsFromMarked marks from
       from_of None is = tt
@@ -44,30 +43,25 @@ module _ (modules : List ModuleVersion) (marks : List Bool) (all : List StepEdge
     -- A marked module is an end of an edge, or a list leaves it.
     end_or_source : (x : ModuleVersion) → IsMarkedModule modules marks x → IsEdgeEnd (among edges) x ⊎ Contains (sources_of modules all) (Of x)
     end_or_source x (number, placed) =
-        let (one, there, named) = named_only named_by all number ((are number).0 placed.marked) in
+        let (one, there, named) = from_flat named_by all number ((are number).0 placed.marked) in
         elim (names_only one number named) [
-          | inl left ↦ inr (subst (λ (s : Step). Contains (sources_of modules all) s)
-              (ap (λ (from : Option ℕ). step_with modules from) left ∙ ap Of (sym placed.is))
+          | inl left ↦ inr (rw⁻¹ (ap (λ (from : Option ℕ). step_with modules from) left ∙ ap Of (sym placed.is))
               (in_mapped (left_by modules) all one there))
           | inr found ↦ inl (
             left_by modules one,
-            (same (edge (left_by modules one) x)).0
-                (subst (λ (y : ModuleVersion). Contains (edges_of modules all) (edge (left_by modules one) y)) (sym placed.is)
-                (edges_each modules all one (edge (left_by modules one) (module_at modules number)) there
-                (in_mapped (λ (n : ℕ). edge (left_by modules one) (module_at modules n)) one.to number found))),
+            (same (edge (left_by modules one) x)).0 (rw placed.is (edges_each modules all one number there found)),
           )
         ]
 
     marked_module : length marks ≡ length modules → (x : ModuleVersion) → (one : StepEdges) → Contains all one
         → (number : ℕ) → Contains (named_by one) number → module_at modules number ≡ x → IsMarkedModule modules marks x
     marked_module count x one there number named is =
-        let marked : HasMark marks number = (are number).1 (named_from named_by all one number there named) in
-        (number, record { within = subst (λ (n : ℕ). number < n) count (marked_inside marks number marked); marked = marked; is = sym is })
+        let marked : HasMark marks number = (are number).1 (in_flat named_by all one number there named) in
+        (number, record { within = rw⁻¹ count (marked_inside marks number marked); marked = marked; is = sym is })
 
     an_end : length marks ≡ length modules → (x : ModuleVersion) → IsEdgeEnd (among edges) x → IsMarkedModule modules marks x
     an_end count x (s, h) =
-        let (one, there, at) = edges_only modules all (edge s x) ((same (edge s x)).1 h) in
-        let (number, found, is) = from_mapped (λ (n : ℕ). edge (left_by modules one) (module_at modules n)) one.to (edge s x) at in
+        let (one, there, number, found, is) = edges_only modules all (edge s x) ((same (edge s x)).1 h) in
         marked_module count x one there number (names_to one number found) (ap (λ (e : Edge). e.to) is)
 
     a_source : length marks ≡ length modules → (x : ModuleVersion) → Contains (sources_of modules all) (Of x) → IsMarkedModule modules marks x
@@ -133,16 +127,7 @@ pub is_graph_of : {modules : List ModuleVersion} {marks is_vertex : List Bool} {
     → IsGraphOf modules (by_step old_lists old_sources) vertices (by_step new_lists new_sources)
 is_graph_of {modules} {marks} {is_vertex} {vertices} {ranks} {places} {others} {old_lists} {lists} new_lists
     {old_sources} {sources} {new_sources} lists_are sources_are marks_are places_are others_are count are contains up ranked zip permutation sorted once =
-    from_steps modules marks vertices ranks (by_step old_lists old_sources) (by_step new_lists new_sources) count named
-    (subst (λ (bs : List Bool). (x : ModuleVersion) → Contains vertices x ↔ IsMarkedModule modules bs x) marks_are contains)
-    up
-    (subst (λ (bs : List Bool). AreRanks modules bs vertices ranks) marks_are ranked)
-    (steps_by_ranks ranks old_lists new_lists
-    (subst (λ (ls : List (List ℕ)). AllZip (IsByRanks ranks) ls new_lists) lists_are
-    (subst (λ (ns : List ℕ). AllZip (IsByRanks ns) lists new_lists) places_are zip)) old_sources new_sources
-    (subst (λ (ns : List ℕ). IsPermutation (map (source_by_ranks ns) old_sources) new_sources) others_are permutation) sorted)
+    from_steps modules marks vertices ranks (by_step old_lists old_sources) (by_step new_lists new_sources) count
+    (rw (lists_are, sources_are) at are) (rw marks_are at contains) up (rw marks_are at ranked)
+    (steps_by_ranks ranks old_lists new_lists (rw (lists_are, places_are) at zip) old_sources new_sources (rw others_are at permutation) sorted)
     once
-  where
-    named : (number : ℕ) → HasMark marks number ↔ Contains (numbers_named (by_step old_lists old_sources)) number
-    named = subst (λ (ss : List Source). (number : ℕ) → HasMark marks number ↔ Contains (numbers_named (by_step old_lists ss)) number) sources_are
-        (subst (λ (ls : List (List ℕ)). (number : ℕ) → HasMark marks number ↔ Contains (numbers_named (by_step ls sources)) number) lists_are are)

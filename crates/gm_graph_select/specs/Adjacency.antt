@@ -1,5 +1,6 @@
 -- Edges by numbers. The number of a vertex is its place in a list of vertices.
-use Rattle.std.specs.Prelude.{◌≡◌, ◌<◌, ◌++◌, ⊤, ℕ, Bool, All, AllPairs, List, [], ◌∷◌, Option, None, Some, length, map, slice_index_or}
+use Rattle.std.specs.Prelude.{◌≡◌, ◌<◌, ⊤, ℕ, Bool, All, AllPairs, List, [], Option, None, Some, length, map, slice_index_or}
+use Rattle.std.specs.List.{flat_map}
 use Rattle.std.specs.Option.{option_cmp}
 use Rattle.std.specs.Ordering.{nat_cmp}
 use Rattle.std.specs.declared.cmp.Ordering.TheVariants.{Less}
@@ -48,8 +49,7 @@ edges_from vertices one = map (λ number. edge (left_by vertices one) (module_at
 
 -- the edges that leave any of these steps
 abbrev pub edges_of : List ModuleVersion → List StepEdges → List Edge
-edges_of vertices [] = []
-edges_of vertices (one ∷ all) = edges_from vertices one ++ edges_of vertices all
+edges_of vertices all = flat_map (edges_from vertices) all
 
 -- Whether edges leave the same step.
 abbrev pub same_step : List ModuleVersion → StepEdges → StepEdges → Bool

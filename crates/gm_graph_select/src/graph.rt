@@ -59,7 +59,7 @@ impl Graph {
     ///
     /// The only refusal is `NoMemory`. For n vertices, s sources and lists of m numbers in all it takes n log n
     /// comparisons of vertices, and of numbers m log m + s log s at most, however many edges there are. Time and memory
-    /// are also in proportion to the modules.
+    /// are also in proportion to the modules and the spans.
     pub fn new(
         alloc: Global,
         modules: Vec<ModVer>,

@@ -1,4 +1,4 @@
-use Rattle.std.proofs.Common.{◌≡◌, ◌<◌, ◌+◌, ◌++◌, None, Option, ℕ, arith, drop, get_or, length, map, set, subst, sym, take}
+use Rattle.std.proofs.Common.{◌<◌, None, arith, get_or, length}
 use Rattle.std.proofs.lemmas.List.{get_or_default}
 use Rattle.std.proofs.lemmas.List.Edits.{map_over_more}
 use Rattle.gm_graph_select.specs.declared.adjacency.Source.{Source}
@@ -13,7 +13,6 @@ loop-one-preserved c =
     let i = c.loop-one.one-index in
     let none : Source = record { from = None; list = 0 } in
     let inside : i < length old = omega arith in
-    subst (λ (from : Option ℕ). set now i (record { from = from; list = (get_or now i none).list })
-    ≡ map (source_by_ranks ranks) (take (i + 1) old) ++ drop (i + 1) old) (sym c.rank_of-one.ensures)
+    rw c.rank_of-one.ensures
     (map_over_more (λ (one : Source). source_by_ranks ranks one) old now i (get_or now i none) inside c.loop-one.invariant
     (get_or_default now i none (get_or now i none) (omega arith)))

@@ -1,6 +1,5 @@
-use Rattle.std.proofs.Common.{◌<◌, ◌∷◌, [], List, arith, get_or, length, set, subst, sym, take, true, ℕ}
+use Rattle.std.proofs.Common.{◌<◌, arith, get_or, length}
 use Rattle.std.proofs.lemmas.List.{take_more}
-use Rattle.gm_graph_select.specs.Private.Marking.{AreMarked}
 use Rattle.gm_graph_select.proofs.Marks.{both_marked, none_more, one_marked}
 use Rattle.gm_graph_select.proofs.marking.mark_each.Goals as goal
 
@@ -19,7 +18,5 @@ loop-number-preserved c =
     let number = get_or numbers at.number-index 0 in
     let below = c.requires at.number-index 0 c.loop-number-test.true in
     let inside : number < length at.marks = omega (arith, below, at.auto.marks) in
-    subst (λ (ns : List ℕ). AreMarked c.args.marks.now ns (set at.marks number true))
-    (sym (take_more numbers at.number-index 0 c.loop-number-test.true))
-    (both_marked c.args.marks.now at.marks (set at.marks number true) (take at.number-index numbers) (number ∷ [])
-    at.invariant (one_marked at.marks number inside))
+    rw (take_more numbers at.number-index 0 c.loop-number-test.true)
+    (both_marked at.invariant (one_marked at.marks number inside))

@@ -1,8 +1,7 @@
 use Rattle.std.proofs.Common.{◌<◌, ◌∙◌, None, arith, get_or, length, sym}
-use Rattle.std.specs.Option.{option_to_list}
 use Rattle.std.proofs.lemmas.List.{get_or-map, length-map}
 use Rattle.gm_graph_select.specs.declared.adjacency.Source.{Source}
-use Rattle.gm_graph_select.specs.Adjacency.{StepEdges, by_step, list_at, step_edges}
+use Rattle.gm_graph_select.specs.Adjacency.{StepEdges, by_step, step_edges}
 use Rattle.gm_graph_select.specs.Private.Marking.{named_by}
 use Rattle.gm_graph_select.proofs.Marks.{both_marked, next_named}
 use Rattle.gm_graph_select.proofs.marking.mark_sources.Goals as goal
@@ -18,10 +17,9 @@ loop-one-preserved c =
     let named : StepEdges = step_edges lists one in
     let inside : i < length (by_step lists sources) = omega (arith, c.loop-one-test.true, length-map sources (step_edges lists)) in
     record {
-      marks = next_named named_by c.args.marks.now at.marks c.mark_list.new.marks (by_step lists sources) i named inside
+      marks = next_named named_by (by_step lists sources) i named inside
           (sym (get_or-map (step_edges lists) sources i none named c.loop-one-test.true)) at.invariant.marks
-          (both_marked at.marks c.mark_one.new.marks c.mark_list.new.marks (option_to_list one.from) (list_at lists one.list)
-          c.mark_one.ensures c.mark_list.ensures.marks);
+          (both_marked c.mark_one.ensures c.mark_list.ensures.marks);
       count = c.mark_list.ensures.count ∙ at.invariant.count;
       passed = c.mark_list.ensures.passed;
     }

@@ -1,7 +1,7 @@
-use Rattle.std.proofs.Common.{◌≡◌, ◌∙◌, Bool, List, arith, false, inl, inr, length, of_calls, replicate, rules, subst, sym}
+use Rattle.std.proofs.Common.{◌≡◌, ◌∙◌, arith, false, inl, inr, length, of_calls, replicate, rules}
 use Rattle.std.proofs.lemmas.List.{take_at}
 use Rattle.gm_graph_select.specs.Adjacency.{by_step}
-use Rattle.gm_graph_select.specs.Private.Marking.{AreMarked, HasMark, numbers_named}
+use Rattle.gm_graph_select.specs.Private.Marking.{AreMarked, numbers_named}
 use Rattle.gm_graph_select.proofs.Marks.{none_marked}
 use Rattle.gm_graph_select.proofs.marking.marks_of.Goals as goal
 
@@ -12,11 +12,11 @@ returns-clause-marks c = λ number.
     let size : length last ≡ c.in_ok-marks.marks.len = omega (arith, c.mark_sources.ensures.count, c.deref_mut.ensures.len) in
     let none : c.in_ok-marks.marks.items ≡ replicate c.args.count false = search (rules, of_calls) in
     let are : AreMarked (replicate c.args.count false) named last =
-    subst (λ (bs : List Bool). AreMarked bs named last) (c.deref_mut.ensures.value ∙ none) c.mark_sources.ensures in
+    rw⁻¹ (c.deref_mut.ensures.value ∙ none) c.mark_sources.ensures in
     let whole = take_at last _ c.in_ok-marks.marks.len size in (
-      (λ h. elim ((are.each number).0 (subst (λ (bs : List Bool). HasMark bs number) whole h)) [
+      (λ h. elim ((are.each number).0 (rw⁻¹ whole h)) [
         | inl marked ↦ absurd (none_marked c.args.count number marked)
         | inr found ↦ found
       ]),
-      (λ found. subst (λ (bs : List Bool). HasMark bs number) (sym whole) ((are.each number).1 (inr found))),
+      (λ found. rw whole ((are.each number).1 (inr found))),
     )

@@ -1,4 +1,4 @@
-use Rattle.std.proofs.Common.{◌≡◌, ◌<◌, ℕ, List, Result, Ok, Err, arith, length, map, subst, sym}
+use Rattle.std.proofs.Common.{◌≡◌, ℕ, List, Result, Ok, Err, arith, map, subst, sym}
 use Rattle.std.specs.Prelude.{All, Contains, IfOk, ◌↔◌}
 use Rattle.gm_name.specs.ModuleVersion.{ModuleVersion, pair_cmp}
 use Rattle.gm_graph_select.specs.declared.ranking.Numbered.{Numbered}
@@ -16,7 +16,7 @@ ranking_of-requires-clause-few c =
 
 pub ranking_of-requires-clause-within : goal.ranking_of-requires-clause-within
 ranking_of-requires-clause-within c =
-    subst (λ (n : ℕ). All (λ (one : Numbered). one.number < n) c.sort_unstable.new.self.items) (sym c.requires.marks)
+    rw c.requires.marks
     (numbers_within c.in_ok-all.ensures c.sort_unstable.new.self.items c.sort_unstable.ensures.permutation)
 
 pub ranking_of-requires-clause-once : goal.ranking_of-requires-clause-once
@@ -35,7 +35,7 @@ of_ranking : {E : Type 0} (made : Result Ranking E) (xs : List ModuleVersion) (a
     → ((ranks : List ℕ) → All (IsRanked xs ranks) all → Q xs ranks) → IfOk made (λ ranking. Q ranking.vertices.items ranking.ranks.items)
 of_ranking (Ok ranking) xs all Q is each f =
     let ranks = ranking.ranks.items in
-    subst (λ (ys : List ModuleVersion). Q ys ranks) (sym is) (f ranks (subst (λ (ys : List ModuleVersion). All (IsRanked ys ranks) all) is each))
+    rw is (f ranks (rw⁻¹ is each))
 of_ranking (Err e) xs all Q is each f = tt
 
 abbrev vertices_in : List Numbered → List ModuleVersion
@@ -55,7 +55,7 @@ returns-clause-ascending c =
     (vertices_ascend c.in_ok-all.ensures all c.sort_unstable.ensures.permutation c.sort_unstable.ensures.sorted c.requires.distinct)
 
 pub returns-clause-count : goal.returns-clause-count
-returns-clause-count c = subst (λ (n : ℕ). IfOk c.ranking_of.result (λ ranking. length ranking.ranks.items ≡ n)) c.requires.marks c.ranking_of.ensures.count
+returns-clause-count c = rw⁻¹ c.requires.marks c.ranking_of.ensures.count
 
 pub returns-clause-ranks : goal.returns-clause-ranks
 returns-clause-ranks c =

@@ -1,10 +1,9 @@
-use Rattle.std.proofs.Common.{◌≡◌, ◌⊎◌, ◌∷◌, ◌++◌, ◌<◌, ◌∙◌, ℕ, [], List, Contains, ap, append-nil, arith, get_or, inl, inr, length, map, refl, set, subst, sym}
+use Rattle.std.proofs.Common.{◌≡◌, ◌∷◌, ◌++◌, ◌<◌, ◌∙◌, ℕ, List, Contains, ap, append-nil, arith, get_or, inl, inr, length, map, refl, set, sym}
 use Rattle.std.proofs.lemmas.List.{length-set, nil_from_length}
 use Rattle.std.proofs.lemmas.List.Elements.{All-contains, Contains-get_or}
 use Rattle.std.specs.Vec.Iter.{into_iter_items}
 use Rattle.gm_name.specs.ModuleVersion.{ModuleVersion}
 use Rattle.gm_graph_select.specs.declared.ranking.Numbered.{Numbered}
-use Rattle.gm_graph_select.specs.Private.Ranking.{IsRanked}
 use Rattle.gm_graph_select.proofs.Ascending.{member_head, member_tail}
 use Rattle.gm_graph_select.proofs.Ranks.{fewer, next_ranked, next_vertices}
 use Rattle.gm_graph_select.proofs.ranking.ranking_of.Goals as goal
@@ -25,7 +24,7 @@ loop-next-preserved c =
     let vertices = c.loop-next.vertices.items in
     let ranks = c.loop-next.ranks.items in
     let rest_from : (x : Numbered) → Contains (next ∷ rest) x → Contains all x =
-    λ x h. so.rest x (subst (λ (xs : List Numbered). Contains xs x) (sym before) h) in
+    λ x h. so.rest x (rw before h) in
     let in_all : Contains all next = rest_from next (member_head next rest) in
     let low : next.number < c.args.modules = All-contains (λ (one : Numbered). one.number < c.args.modules) all next c.requires.within in_all in
     let inside : next.number < length ranks = omega (arith, low, so.count) in
@@ -40,12 +39,9 @@ loop-next-preserved c =
           let kept = next_ranked all vertices ranks next rest c.requires.once in_all inside x there
           (elim (so.each x there) [
             | inl ranked ↦ inl ranked
-            | inr left ↦ inr
-                (subst (λ (xs : List Numbered). Contains xs x) before left)
+            | inr left ↦ inr (rw before at left)
           ]) in
-          subst (λ (xs : List ModuleVersion). IsRanked xs (set ranks next.number c.len-in-loop-next.result) x
-          ⊎ Contains rest x) (sym c.in_ok-push.ensures.items)
-          (subst (λ (rs : List ℕ). IsRanked (vertices ++ next.vertex ∷ []) rs x ⊎ Contains rest x) (sym made) kept);
+          rw (c.in_ok-push.ensures.items, made) kept;
     }
 
 pub loop-next-init : goal.loop-next-init
@@ -55,8 +51,8 @@ loop-next-init c =
     record {
       vertices = rw (c.in_ok-vertices.ensures.items, gives) refl;
       count = omega (arith, c.in_ok-ranks.ensures.len, c.in_ok-ranks.ranks.ok);
-      rest = λ x h. subst (λ (xs : List Numbered). Contains xs x) gives h;
-      each = λ x there. inr (subst (λ (xs : List Numbered). Contains xs x) (sym gives) there);
+      rest = λ x h. rw⁻¹ gives h;
+      each = λ x there. inr (rw gives there);
     }
 
 pub index_mut-requires : goal.index_mut-requires
@@ -65,7 +61,7 @@ index_mut-requires c =
     let all = c.args.all.items in
     let next = c.in-Some.next in
     let rest = into_iter_items c.next.new.self in
-    let in_all = so.rest next (subst (λ (xs : List Numbered). Contains xs next) (sym c.in-Some.ensures.steps.0) (member_head next rest)) in
+    let in_all = so.rest next (rw c.in-Some.ensures.steps.0 (member_head next rest)) in
     let low = All-contains (λ (one : Numbered). one.number < c.args.modules) all next c.requires.within in_all in
     omega (arith, low, so.count, c.loop-next.ranks.ok)
 

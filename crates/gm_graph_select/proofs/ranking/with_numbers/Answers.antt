@@ -1,9 +1,8 @@
-use Rattle.std.proofs.Common.{◌≡◌, ◌∷◌, ◌++◌, ◌∙◌, [], List, ap, append-nil, append_assoc, arith, refl, subst, sym, take}
+use Rattle.std.proofs.Common.{◌≡◌, ◌∷◌, ◌++◌, ◌∙◌, [], List, ap, append-nil, append_assoc, arith, refl, sym, take}
 use Rattle.std.proofs.lemmas.List.{nil_from_length}
 use Rattle.std.specs.Vec.Iter.{into_iter_items}
 use Rattle.gm_name.specs.ModuleVersion.{ModuleVersion}
 use Rattle.gm_graph_select.specs.declared.ranking.Numbered.{Numbered}
-use Rattle.gm_graph_select.specs.Private.Ranking.{AreMarkedModules}
 use Rattle.gm_graph_select.proofs.Ranks.{next_module, next_numbered}
 use Rattle.gm_graph_select.proofs.ranking.with_numbers.Goals as goal
 
@@ -21,8 +20,8 @@ loop-vertex-preserved c =
     record {
       within = omega (arith, inside);
       rest = ap (λ (xs : List ModuleVersion). xs ++ rest) taken ∙ append_assoc front (vertex ∷ []) rest ∙ left;
-      numbered = subst (λ (xs : List ModuleVersion). AreMarkedModules xs c.args.is_vertex.now c.push_marked.new.all.items) (sym taken)
-          (subst (λ (all : List Numbered). AreMarkedModules (front ++ vertex ∷ []) c.args.is_vertex.now all) (sym c.in_ok-push_marked.ensures)
+      numbered = rw taken
+          (rw c.in_ok-push_marked.ensures
           (next_numbered vertex so.numbered next (sym size) refl));
     }
 
@@ -52,4 +51,4 @@ returns c =
     let left = c.loop-vertex.vertex-iterator in
     let none = nil_from_length (into_iter_items left) (sym left.rest.ok.0 ∙ c.in-None.ensures.steps.0) in
     let whole = sym (append-nil front) ∙ ap (λ (xs : List ModuleVersion). front ++ xs) (sym none) ∙ so.rest in
-    subst (λ (xs : List ModuleVersion). AreMarkedModules xs c.args.is_vertex.now c.loop-vertex.all.items) whole so.numbered
+    rw⁻¹ whole so.numbered

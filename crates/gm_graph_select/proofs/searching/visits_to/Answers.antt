@@ -3,7 +3,7 @@ use Rattle.std.proofs.lemmas.Bool.{eqb-false}
 use Rattle.gm_name.specs.ModuleVersion.{module_at}
 use Rattle.gm_graph_select.specs.declared.searching.Search.{Search}
 use Rattle.gm_graph_select.specs.declared.searching.Visit.{Visit}
-use Rattle.gm_graph_select.specs.Private.Searching.{IsFollowed, IsSearchedTo, count_left}
+use Rattle.gm_graph_select.specs.Private.Searching.{IsFollowed, count_left}
 use Rattle.gm_graph_select.proofs.BreadthFirst.{first_level, level_more, no_due, not_reached}
 use Rattle.gm_graph_select.proofs.searching.visits_to.Goals as goal
 
@@ -22,7 +22,7 @@ levels-smaller c =
     let goal = module_at graph.vertices c.args.goal in
     let (level, h) = c.levels.invariant in
     let f = c.in_ok-visit_level.ensures.missed c.if-branch.false level
-    (subst (λ (due : List Visit). IsSearchedTo graph goal level c.levels.search due) (sym c.deref.ensures.value) h) in
+    (rw c.deref.ensures.value h) in
     let some = eqb-false (vec_len c.levels.due) 0 (sym c.is_empty.ensures ∙ c.levels-test.true) in
     let long = c.levels.due.ok.0 in
     let kept = ap (λ (s : Search). count_left s.is_found.items) c.take_level-due.ensures.others in
@@ -35,7 +35,7 @@ levels-preserved c =
     let goal = module_at graph.vertices c.args.goal in
     let (level, h) = c.levels.invariant in
     let f = c.in_ok-visit_level.ensures.missed c.if-branch.false level
-    (subst (λ (due : List Visit). IsSearchedTo graph goal level c.levels.search due) (sym c.deref.ensures.value) h) in
+    (rw c.deref.ensures.value h) in
     let made = subst (λ (due : List Visit). IsFollowed graph goal level c.levels.search.is_found.items due c.visit_level.new.self)
     c.deref.ensures.value f in
     let next = c.take_level-due.ensures in

@@ -1,8 +1,4 @@
-use Rattle.std.proofs.Common.{subst}
-use Rattle.gm_graph_select.specs.declared.step.Step.{Step}
 use Rattle.gm_graph_select.specs.BuildList.{entries_in}
-use Rattle.gm_graph_select.specs.Chains.{IsReached}
-use Rattle.gm_graph_select.specs.Graph.{among}
 use Rattle.gm_graph_select.proofs.RestRows.{entry_listed, one_entry}
 use Rattle.gm_graph_select.proofs.graph.Graph.chain.Goals as goal
 
@@ -14,4 +10,4 @@ pub returns-in_default-2-clause-not_listed : goal.returns-in_default-2-clause-no
 returns-in_default-2-clause-not_listed g c = λ e (s, entry, reached).
     let same = one_entry c.args.main.now (entries_in c.args.rows.now) c.args.path.now s c.in-Some.entry.now entry c.in-Some.ensures.some in
     let none = rw c.in_default-2.is at c.in_ok-steps.ensures.none in
-    none (subst (λ (t : Step). IsReached (among c.args.self.now.edges) t) same reached)
+    none (rw⁻¹ same reached)

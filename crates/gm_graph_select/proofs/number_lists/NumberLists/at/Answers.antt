@@ -1,5 +1,4 @@
-use Rattle.gm_graph_select.specs.Spans.{AreSpansApart}
-use Rattle.std.proofs.Common.{◌<◌, ◌∙◌, List, ap, get_or, length, subst, sym, ℕ, [], ◌∷◌}
+use Rattle.std.proofs.Common.{◌<◌, ◌∙◌, List, ap, get_or, length, subst}
 use Rattle.gm_graph_select.specs.declared.number_lists.Span.{Span}
 use Rattle.gm_graph_select.proofs.Parts.{all_within}
 use Rattle.gm_graph_select.proofs.number_lists.NumberLists.at.Goals as goal
@@ -12,5 +11,5 @@ part-requires c =
     let read = c.in-Some.ensures.lookup in
     let is = read.1 ∙ ap (λ (xs : List Span). get_or xs place span) c.deref.ensures.value in
     let inside = subst (λ (xs : List Span). place < length xs) c.deref.ensures.value read.3.0 in
-    subst (λ (n : ℕ). AreSpansApart 0 (span ∷ []) n) (sym (ap length c.deref-in-Some.ensures.value))
-    (subst (λ (s : Span). AreSpansApart 0 (s ∷ []) size) (sym is) (all_within c.self.inside.spans.items 0 size c.self.invariant place span inside))
+    rw (ap length c.deref-in-Some.ensures.value)
+    (rw is (all_within c.self.inside.spans.items 0 size c.self.invariant place span inside))

@@ -1,15 +1,13 @@
-use Rattle.std.proofs.Common.{◌≡◌, ◌≢◌, ◌+◌, ◌∙◌, [], Bool, false, List, ℕ, ap, get_or, length, refl, take, subst, sym, arith}
+use Rattle.std.proofs.Common.{◌≡◌, ◌≢◌, ◌+◌, ◌∙◌, [], false, List, ℕ, ap, get_or, length, refl, take, subst, sym, arith}
 use Rattle.std.specs.Prelude.{All}
 use Rattle.std.proofs.lemmas.Grind.{common_steps}
 use Rattle.std.proofs.lemmas.List.{length-map}
 use Rattle.std.proofs.lemmas.List.Elements.{Contains-get_or}
 use Rattle.gm_name.specs.ModuleVersion.{module_at}
-use Rattle.gm_graph_select.specs.Graph.{among}
 use Rattle.gm_graph_select.specs.declared.searching.Search.{Search}
 use Rattle.gm_graph_select.specs.declared.step.Step.TheVariants.{Of}
 use Rattle.gm_graph_select.specs.Private.Marking.{HasMark}
-use Rattle.gm_graph_select.specs.Private.Numbering.{step_at, steps_of}
-use Rattle.gm_graph_select.specs.Private.Searching.{AreEndsFound, AreNewVisits, ArePassed, IsEdgeTo, numbers_visited}
+use Rattle.gm_graph_select.specs.Private.Searching.{IsEdgeTo}
 use Rattle.gm_graph_select.proofs.BreadthFirst.{both_new, ends_found, ends_later, list_passed, none_new, rank_followed}
 use Rattle.gm_graph_select.proofs.NumberedSteps.{step_of_rank}
 use Rattle.gm_graph_select.proofs.RankedLists.{in_mapped}
@@ -21,7 +19,7 @@ returns-in_default-clause-missed c = λ e.
       none_new (length old.visits.items) _ old _ refl refl,
       (λ passed. (
         passed,
-        ends_found c.args.graph.now c.requires.graph c.args.goal c.requires.goal old.is_found.items []
+        ends_found c.requires.graph c.args.goal c.requires.goal old.is_found.items []
             (λ k d below. absurd (omega (arith, below))) c.args.visit.number c.in_default.ensures.none,
       )),
     )
@@ -51,7 +49,7 @@ returns-then-rank-goal-clause-found c = λ e.
     let k = c.loop-rank.rank-index in
     let ranks = c.ranks_in-ranks.result.now in
     let leaving = c.ranks_in-ranks.ensures number c.requires.inside c.in-Some.ensures.some in
-    subst (λ (rank : ℕ). among graph.edges (step_at (steps_of graph) number) (module_at graph.vertices rank)) c.if-rank-goal.true
+    rw⁻¹ c.if-rank-goal.true
     ((leaving.each (module_at graph.vertices (get_or ranks k 0))).0
     (in_mapped (module_at graph.vertices) ranks (get_or ranks k 0) (Contains-get_or ranks k 0 (omega arith))))
 
@@ -87,8 +85,8 @@ loop-rank-preserved c =
       visits = ap (λ (s : Search). s.visits.items) c.follow.ensures.others ∙ c.loop-rank.invariant.visits;
       passed = ap (λ (s : Search). s.is_passed) c.follow.ensures.others ∙ c.loop-rank.invariant.passed;
       new = both_new (length old.visits.items) (IsEdgeTo graph number) old mid new (λ (n : ℕ). n ≡ rank + 1)
-          (λ n same. subst (λ (m : ℕ). IsEdgeTo graph number m) (sym same) edge) c.loop-rank.invariant.new
-          (subst (λ (p : ℕ). AreNewVisits p (λ (n : ℕ). n ≡ rank + 1) mid new) place followed);
+          (λ n same. rw same edge) c.loop-rank.invariant.new
+          (rw⁻¹ place followed);
       each = rank_followed c.args.goal mid.is_found.items new.is_found.items ranks k c.follow.ensures.found
           (omega arith) c.if-rank-goal.false c.loop-rank.invariant.each;
     }
@@ -117,13 +115,13 @@ returns-clause-missed c = λ e.
       both_new (length old.visits.items) (IsEdgeTo graph number) old mid new (IsEdgeTo graph number) (λ n is. is) so.new
           (none_new (length old.visits.items) (IsEdgeTo graph number) mid new same (ap (λ (s : Search). s.next.items) c.pass.ensures.others)),
       (λ passed. (
-        subst (λ (marks : List Bool). ArePassed graph goal marks new.is_passed.items) (sym same)
-            (subst (λ (marks : List Bool). ArePassed graph goal mid.is_found.items marks) (sym c.pass.ensures.passed)
-            (list_passed graph c.requires.graph c.args.goal c.requires.goal mid.is_found.items ranks each mid.is_passed.items list c.ranks_in-ranks.ensures
-            (λ other place low has mark. ends_later graph goal old.is_found.items mid.is_found.items (numbers_visited so.new.more) other so.new.found
+        rw same
+            (rw c.pass.ensures.passed
+            (list_passed c.requires.graph c.args.goal c.requires.goal mid.is_found.items ranks each mid.is_passed.items list c.ranks_in-ranks.ensures
+            (λ other place low has mark. ends_later graph goal other so.new.found
             (passed other place low has (sym (ap (λ v. get_or v.items place false) so.passed) ∙ mark))))),
-        subst (λ (marks : List Bool). AreEndsFound graph goal marks number) (sym same)
-            (ends_found graph c.requires.graph c.args.goal c.requires.goal mid.is_found.items ranks each number
+        rw same
+            (ends_found c.requires.graph c.args.goal c.requires.goal mid.is_found.items ranks each number
             (c.ranks_in-ranks.ensures number c.requires.inside c.in-Some.ensures.some)),
       )),
     )

@@ -1,12 +1,10 @@
-use Rattle.std.proofs.Common.{◌≡◌, ◌∙◌, List, length, subst, sym, take, arith}
+use Rattle.std.proofs.Common.{◌≡◌, ◌∙◌, take, arith}
 use Rattle.std.proofs.lemmas.Grind.{common_steps}
 use Rattle.std.proofs.lemmas.List.{get_or_default}
 use Rattle.std.proofs.lemmas.List.Elements.{Contains-get_or}
-use Rattle.gm_name.specs.ModuleVersion.{module_at}
 use Rattle.gm_graph_select.specs.Graph.{among}
-use Rattle.gm_graph_select.specs.declared.searching.Visit.{Visit}
 use Rattle.gm_graph_select.specs.Private.Numbering.{steps_of}
-use Rattle.gm_graph_select.specs.Private.Searching.{IsFollowed, IsTraced, visit_at}
+use Rattle.gm_graph_select.specs.Private.Searching.{visit_at}
 use Rattle.gm_graph_select.proofs.BreadthFirst.{goal_found, level_begins, traced_more, visit_made}
 use Rattle.gm_graph_select.proofs.searching.Search.visit_level.Goals as goal
 
@@ -43,8 +41,7 @@ loop-visit-preserved c =
     let so = c.loop-visit.invariant in
     let (new, ends) = c.in_ok-visit.ensures.missed c.if-branch.false in
     record {
-      traced = λ w h. subst (λ (vs : List Visit). IsTraced (among c.args.graph.now.edges) (steps_of c.args.graph.now) vs
-          (length vs) w) (sym c.in_ok-visit.ensures.visits)
+      traced = λ w h. rw c.in_ok-visit.ensures.visits
           (traced_more (among c.args.graph.now.edges) (steps_of c.args.graph.now) c.loop-visit.self.visits.items v w (so.traced w h));
       followed = λ level h. visit_made c.requires.graph h i v (omega arith)
           (get_or_default due i (record { number = 0; before = 0 }) v (omega arith)) c.loop-visit.self c.visit.new.self
@@ -56,5 +53,4 @@ pub returns-clause-missed : goal.returns-clause-missed
 returns-clause-missed c = λ e level h.
     let graph = c.args.graph.now in
     let whole : take c.loop-visit.visit-index c.args.due.now ≡ c.args.due.now = grind (arith, common_steps) in
-    subst (λ (due : List Visit). IsFollowed graph (module_at graph.vertices c.args.goal) level c.args.self.now.is_found.items due c.loop-visit.self)
-    whole (c.loop-visit.invariant.followed level h)
+    rw⁻¹ whole (c.loop-visit.invariant.followed level h)
