@@ -25,13 +25,19 @@ edge_in_pieces a b c s p v is = rw (← is) (regroup a b c (codes " ") p (codes 
       ≡ line (a ++ (b ++ (c ++ (t ++ (p ++ (m ++ (v ++ [])))))))
   regroup a b c t p m v = simp (append_assoc, append-nil)
 
--- a module in three pieces and its replacement in four
-pub row_in_pieces : (a b c s w x y z r : List ℕ) → a ++ (b ++ c) ≡ s → w ++ (x ++ (y ++ z)) ≡ r
-    → line (s ++ r) ≡ line (a ++ (b ++ (c ++ (w ++ (x ++ (y ++ (z ++ [])))))))
-row_in_pieces a b c s w x y z r is right = rw (← is, ← right) (regroup a b c w x y z) where
-  regroup : (a b c w x y z : List ℕ) → line ((a ++ (b ++ c)) ++ (w ++ (x ++ (y ++ z))))
-      ≡ line (a ++ (b ++ (c ++ (w ++ (x ++ (y ++ (z ++ [])))))))
-  regroup a b c w x y z = simp (append_assoc, append-nil)
+-- a module in three pieces
+pub row_alone : (a b c s : List ℕ) → a ++ (b ++ c) ≡ s → line (s ++ []) ≡ line (a ++ (b ++ (c ++ [])))
+row_alone a b c s is = rw (← is) (regroup a b c) where
+  regroup : (a b c : List ℕ) → line ((a ++ (b ++ c)) ++ []) ≡ line (a ++ (b ++ (c ++ [])))
+  regroup a b c = simp (append_assoc, append-nil)
+
+-- and after it an arrow and its replacement in three pieces
+pub row_in_pieces : (a b c s m x y z r : List ℕ) → a ++ (b ++ c) ≡ s → x ++ (y ++ z) ≡ r
+    → line (s ++ (m ++ r)) ≡ line (a ++ (b ++ (c ++ (m ++ (x ++ (y ++ (z ++ [])))))))
+row_in_pieces a b c s m x y z r is right = rw (← is, ← right) (regroup a b c m x y z) where
+  regroup : (a b c m x y z : List ℕ) → line ((a ++ (b ++ c)) ++ (m ++ (x ++ (y ++ z))))
+      ≡ line (a ++ (b ++ (c ++ (m ++ (x ++ (y ++ (z ++ [])))))))
+  regroup a b c m x y z = simp (append_assoc, append-nil)
 
 -- the lines of rows, one after the other
 pub rows_text : (main : List ℕ) (rows : List (Row Right)) → list_text main (entries_of_rows rows) ≡ flat_map (row_line main) rows

@@ -2,10 +2,9 @@
 //! before the version, and the replacement follows.
 
 ghost use Rattle.std.specs.Prelude.{◌≡◌, ◌≤◌, ◌++◌, List, drop, length, take};
-ghost use Rattle.std.specs.Option.{option_map};
 ghost use Rattle.gm_file.specs.Views.{right_view};
 ghost use Rattle.gm_graph.specs.Entries.{Entry, entries_of_rows, entry_of_row};
-ghost use Rattle.gomod_texts.specs.ListQuery.{entry_line, up_to, list_text, module_text, replacement_suffix};
+ghost use Rattle.gomod_texts.specs.ListQuery.{entry_line, up_to, list_text, module_text, replacement_text};
 ghost use Rattle.gomod_texts.specs.Private.Giving.{IsGiven};
 ghost use Rattle.gomod_texts.specs.Taking.{Took};
 
@@ -26,20 +25,17 @@ fn module_pieces<'a>(main: &'a ModPath, step: &'a Step) -> (&'a str, &'a str, &'
     }
 }
 
-/// An arrow and the right side of a replacement, `FOLDER` or `PATH VERSION`, in four pieces. They are empty if there is
-/// none.
-fn right_pieces(right: &Option<Right>) -> (&str, &str, &str, &str)
-    ensures { result.0.now ++ (result.1.now ++ (result.2.now ++ result.3.now))
-        ≡ replacement_suffix (option_map right_view right.now) }
+/// The right side of a replacement, `FOLDER` or `PATH VERSION`, in three pieces.
+fn right_pieces(right: &Right) -> (&str, &str, &str)
+    ensures { result.0.now ++ (result.1.now ++ result.2.now) ≡ replacement_text (right_view right.now) }
 {
     match right {
-        None => ("", "", "", ""),
-        Some(Right::Folder(text)) => (" => ", text.as_str(), "", ""),
-        Some(Right::Module(path, version)) => (" => ", path.as_str(), " ", version.as_str()),
+        Right::Folder(text) => (text.as_str(), "", ""),
+        Right::Module(path, version) => (path.as_str(), " ", version.as_str()),
     }
 }
 
-/// Gives the line of a row.
+/// Gives the line of a row. Few rows have a replacement, and each piece costs time, even if it is empty.
 fn give_row<O: Sink>(
     buffer: &mut LineBuffer,
     sink: &mut O,
@@ -50,8 +46,13 @@ fn give_row<O: Sink>(
         (entry_line main.now (entry_of_row row.now)) result }
 {
     let (path, space, version) = module_pieces(main, &row.step);
-    let (arrow, other, gap, number) = right_pieces(&row.right);
-    buffer.give_line(sink, &[path, space, version, arrow, other, gap, number])
+    match &row.right {
+        None => buffer.give_line(sink, &[path, space, version]),
+        Some(right) => {
+            let (other, gap, number) = right_pieces(right);
+            buffer.give_line(sink, &[path, space, version, " => ", other, gap, number])
+        }
+    }
 }
 
 /// Writes the rows as `go list -m all` prints them (Go Modules Reference, "go list -m"): one per line, in the given

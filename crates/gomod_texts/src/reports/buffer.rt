@@ -40,6 +40,9 @@ impl LineBuffer {
 
     /// Gives a line: these pieces and then a line feed. If it fits the buffer, it reaches the sink in one write with
     /// all of its bytes.
+    ///
+    /// Where it is called, the number of pieces is known, so that their loops are unrolled.
+    #[inline(always)]
     pub(crate) fn give_line<R: Sink>(
         &mut self,
         sink: &mut R,
@@ -94,6 +97,7 @@ impl LineBuffer {
 
 /// Appends a line of these pieces, for which there must be room. No sink is looked at between two pieces, so that a
 /// line of many short ones takes little time.
+#[inline(always)]
 fn push_line(text: &mut ArrayString<ROOM>, pieces: &[&str])
     requires { length (text.old.bytes ++ line (flat_map (λ piece. piece.now) pieces.now)) ≤ 16384 }
     ensures { text.new.bytes ≡ text.old.bytes ++ line (flat_map (λ piece. piece.now) pieces.now) }
@@ -105,6 +109,7 @@ fn push_line(text: &mut ArrayString<ROOM>, pieces: &[&str])
 }
 
 /// How many bytes a line of these pieces has, with its line feed. Saturates.
+#[inline(always)]
 fn length_of(pieces: &[&str]) -> usize
     ensures { result ≡ min (length (line (flat_map (λ piece. piece.now) pieces.now))) (2 ^ 64 - 1) }
 {
