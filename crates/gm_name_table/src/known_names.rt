@@ -1,14 +1,12 @@
 //! Names that were read before, kept so that a duplicate is neither tested nor stored again.
 
-ghost use Rattle.std.specs.Prelude.{◌≡◌, ◌≤◌, ◌↔◌, IfOk, IfSome, IsErrOf, Ok};
+ghost use Rattle.std.specs.Prelude.{◌≡◌, ◌≤◌, IfSome, Ok};
 ghost use Rattle.gm_name.specs.Fingerprint.{fingerprint};
 ghost use Rattle.gm_name_table.specs.Kept.{IsWithinRoom, KeepsAll, none_kept};
 ghost use Rattle.gm_name_table.specs.KeptNames.{count_of};
-ghost use Rattle.gm_name.specs.Path.{IsPath};
 ghost use Rattle.gm_version.specs.Readings.{VersionReading};
 ghost use Rattle.gm_name.specs.Readings.{PathReading};
 ghost use Rattle.gm_name_table.specs.Pairs.{PairReading, pair_fault_of_path, pair_fault_of_version};
-ghost use Rattle.gm_version.specs.Version.{IsNotCanonical, IsSemVer, IsVersion};
 ghost use Rattle.gm_name_table.specs.declared.known_names.PairFault.TheVariants as pair;
 
 use crate::kept_names::KeptNames;

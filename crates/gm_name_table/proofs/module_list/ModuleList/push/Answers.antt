@@ -22,3 +22,10 @@ pub returns-clause-ok : goal.returns-clause-ok
 returns-clause-ok c =
     pushed c.number.new.self c.args.pair.now c.push.new.self.items c.in_ok-number.number c.self.view_is
     c.number.ensures.only c.self.invariant c.in_ok-number.ensures.number c.in_ok-push.ensures.items
+
+pub invariant_of-self-in_err-push : goal.invariant_of-self-in_err-push
+invariant_of-self-in_err-push c =
+    let inside = c.self.inside in
+    let table = c.number.new.self in
+    subst (AreModuleNumbers table) (sym c.in_err-push.ensures.items)
+    (still_numbers inside.table table inside.numbers.items (begins_as inside.table table c.args.pair.now c.number.ensures.only) c.self.invariant)

@@ -1,4 +1,6 @@
-use Rattle.std.proofs.Common.{◌≡◌, ◌∙◌, ◌++◌, ◌∷◌, [], Ok, ap, inr, refl, rules, subst, sym}
+use Rattle.std.proofs.Common.{◌≡◌, ◌∙◌, ◌++◌, ◌∷◌, [], Ok, ap, arith, inr, length, refl, subst, sym}
+use Rattle.std.proofs.lemmas.Bool.{false≢true}
+use Rattle.std.proofs.lemmas.List.{length_push}
 use Rattle.std.specs.Prelude.{slice_get}
 use Rattle.gm_name_table.specs.Index.{IsIndexOf}
 use Rattle.gm_name_table.proofs.Buckets.{last}
@@ -36,8 +38,23 @@ returns-clause-only c =
 
 pub invariant_of-self-2 : goal.invariant_of-self-2
 invariant_of-self-2 c =
-    let same = ap (λ pairs. pairs ++ c.args.pair.now ∷ [])
-    (c.deref-2.ensures.value ∙ c.in_ok-reserve.ensures.items) ∙ sym (grown c) in
-    let index = subst (IsIndexOf c.add.new.self) same c.in_ok-add.ensures.ok in
-    let is = grown c in
-    search (rules, index, is)
+    let same = ap (◌++ c.args.pair.now ∷ []) (c.deref-2.ensures.value ∙ c.in_ok-reserve.ensures.items) ∙ sym (grown c) in
+    let size = length_push c.self.inside.modules.items c.args.pair.now in
+    (subst (IsIndexOf c.add.new.self) same c.in_ok-add.ensures.ok, omega (arith, ap length (grown c), c.if-len.false))
+
+pub invariant_of-self-in_err-push : goal.invariant_of-self-in_err-push
+invariant_of-self-in_err-push c = absurd (false≢true (c.in_err-push.ensures.succeeds (omega (arith, c.in_ok-reserve.ensures.ok))))
+
+pub invariant_of-self-in_err-add : goal.invariant_of-self-in_err-add
+invariant_of-self-in_err-add c =
+    (subst (IsIndexOf c.add.new.self) c.deref-2.ensures.value c.in_err-add.ensures.err, rw c.in_ok-reserve.ensures.items c.self.invariant.1)
+
+pub invariant_of-self : goal.invariant_of-self
+invariant_of-self c = rw c.in_err-reserve.ensures.items c.self.invariant
+
+pub add-requires-clause-indexed : goal.add-requires-clause-indexed
+add-requires-clause-indexed c = rw (c.deref-2.ensures.value, c.in_ok-reserve.ensures.items) c.self.invariant.0
+
+pub add-requires-clause-absent : goal.add-requires-clause-absent
+add-requires-clause-absent c =
+    rw (c.deref-2.ensures.value, c.in_ok-reserve.ensures.items, ← c.deref.ensures.value) (c.find.ensures.none c.in_default.is)
