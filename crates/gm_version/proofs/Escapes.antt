@@ -1,16 +1,18 @@
 -- Escaped texts, byte by byte and character by character.
 use Rattle.std.proofs.Common.{◌≡◌, ◌≢◌, ◌==◌, not, length, take, drop, get_or, ◌⊎◌, ◌&&◌, ℕ, ◌+◌, ◌-◌, ◌↔◌, ◌<◌, ◌≤◌, ◌/◌, ◌%◌, Bool, true, false, List, [], ◌∷◌, ◌++◌, refl, sym, ap, ◌∙◌, inl, inr, arith, cond, append-nil, append_assoc}
-use Rattle.std.proofs.lemmas.Bool.{and_from, cases_Bool, cases_lt, eqb-true, le-ltb, lt-ltb, or_parts}
+use Rattle.std.proofs.lemmas.Bool.{and_from, cases_Bool, cases_lt, eqb-true, not-true, or_parts}
 use Rattle.std.proofs.lemmas.Bool.Decides.{nat_tests}
 use Rattle.std.proofs.lemmas.Grind.{flat_map-append}
-use Rattle.std.proofs.lemmas.Str.{char_from_byte, encode_ascii, encodes-append, encodes-chars}
+use Rattle.std.proofs.lemmas.Str.{char_from_byte, encode_ascii, encodes-append, encodes-chars, inside_one}
 use Rattle.std.proofs.lemmas.List.{map-id, take-append-drop, take_more}
-use Rattle.std.proofs.lemmas.List.Folds.{list_all-append}
+use Rattle.std.proofs.lemmas.List.Elements.{All-from_get_or}
+use Rattle.std.proofs.lemmas.List.Folds.{list_all-append, list_any_none}
+use Rattle.std.proofs.lemmas.List.Sums.{list_all-from_AllPass}
 use Rattle.std.specs.Cmp.{first_so, second_so}
 use Rattle.std.specs.Str.{IsUtf8, chars}
 use Rattle.std.specs.Prelude.{encode_utf8_all, map}
 use Rattle.std.specs.Char.{encode_utf8, is_ascii_lowercase, is_ascii_uppercase}
-use Rattle.std.specs.List.{list_all, list_any}
+use Rattle.std.specs.List.{All, list_all, list_any}
 use Rattle.gm_version.specs.Escape.{AppendsBeginning, escaped_text, escaped_byte, has_no_bang, is_escaped, IsUnescaped}
 use Rattle.gm_version.specs.Private.Texts.{escaped_char, read_so_far}
 
@@ -18,51 +20,32 @@ use Rattle.gm_version.specs.Private.Texts.{escaped_char, read_so_far}
 high : (b : ℕ) → 128 ≤ b → is_ascii_uppercase b ≡ false
 high b le = grind (arith, nat_tests)
 
--- a byte outside ASCII is escaped as itself
-escaped_byte-above_ascii : (b : ℕ) → 128 ≤ b → escaped_byte b ≡ b ∷ []
-escaped_byte-above_ascii b le = rw (high b le) refl
+-- the bytes of a character outside ASCII are outside ASCII
+encode-high : (c : ℕ) → 128 ≤ c → All (λ b. 128 ≤ b) (encode_utf8 c)
+encode-high c more = All-from_get_or (λ b. 128 ≤ b) (encode_utf8 c) 0 (λ k lt. elim (cases_lt (get_or (encode_utf8 c) k 0) 128) [
+  | inl low ↦ absurd (omega (arith, inside_one c [] (encode_utf8 c) k (sym (append-nil (encode_utf8 c))) lt low))
+  | inr past ↦ past
+])
 
 -- an ASCII byte, with nothing after it
 alone : (c : ℕ) (test : Bool) → is_ascii_uppercase c ≡ test → escaped_byte c ++ [] ≡ cond test (33 ∷ (c + 32) ∷ []) (c ∷ [])
 alone c true e = rw e refl
 alone c false e = rw e refl
 
+-- a text without upper-case letters is its own escaped form
+pub escaped-lower : (text : List ℕ) → list_any is_ascii_uppercase text ≡ false → escaped_text text ≡ text
+escaped-lower [] none = refl
+escaped-lower (b ∷ text) none =
+    let e = or_parts (is_ascii_uppercase b) (list_any is_ascii_uppercase text) none in
+    rw e.0 (ap (b ∷◌) (escaped-lower text e.1))
+
 -- escaping the bytes of a character escapes the character
 pub escaped-encode : (c : ℕ) → escaped_text (encode_utf8 c) ≡ escaped_char c
-unfolding encode_utf8
 escaped-encode c = elim (cases_lt c 128) [
-  | inl one ↦ rw (lt-ltb c 128 one) (alone c (is_ascii_uppercase c) refl)
-  | inr more ↦ elim (cases_lt c 2048) [
-    | inl two ↦ rw (
-      le-ltb c 128 more,
-      lt-ltb c 2048 two,
-      high c more,
-      escaped_byte-above_ascii (192 + c / 64) (omega arith),
-      escaped_byte-above_ascii (128 + c % 64) (omega arith),
-    )
-        refl
-    | inr more2 ↦ elim (cases_lt c 65536) [
-      | inl three ↦ rw (
-        le-ltb c 128 more,
-        le-ltb c 2048 more2,
-        lt-ltb c 65536 three,
-        high c more,
-        escaped_byte-above_ascii (224 + c / 4096) (omega arith),
-        escaped_byte-above_ascii (128 + c / 64 % 64) (omega arith),
-        escaped_byte-above_ascii (128 + c % 64) (omega arith),
-      ) refl
-      | inr four ↦ rw (
-        le-ltb c 128 more,
-        le-ltb c 2048 more2,
-        le-ltb c 65536 four,
-        high c more,
-        escaped_byte-above_ascii (240 + c / 262144) (omega arith),
-        escaped_byte-above_ascii (128 + c / 4096 % 64) (omega arith),
-        escaped_byte-above_ascii (128 + c / 64 % 64) (omega arith),
-        escaped_byte-above_ascii (128 + c % 64) (omega arith),
-      ) refl
-    ]
-  ]
+  | inl one ↦ rw (encode_ascii c one) (alone c (is_ascii_uppercase c) refl)
+  | inr more ↦
+      let none = list_any_none is_ascii_uppercase (encode_utf8 c) (λ k d lt. high _ (encode-high c more k d lt)) in
+      escaped-lower (encode_utf8 c) none ∙ rw (high c more) refl
 ]
 
 -- one character more
@@ -88,13 +71,6 @@ pub escaped-whole : (front name text cs : List ℕ) → map (λ x. x) cs ≡ cha
 escaped-whole front name text cs all utf8 so_far =
     let same : cs ≡ chars text = sym (map-id cs) ∙ all in
     so_far ∙ ap (λ t. front ++ escaped_text t) (ap encode_utf8_all same ∙ encodes-chars text utf8)
-
--- a text without upper-case letters is its own escaped form
-pub escaped-lower : (text : List ℕ) → list_any is_ascii_uppercase text ≡ false → escaped_text text ≡ text
-escaped-lower [] none = refl
-escaped-lower (b ∷ text) none =
-    let e = or_parts (is_ascii_uppercase b) (list_any is_ascii_uppercase text) none in
-    rw e.0 (ap (b ∷◌) (escaped-lower text e.1))
 
 -- the mark of an upper-case letter is a beginning of its escaped form
 pub mark-begins : (old marked new : List ℕ) (c : ℕ) → is_ascii_uppercase c ≡ true → marked ≡ old ++ encode_utf8 33 → new ≡ marked
@@ -132,6 +108,9 @@ upper-piece b e = rw e refl
 other-piece : (b : ℕ) → is_ascii_uppercase b ≡ false → escaped_byte b ≡ b ∷ []
 other-piece b e = rw e refl
 
+no-piece : (b : ℕ) (x : List ℕ) → escaped_byte b ++ x ≢ []
+no-piece b x e = elim (cases_Bool (is_ascii_uppercase b)) [ inl ub ↦ cc (rw (upper-piece b ub) at e) | inr ub ↦ cc (rw (other-piece b ub) at e) ]
+
 -- if the pieces of two bytes begin the same escaped text, the bytes are equal, and so are the rests
 piece-same : (a b : ℕ) (x y : List ℕ) → a ≢ 33 → b ≢ 33 → escaped_byte a ++ x ≡ escaped_byte b ++ y → (a ≡ b) × (x ≡ y)
 piece-same a b x y na nb e = elim (cases_Bool (is_ascii_uppercase a)) [
@@ -154,10 +133,8 @@ piece-same a b x y na nb e = elim (cases_Bool (is_ascii_uppercase a)) [
 pub escaped-rest : (t u rest : List ℕ) → has_no_bang t ≡ true → has_no_bang u ≡ true → escaped_text t ++ rest ≡ escaped_text u
     → (more : List ℕ) × (has_no_bang more ≡ true) × (rest ≡ escaped_text more)
 escaped-rest [] u rest ht hu e = (u, hu, e)
-escaped-rest (a ∷ t) [] rest ht hu e = elim (cases_Bool (is_ascii_uppercase a)) [
-  | inl ua ↦ let f = rw (upper-piece a ua) at e in cc f
-  | inr ua ↦ let f = rw (other-piece a ua) at e in cc f
-]
+escaped-rest (a ∷ t) [] rest ht hu e =
+    absurd (no-piece a (escaped_text t ++ rest) (sym (append_assoc (escaped_byte a) (escaped_text t) rest) ∙ e))
 escaped-rest (a ∷ t) (b ∷ u) rest ht hu e =
     let same = piece-same a b (escaped_text t ++ rest) (escaped_text u) (bang-head a t ht) (bang-head b u hu)
     (sym (append_assoc (escaped_byte a) (escaped_text t) rest) ∙ e) in
@@ -231,31 +208,9 @@ no_bang_high b le = grind (arith, nat_tests)
 
 -- the bytes of any other character have no '!'
 no_bang-encode : (c : ℕ) → c ≢ 33 → has_no_bang (encode_utf8 c) ≡ true
-unfolding encode_utf8
 no_bang-encode c apart = elim (cases_lt c 128) [
-  | inl one ↦ rw (lt-ltb c 128 one) (grind (arith, nat_tests))
-  | inr more ↦ elim (cases_lt c 2048) [
-    | inl two ↦ rw (le-ltb c 128 more, lt-ltb c 2048 two, no_bang_high (192 + c / 64) (omega arith), no_bang_high (128 + c % 64) (omega arith)) refl
-    | inr more2 ↦ elim (cases_lt c 65536) [
-      | inl three ↦ rw (
-        le-ltb c 128 more,
-        le-ltb c 2048 more2,
-        lt-ltb c 65536 three,
-        no_bang_high (224 + c / 4096) (omega arith),
-        no_bang_high (128 + c / 64 % 64) (omega arith),
-        no_bang_high (128 + c % 64) (omega arith),
-      ) refl
-      | inr four ↦ rw (
-        le-ltb c 128 more,
-        le-ltb c 2048 more2,
-        le-ltb c 65536 four,
-        no_bang_high (240 + c / 262144) (omega arith),
-        no_bang_high (128 + c / 4096 % 64) (omega arith),
-        no_bang_high (128 + c / 64 % 64) (omega arith),
-        no_bang_high (128 + c % 64) (omega arith),
-      ) refl
-    ]
-  ]
+  | inl one ↦ rw (encode_ascii c one) (grind (arith, nat_tests))
+  | inr more ↦ list_all-from_AllPass (λ b. not (b == 33)) (encode_utf8 c) (λ k d lt. no_bang_high _ (encode-high c more k d lt))
 ]
 
 pub no_bang-push : (old new : List ℕ) (c : ℕ) → c ≢ 33 → new ≡ old ++ encode_utf8 c → has_no_bang old ≡ true → has_no_bang new ≡ true
@@ -279,14 +234,8 @@ name-split name cs c utf8 front inside at =
 -- two texts without '!' that have the same escaped form are equal
 pub escaped-injective : (t u : List ℕ) → has_no_bang t ≡ true → has_no_bang u ≡ true → escaped_text t ≡ escaped_text u → t ≡ u
 escaped-injective [] [] ht hu e = refl
-escaped-injective [] (b ∷ u) ht hu e = elim (cases_Bool (is_ascii_uppercase b)) [
-  | inl ub ↦ let f = rw (upper-piece b ub) at e in cc f
-  | inr ub ↦ let f = rw (other-piece b ub) at e in cc f
-]
-escaped-injective (a ∷ t) [] ht hu e = elim (cases_Bool (is_ascii_uppercase a)) [
-  | inl ua ↦ let f = rw (upper-piece a ua) at e in cc f
-  | inr ua ↦ let f = rw (other-piece a ua) at e in cc f
-]
+escaped-injective [] (b ∷ u) ht hu e = absurd (no-piece b (escaped_text u) (sym e))
+escaped-injective (a ∷ t) [] ht hu e = absurd (no-piece a (escaped_text t) e)
 escaped-injective (a ∷ t) (b ∷ u) ht hu e =
     let same = piece-same a b (escaped_text t) (escaped_text u) (bang-head a t ht) (bang-head b u hu) e in
     let rest = escaped-injective t u (bang-tail a t ht) (bang-tail b u hu) same.1 in
@@ -309,9 +258,6 @@ plain-cons : (b : ℕ) (rest : List ℕ) → (b == 33) ≡ false → is_ascii_up
 plain-cons b [] mark small h = rw (mark, small) refl
 plain-cons b (c ∷ rest) mark small h = rw (mark, small) h
 
-not_bang : (b : ℕ) → not (b == 33) ≡ true → (b == 33) ≡ false
-not_bang b h = grind (arith, nat_tests)
-
 -- an escaped text is made of pieces
 pieces-escaped : (t : List ℕ) → has_no_bang t ≡ true → is_escaped (escaped_text t) ≡ true
 pieces-escaped [] h = refl
@@ -319,7 +265,7 @@ pieces-escaped (b ∷ t) h = elim (cases_Bool (is_ascii_uppercase b)) [
   | inl ub ↦
       let lower : is_ascii_lowercase (b + 32) ≡ true = grind (arith, nat_tests) in
       rw (upper-piece b ub, lower) (pieces-escaped t (second_so _ _ h))
-  | inr ub ↦ rw (other-piece b ub) (plain-cons b (escaped_text t) (not_bang b (first_so _ _ h)) ub (pieces-escaped t (second_so _ _ h)))
+  | inr ub ↦ rw (other-piece b ub) (plain-cons b (escaped_text t) (not-true _ (first_so _ _ h)) ub (pieces-escaped t (second_so _ _ h)))
 ]
 
 -- one piece more
@@ -337,17 +283,10 @@ other-from : (b : ℕ) (rest : List ℕ) → (b == 33) ≡ false → is_ascii_up
 other-from b rest mark small from =
     (b ∷ from.0, (rw mark from.1.0, rw (other-piece b small) (ap (b ∷◌) from.1.1)))
 
-not_upper : (b : ℕ) → not (is_ascii_uppercase b) ≡ true → is_ascii_uppercase b ≡ false
-not_upper b h = by (is_ascii_uppercase b) h
-  where
-    by : (t : Bool) → not t ≡ true → t ≡ false
-    by true e = cc e
-    by false e = refl
-
 -- a text made of pieces is escaped
 escaped-pieces : (name : List ℕ) → is_escaped name ≡ true → (text : List ℕ) × IsUnescaped text name
 escaped-pieces [] h = ([], (refl, refl))
-escaped-pieces (b ∷ []) h = other-from b [] (not_bang b (first_so _ _ h)) (not_upper b (second_so _ _ h)) ([], (refl, refl))
+escaped-pieces (b ∷ []) h = other-from b [] (not-true _ (first_so _ _ h)) (not-true _ (second_so _ _ h)) ([], (refl, refl))
 escaped-pieces (b ∷ c ∷ rest) h = elim (cases_Bool (b == 33)) [
   | inl mark ↦
       let both : (is_ascii_lowercase c && is_escaped rest) ≡ true = rw mark at h in
@@ -355,7 +294,7 @@ escaped-pieces (b ∷ c ∷ rest) h = elim (cases_Bool (b == 33)) [
       rw (eqb-true b 33 mark) found
   | inr other ↦
       let both : (not (is_ascii_uppercase b) && is_escaped (c ∷ rest)) ≡ true = rw other at h in
-      other-from b (c ∷ rest) other (not_upper b (first_so _ _ both)) (escaped-pieces (c ∷ rest) (second_so _ _ both))
+      other-from b (c ∷ rest) other (not-true _ (first_so _ _ both)) (escaped-pieces (c ∷ rest) (second_so _ _ both))
 ]
 
 pub pieces : (name : List ℕ) → is_escaped name ≡ true ↔ ((text : List ℕ) × IsUnescaped text name)

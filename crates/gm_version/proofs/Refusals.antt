@@ -1,5 +1,6 @@
 -- When SemVer's parser refuses a text that is not a version, the error is never the one for memory.
-use Rattle.std.proofs.Common.{◌≡◌, ◌==◌, ℕ, ◌^◌, Bool, true, false, List, [], ◌∷◌, cond, Result, Ok, Err, refl, sym}
+use Rattle.std.proofs.Common.{◌≡◌, ◌==◌, ℕ, ◌^◌, Bool, true, false, List, [], ◌∷◌, cond, Result, Ok, Err, refl, sym, ap, ◌∙◌}
+use Rattle.std.proofs.lemmas.Bool.{false≢true}
 use Rattle.std.specs.Prelude.{⊤, ◌*◌, ◌+◌, ◌-◌, length, nat_le, nat_lt}
 use Rattle.std.specs.Char.{is_ascii_digit}
 use Rattle.semver.specs.Parse.{IsRefused, Parts, digits_end, digits_from, dot_of, end_error, identifier_len, identifier_of, is_bad_zero, is_leading_zero, is_letter, is_memory, memory_error, numeric, part_end, scan, starts_zero, tail_build, tail_end, tail_pre, version_parts, ◌>>=◌}
@@ -94,7 +95,7 @@ refused-by text rest (Ok parts) e v read of_text refused memory =
     (parts, found.0, found.1)
 refused-by text rest (Err f) e v read of_text refused memory =
     let same : f ≡ e = cc (sym refused) in
-    cc (of_text, same, memory)
+    absurd (false≢true (sym of_text ∙ ap (λ (one : Error). is_memory one.kind) (same ∙ memory)))
 
 -- if the parser reports that memory ran out, the text is a version
 pub memory-version : (text rest : List ℕ) (e : Error) → text ≡ 118 ∷ rest

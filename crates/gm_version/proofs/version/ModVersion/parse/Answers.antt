@@ -1,4 +1,5 @@
-use Rattle.std.proofs.Common.{◌≡◌, None, Some, Ok, Err, inl, inr, lit<, drop}
+use Rattle.std.proofs.Common.{◌≡◌, ◌∙◌, None, Some, Ok, Err, inl, inr, lit<, drop, sym}
+use Rattle.std.proofs.lemmas.Bool.{false≢true}
 use Rattle.std.proofs.lemmas.Result.{err_from_is_err_and}
 use Rattle.std.proofs.lemmas.Str.Pattern.{strip_prefix_char}
 use Rattle.semver.specs.Identifiers.{parts_of}
@@ -16,7 +17,7 @@ returns-in_default c =
 pub returns-then-not-has_plain_build : goal.returns-then-not-has_plain_build
 returns-then-not-has_plain_build c =
     let v = strip_prefix_char 118 c.args.text.now (Some c.in-Some.rest) c.in-Some.ensures.cases (lit< tt) in
-    let built : ¬ (HasPlainBuild (parts_of c.in-Ok.read)) = λ plain. cc (c.has_plain_build.ensures.1 plain, c.if-not-has_plain_build.true) in
+    let built : ¬ (HasPlainBuild (parts_of c.in-Ok.read)) = λ plain. false≢true (sym c.if-not-has_plain_build.true ∙ c.has_plain_build.ensures.1 plain) in
     version-built c.args.text.now c.in-Some.rest.now (parts_of c.in-Ok.read) v c.in-Ok.ensures.ok built
 
 pub invariant_of-result : goal.invariant_of-result
@@ -38,7 +39,7 @@ pub returns-then-is_short : goal.returns-then-is_short
 returns-then-is_short c =
     let v = strip_prefix_char 118 c.args.text.now (Some c.in-Some.rest) c.in-Some.ensures.cases (lit< tt) in
     let unread : version_parts c.in-Some.rest.now ≡ Err c.in-Err.error = elim c.in-Err.ensures.err [
-      | inl memory ↦ cc (c.is_out_of_memory.ensures.1 memory, c.if-is_out_of_memory.false)
+      | inl memory ↦ absurd (false≢true (sym c.if-is_out_of_memory.false ∙ c.is_out_of_memory.ensures.1 memory))
       | inr grammar ↦ grammar
     ] in
     let none = version-none c.args.text.now c.in-Some.rest.now c.in-Err.error v unread in
@@ -48,11 +49,11 @@ pub returns-else-is_short : goal.returns-else-is_short
 returns-else-is_short c =
     let v = strip_prefix_char 118 c.args.text.now (Some c.in-Some.rest) c.in-Some.ensures.cases (lit< tt) in
     let unread : version_parts c.in-Some.rest.now ≡ Err c.in-Err.error = elim c.in-Err.ensures.err [
-      | inl memory ↦ cc (c.is_out_of_memory.ensures.1 memory, c.if-is_out_of_memory.false)
+      | inl memory ↦ absurd (false≢true (sym c.if-is_out_of_memory.false ∙ c.is_out_of_memory.ensures.1 memory))
       | inr grammar ↦ grammar
     ] in
     let none = version-none c.args.text.now c.in-Some.rest.now c.in-Err.error v unread in
-    (none.0, λ other. cc (c.is_short.ensures.1 (rw v at (none.1 other)), c.if-is_short.false))
+    (none.0, λ other. false≢true (sym c.if-is_short.false ∙ c.is_short.ensures.1 (rw v at (none.1 other))))
 
 pub returns-in_err-shared_of_text-in-Ok : goal.returns-in_err-shared_of_text-in-Ok
 returns-in_err-shared_of_text-in-Ok c =
