@@ -27,9 +27,9 @@ from_piece n line rest words after_bare (piece.Word kind m) le p e later =
     later (drop m rest) _ (is_bare kind) (omega (
       arith,
       length-drop m rest,
-      word_positive p kind m e,
-      word_in_range p kind m e,
-    )) (progress_word p kind m e)
+      word_positive p e,
+      word_in_range p e,
+    )) (progress_word p e)
 from_piece n line rest words after_bare (piece.Fault kind) le p e later = record { words = words; ending = Fault kind; only = progress_fault p kind e }
 
 -- since the rest of the line has only one reading, so has the line

@@ -81,11 +81,11 @@ plain_begins_word text t (b, more, e, plain) =
 pub plain_word_bare : (text : List ℕ) → BeginsPlain text → IsBare (take (bare_len text) text)
 plain_word_bare text begins =
     let shaped =
-    word_shaped (progress_start text) Bare (bare_len text) (plain_begins_word text false begins) in
+    word_shaped (progress_start text) (plain_begins_word text false begins) in
     shaped.1.0
 
 pub plain_word_end : (text : List ℕ) → IsUtf8 text → BeginsPlain text → IsCharBoundary text (bare_len text)
-plain_word_end text utf8 begins = word_boundary (progress_start text) utf8 Bare (bare_len text) (plain_begins_word text false begins)
+plain_word_end text utf8 begins = word_boundary (progress_start text) utf8 (plain_begins_word text false begins)
 
 -- ---- the line
 
@@ -112,7 +112,7 @@ sofar_word {line} {words} {text} {rest} word (t, p) piece (blanks, are, parts) =
     let past : Progress line (words ++ bare_word word ∷ []) true after =
     rw (← front)
     (rw (← back)
-    (progress_word p Bare (length word) (piece t))) in
+    (progress_word p (piece t))) in
     sofar_blanks (true, past) (blanks, are, refl)
 
 -- the first word, with blanks before it
@@ -134,7 +134,7 @@ sofar_mark : {line : List ℕ} {words : List Word} {text : List ℕ} {byte : ℕ
     → is_bracket_or_comma byte ≡ true → text ≡ byte ∷ rest → Sofar line (words ++ mark byte ∷ []) rest
 sofar_mark {line} {words} {byte} {rest} (t, p) bracket parts =
     let here : Progress line words t (byte ∷ rest) = rw (← parts) p in
-    (false, progress_word here Mark 1 (piece_bracket t byte rest bracket))
+    (false, progress_word here (piece_bracket t byte rest bracket))
 
 -- the line ends after these words
 pub sofar_end : {line : List ℕ} {words : List Word} {rest : List ℕ} → Sofar line words rest → (rest ≡ []) ⊎ ((more : List ℕ) × (rest ≡ 47 ∷ 47 ∷ more))

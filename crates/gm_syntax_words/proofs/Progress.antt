@@ -75,15 +75,17 @@ module _ {line : List ℕ} {words : List Word} {after_bare : Bool} {rest : List 
     back = λ all e r. goes_on piece.Blank same all e r;
   }
 
-  pub progress_word : (kind : Kind) (n : ℕ) → piece_of after_bare rest ≡ piece.Word kind n
+  word_facts : {kind : Kind} {n : ℕ} → piece_of after_bare rest ≡ piece.Word kind n → WordFacts kind n p.before rest
+  word_facts {kind} {n} same = facts_of (piece.Word kind n) same
+
+  pub progress_word : {kind : Kind} {n : ℕ} → piece_of after_bare rest ≡ piece.Word kind n
       → Progress line (words ++ make_word kind (take n rest) ∷ []) (is_bare kind) (drop n rest)
-  progress_word kind n same =
-      let f : WordFacts kind n p.before rest = facts_of (piece.Word kind n) same in
+  progress_word {kind} {n} same =
       let w : Word = make_word kind (take n rest) in
       record {
         before = Some w;
         tracks = tracks_kind kind (take n rest);
-        stops = stops_at f;
+        stops = stops_at (word_facts same);
         there = λ more e r. rw (append_assoc words (w ∷ []) more)
             (comes_from (piece.Word kind n) same (w ∷ more) e (more, refl, r));
         back = λ all e r. let g = goes_on (piece.Word kind n) same all e r in
@@ -103,25 +105,25 @@ module _ {line : List ℕ} {words : List Word} {after_bare : Bool} {rest : List 
           (rw past f.stops)
 
   -- a word is not empty, and its end is a character boundary
-  pub word_positive : (kind : Kind) (n : ℕ) → piece_of after_bare rest ≡ piece.Word kind n → 0 < n
-  word_positive kind n same = let f : WordFacts kind n p.before rest = facts_of (piece.Word kind n) same in f.positive
+  pub word_positive : {kind : Kind} {n : ℕ} → piece_of after_bare rest ≡ piece.Word kind n → 0 < n
+  word_positive same = (word_facts same).positive
 
   -- a word has a shape of its kind
-  pub word_shaped : (kind : Kind) (n : ℕ) → piece_of after_bare rest ≡ piece.Word kind n → IsShaped (make_word kind (take n rest))
-  word_shaped kind n same =
-      let f : WordFacts kind n p.before rest = facts_of (piece.Word kind n) same in
+  pub word_shaped : {kind : Kind} {n : ℕ} → piece_of after_bare rest ≡ piece.Word kind n → IsShaped (make_word kind (take n rest))
+  word_shaped {n} same =
+      let f = word_facts same in
       let at : take n rest ≡ f.text = ap (take n) f.parts ∙ take_at f.text f.after n (sym f.len) in
       rw at f.shape
 
-  pub word_in_range : (kind : Kind) (n : ℕ) → piece_of after_bare rest ≡ piece.Word kind n → n ≤ length rest
-  word_in_range kind n same =
-      let f : WordFacts kind n p.before rest = facts_of (piece.Word kind n) same in
+  pub word_in_range : {kind : Kind} {n : ℕ} → piece_of after_bare rest ≡ piece.Word kind n → n ≤ length rest
+  word_in_range same =
+      let f = word_facts same in
       omega (arith, f.len, ap length f.parts, length-append f.text f.after)
 
-  pub word_boundary : IsUtf8 rest → (kind : Kind) (n : ℕ) → piece_of after_bare rest ≡ piece.Word kind n → IsCharBoundary rest n
-  word_boundary utf8 kind n same =
-      let f : WordFacts kind n p.before rest = facts_of (piece.Word kind n) same in
-      let le = word_in_range kind n same in
+  pub word_boundary : {kind : Kind} {n : ℕ} → IsUtf8 rest → piece_of after_bare rest ≡ piece.Word kind n → IsCharBoundary rest n
+  word_boundary {n} utf8 same =
+      let f = word_facts same in
+      let le = word_in_range same in
       elim f.ascii_beside [
         | inl ascii ↦ elim (cases_lt n (length rest)) [
           | inl lt ↦ (beside_ascii rest n utf8 lt ascii).0

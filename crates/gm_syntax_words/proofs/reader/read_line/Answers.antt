@@ -52,30 +52,27 @@ pieces-preserved-in-Blank c =
     let back = c.split_at-in-Blank.ensures.back in
     let positive : 1 ≤ length c.pieces.rest.now = (blank_boundary c.pieces.invariant.progress c.pieces.invariant.utf8 same).1 in
     record {
-      utf8 = rw back (cut c.pieces.rest.now 1 c.pieces.invariant.utf8 (blank_boundary c.pieces.invariant.progress c.pieces.invariant.utf8 same).0).1;
+      utf8 = rw back (cut _ 1 c.pieces.invariant.utf8 (blank_boundary c.pieces.invariant.progress c.pieces.invariant.utf8 same).0).1;
       progress = rw back (progress_blank c.pieces.invariant.progress same);
       in_range = omega (arith, ap length back, length-drop 1 c.pieces.rest.now, c.pieces.invariant.in_range);
-      suffix = rw back (suffix_more c.args.line.now c.pieces.rest.now 1 c.pieces.invariant.in_range positive c.pieces.invariant.suffix);
-      placed = λ source after whole. stand_widen source c.args.first
-          (c.args.first + (length c.args.line.now - length c.pieces.rest.now))
-          (c.args.first + (length c.args.line.now - length c.split_at-in-Blank.result.1.now)) c.pieces.words.items
+      suffix = rw back (suffix_more _ _ 1 c.pieces.invariant.in_range positive c.pieces.invariant.suffix);
+      placed = λ source after whole. stand_widen _ _ _ _ c.pieces.words.items
           (omega (arith, ap length back, length-drop 1 c.pieces.rest.now))
           (c.pieces.invariant.placed source after whole);
       numbered = c.pieces.invariant.numbered;
-      filled = rw back (fills_blank c.args.first c.args.line.now c.pieces.words.items c.pieces.rest.now
-          c.pieces.invariant.in_range c.pieces.invariant.filled (blank_begins c.pieces.invariant.progress same));
+      filled = rw back (fills_blank _ _ _ _ c.pieces.invariant.in_range c.pieces.invariant.filled (blank_begins c.pieces.invariant.progress same));
     }
 
 pub split_at-requires-in-Word : goal.split_at-requires-in-Word
-split_at-requires-in-Word c = word_boundary c.pieces.invariant.progress c.pieces.invariant.utf8 c.in-Word.kind
-    c.in-Word.len (rw (← c.as_bytes.ensures.value) (sym c.in-Word.ensures))
+split_at-requires-in-Word c = word_boundary c.pieces.invariant.progress {kind = c.in-Word.kind} c.pieces.invariant.utf8
+    (rw (← c.as_bytes.ensures.value) (sym c.in-Word.ensures))
 
 pub in_source-requires : goal.in_source-requires
 in_source-requires c =
     let same : piece_of c.pieces.after_bare c.pieces.rest.now ≡ piece.Word c.in-Word.kind c.in-Word.len =
     rw (← c.as_bytes.ensures.value) (sym c.in-Word.ensures) in
     rw c.split_at-in-Word.ensures.front
-    (word_shaped c.pieces.invariant.progress c.in-Word.kind c.in-Word.len same)
+    (word_shaped c.pieces.invariant.progress same)
 
 pub pieces-smaller : goal.pieces-smaller
 pieces-smaller c =
@@ -85,8 +82,8 @@ pieces-smaller c =
       arith,
       ap length c.split_at-in-Word.ensures.back,
       length-drop c.in-Word.len c.pieces.rest.now,
-      word_positive c.pieces.invariant.progress c.in-Word.kind c.in-Word.len same,
-      word_in_range c.pieces.invariant.progress c.in-Word.kind c.in-Word.len same,
+      word_positive c.pieces.invariant.progress same,
+      word_in_range c.pieces.invariant.progress same,
     )
 
 pub pieces-preserved : goal.pieces-preserved
@@ -94,7 +91,7 @@ pieces-preserved c =
     let same : piece_of c.pieces.after_bare c.pieces.rest.now ≡ piece.Word c.in-Word.kind c.in-Word.len =
     rw (← c.as_bytes.ensures.value) (sym c.in-Word.ensures) in
     let back = c.split_at-in-Word.ensures.back in
-    let fits = word_in_range c.pieces.invariant.progress c.in-Word.kind c.in-Word.len same in
+    let fits = word_in_range c.pieces.invariant.progress same in
     let pushed : words_of c.push_word.new.words.items ≡ words_of c.pieces.words.items
     ++ (c.in_source.result.word ∷ []) = rw c.in_ok-push_word-in-Word.ensures (map_push _ c.pieces.words.items c.in_source.result) in
     let word : c.in_source.result.word ≡ make_word c.in-Word.kind (take c.in-Word.len c.pieces.rest.now) =
@@ -104,15 +101,15 @@ pieces-preserved c =
     let span : c.in_source.result.span ≡ span_of_length at c.in-Word.len =
     rw c.in_source.ensures (ap (span_of_length at) c.split_at-in-Word.ensures.front_len) in
     record {
-      utf8 = rw back (cut c.pieces.rest.now c.in-Word.len c.pieces.invariant.utf8
-          (word_boundary c.pieces.invariant.progress c.pieces.invariant.utf8 c.in-Word.kind c.in-Word.len same)).1;
+      utf8 = rw back (cut _ c.in-Word.len c.pieces.invariant.utf8
+          (word_boundary c.pieces.invariant.progress c.pieces.invariant.utf8 same)).1;
       progress = rw (pushed ∙ ap (λ (w : Word). words_of c.pieces.words.items ++ w ∷ [])
           word)
           (rw back
           (rw c.is_bare-after_bare.ensures
-          (progress_word c.pieces.invariant.progress c.in-Word.kind c.in-Word.len same)));
+          (progress_word c.pieces.invariant.progress same)));
       in_range = omega (arith, ap length back, length-drop c.in-Word.len c.pieces.rest.now, c.pieces.invariant.in_range);
-      suffix = rw back (suffix_more c.args.line.now c.pieces.rest.now c.in-Word.len c.pieces.invariant.in_range fits c.pieces.invariant.suffix);
+      suffix = rw back (suffix_more _ _ c.in-Word.len c.pieces.invariant.in_range fits c.pieces.invariant.suffix);
       placed = λ source after whole.
           rw c.in_ok-push_word-in-Word.ensures
           (subst (λ (k : ℕ). AreSlicesBetween source c.args.first (c.args.first + k)
@@ -124,37 +121,32 @@ pieces-preserved c =
             fits,
             c.pieces.invariant.in_range,
           ))
-          (stand_push source c.args.line.now after c.pieces.rest.now c.args.first
-          (length c.args.line.now - length c.pieces.rest.now) c.in-Word.len c.pieces.words.items c.in_source.result
-          whole c.pieces.invariant.suffix (omega arith) fits (c.pieces.invariant.placed source after whole)
+          (stand_push _ _ _ _ _ _ _ _ _ whole c.pieces.invariant.suffix (omega arith) fits (c.pieces.invariant.placed source after whole)
           (rw c.in_source.ensures
           (ap (span_of_length (c.args.first + (length c.args.line.now - length c.pieces.rest.now))) c.split_at-in-Word.ensures.front_len))
           (ap (λ w. w.spelling) word)));
       numbered = rw c.in_ok-push_word-in-Word.ensures
-          (all_together _ c.pieces.words.items (c.in_source.result ∷ []) c.pieces.invariant.numbered
+          (all_together _ _ _ c.pieces.invariant.numbered
           (ap (λ t. t.line) c.in_source.ensures, tt));
       filled = rw c.in_ok-push_word-in-Word.ensures
           (rw back
-          (fills_word c.args.first c.args.line.now c.pieces.words.items c.pieces.rest.now c.pieces.invariant.in_range
+          (fills_word _ _ _ _ c.pieces.invariant.in_range
           c.pieces.invariant.filled c.in-Word.len c.in_source.result fits span spelling
           (sym (ap length spelling ∙ length-take-le c.in-Word.len c.pieces.rest.now fits))));
     }
 
 pub returns-in-End-clause-placed : goal.returns-in-End-clause-placed
 returns-in-End-clause-placed c = λ source after whole.
-    stand_widen source c.args.first (c.args.first + (length c.args.line.now - length c.pieces.rest.now))
-    (c.args.first + length c.args.line.now) c.pieces.words.items (omega arith)
+    stand_widen _ _ _ _ c.pieces.words.items (omega arith)
     (c.pieces.invariant.placed source after whole)
 
 pub returns-in-Comment-clause-placed : goal.returns-in-Comment-clause-placed
 returns-in-Comment-clause-placed c = λ source after whole.
-    stand_widen source c.args.first (c.args.first + (length c.args.line.now - length c.pieces.rest.now))
-    (c.args.first + length c.args.line.now) c.pieces.words.items (omega arith)
+    stand_widen _ _ _ _ c.pieces.words.items (omega arith)
     (c.pieces.invariant.placed source after whole)
 
 pub returns-in-End-clause-filled : goal.returns-in-End-clause-filled
-returns-in-End-clause-filled c = fills_end c.args.first c.args.line.now c.pieces.words.items c.pieces.rest.now
-    c.pieces.invariant.in_range c.pieces.invariant.filled
+returns-in-End-clause-filled c = fills_end _ _ _ _ c.pieces.invariant.in_range c.pieces.invariant.filled
     (end_empty c.pieces.invariant.progress (rw (← c.as_bytes.ensures.value) (sym c.in-End.ensures)))
 
 pub returns-in-Comment-clause-filled : goal.returns-in-Comment-clause-filled
@@ -165,5 +157,5 @@ returns-in-Comment-clause-filled c =
     let text : c.split_at.result.0.now ≡ trim_end c.pieces.rest.now = c.split_at.ensures.front ∙ trimmed in
     let is = read_comment None c.args.line.now (words_of c.pieces.words.items) (trim_end c.pieces.rest.now)
     (progress_comment c.pieces.invariant.progress same).reads in
-    fills_comment c.args.first c.args.line.now c.pieces.words.items c.pieces.rest.now c.pieces.invariant.in_range
+    fills_comment _ _ _ _ c.pieces.invariant.in_range
     c.pieces.invariant.filled c.split_at.result.0.now (rw text is) text
