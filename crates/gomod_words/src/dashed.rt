@@ -1,7 +1,7 @@
 //! Operations of `edit` that are written with a dash in front, as after `go mod edit`. The parser would take such a
 //! word for an option that is unknown.
 
-ghost use Rattle.std.specs.Prelude.{◌≡◌, is_some, map};
+ghost use Rattle.std.specs.Prelude.{◌≡◌, is_some};
 ghost use Rattle.std.specs.List.{find};
 ghost use Rattle.std.specs.Option.{option_copied};
 ghost use Rattle.gomod_hints.specs.Hints.{begins_with_dash, texts_of};

@@ -2,7 +2,7 @@
 
 ghost use Rattle.std.specs.Prelude.{◌≡◌, ◌++◌, IfErr, IfOk, None, OnOk, Some, codes, encode_utf8_all, map, true};
 ghost use Rattle.std.specs.Option.{option_copied, option_map};
-ghost use Rattle.clap.specs.Words.{all_of, found_of};
+ghost use Rattle.clap.specs.Words.{all_of};
 ghost use Rattle.std.specs.Char.Escape.{escape_ascii};
 ghost use Rattle.std.specs.String.{string_bytes};
 ghost use Rattle.gomod_words.specs.Usage.{HasHintOf, HasNoTip, IsBadPath, IsBadProxy, IsLineOn, IsOneFile, IsProxy, IsVersionLine, ShowsLine, dashed_message, given, has_value, is_line_or_memory, shown_bytes, texts_in, unreadable_text, usage_text};

@@ -1,7 +1,7 @@
 //! The words of a command line, read. Every usage error reads the same, whether the parser finds it or this crate: what
 //! is wrong, a hint, the usage line, and how to get help.
 
-ghost use Rattle.std.specs.Prelude.{◌≡◌, IfErr, IfOk, true};
+ghost use Rattle.std.specs.Prelude.{IfErr, IfOk};
 ghost use Rattle.clap.specs.Words.{subcommand_rows_of};
 ghost use Rattle.gomod_hints.specs.Hints.{texts_of};
 ghost use Rattle.gomod_words.specs.Private.Usage.{IsEntriesFault, IsFaultIn, IsParserFault, IsReadOf};
