@@ -15,3 +15,4 @@ pub mod FieldLemmas
 pub mod Empty
 pub mod Logic
 pub mod Texts
+pub mod Prefixes

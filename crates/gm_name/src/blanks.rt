@@ -16,11 +16,17 @@ fn is_blank_byte(byte: u8) -> bool
 }
 
 /// The number of blanks at the start of a line.
+#[tactic(auto, using(crate::proofs::Prefixes::prefixes))]
 fn leading_blanks(line: &[u8]) -> usize
     ensures count { result ≡ prefix_len is_blank_byte line.now }
     ensures within { result ≤ length line.now }
 {
-    line.iter().take_while(|byte| is_blank_byte(**byte)).count()
+    for (len, byte) in line.iter().enumerate() {
+        if !is_blank_byte(*byte) {
+            return len;
+        }
+    }
+    line.len()
 }
 
 /// The number of bytes before the first blank, or the line's length if it has none.
