@@ -17,7 +17,7 @@ use Rattle.semver.specs.OrderLaws.{pre-anti, pre_cmp-both, pre_cmp-empty, pre_cm
 use Rattle.semver.specs.Parse.{Parts}
 use Rattle.gm_name.specs.Precedence.{HasLowerPrecedence, HasSamePrecedence, IsLowerIdentifier, IsLowerList, IsLowerPreRelease, number_of}
 use Rattle.gm_version.specs.Version.{precedence}
-use Rattle.gm_version.specs.VersionOrder.{precedence_total}
+use Rattle.gm_version.specs.VersionOrder.{precedence_total, then_second}
 use Rattle.gm_name.proofs.NumericIdentifiers.{cmp-lt, numeric-by_number}
 
 -- ---- lists
@@ -217,19 +217,19 @@ precedence-lower p q vp vq =
       ],
     )
 
--- what a tie of a chain of two comparisons says
-tie-first : (r s : Ordering) → ordering_then r s ≡ Equal → (r ≡ Equal) × (s ≡ Equal)
-tie-first Less s e = cc e
-tie-first Equal s e = (refl, e)
-tie-first Greater s e = cc e
+-- if a chain of two comparisons ties, the first of them does
+pub then_first : (r s : Ordering) → ordering_then r s ≡ Equal → r ≡ Equal
+then_first Less s e = cc e
+then_first Equal s e = refl
+then_first Greater s e = cc e
 
 pub precedence-same : (p q : Parts) → (precedence p q ≡ Equal) ↔ HasSamePrecedence p q
 precedence-same p q = (
   λ e.
-      let t0 = tie-first _ _ e in
-      let t1 = tie-first _ _ t0.1 in
-      let t2 = tie-first _ _ t1.1 in
-      (nat_cmp-IsAntisymmetric _ _ t0.0, nat_cmp-IsAntisymmetric _ _ t1.0, nat_cmp-IsAntisymmetric _ _ t2.0, pre-anti _ _ t2.1),
+      let t1 = then_second _ _ e in
+      let t2 = then_second _ _ t1 in
+      let numbers = nat_cmp-IsAntisymmetric in
+      (numbers _ _ (then_first _ _ e), numbers _ _ (then_first _ _ t1), numbers _ _ (then_first _ _ t2), pre-anti _ _ (then_second _ _ t2)),
   λ same. rw (same.0, same.1, same.2, same.3) (rw (
     tied_itself nat_cmp_total q.0,
     tied_itself nat_cmp_total q.1,

@@ -1,11 +1,10 @@
 -- Modules at versions, and their order, which is total; only equal ones tie.
-use Rattle.std.proofs.Common.{◌≡◌, ◌∙◌, ◌&&◌, ℕ, Bool, List, [], nat_eq, Some, ap₂, refl}
+use Rattle.std.proofs.Common.{◌≡◌, ◌∙◌, ◌&&◌, ℕ, Bool, List, [], nat_eq, Some, ap₂}
 use Rattle.std.specs.Prelude.{slice_index_or}
-use Rattle.std.specs.Cmp.{IsPartialOrder, IsTotalOrder, on_total, po, then_total}
+use Rattle.std.specs.Cmp.{IsPartialOrder, IsTotalOrder, on_total, po, then_total, tied_then}
 use Rattle.std.specs.Cmp.Lexicographic.{nat_list_cmp_total, pointwise, slice_cmp, texts_ties}
-use Rattle.std.specs.Ordering.{eq_by_cmp, is_eq, nat_cmp, ordering_then}
+use Rattle.std.specs.Ordering.{eq_by_cmp, nat_cmp, ordering_then}
 use Rattle.std.specs.declared.cmp.Ordering.{Ordering}
-use Rattle.std.specs.declared.cmp.Ordering.TheVariants.{Less, Equal, Greater}
 use Rattle.gm_version.specs.Version.{version_cmp}
 use Rattle.gm_version.specs.VersionOrder.{version_ties, version_total}
 
@@ -29,15 +28,10 @@ pub pair_total : IsTotalOrder pair_cmp
 pair_total = then_total (on_total (λ (x : ModuleVersion). x.0) nat_list_cmp_total)
     (on_total (λ (x : ModuleVersion). x.1) version_total)
 
-both_tie : (r s : Ordering) → (is_eq r && is_eq s) ≡ is_eq (ordering_then r s)
-both_tie Less s = refl
-both_tie Equal s = refl
-both_tie Greater s = refl
-
 -- Two pairs tie if their paths and their versions are the same.
 pub pair_ties : (x y : ModuleVersion) → pair_eq x y ≡ eq_by_cmp pair_cmp x y
 pair_ties x y = ap₂ (λ (a b : Bool). a && b) (texts_ties x.0 y.0) (version_ties x.1 y.1)
-    ∙ both_tie (slice_cmp nat_cmp x.0 y.0) (version_cmp x.1 y.1)
+    ∙ tied_then (slice_cmp nat_cmp x.0 y.0) (version_cmp x.1 y.1)
 
 pub pair_po : IsPartialOrder pair_eq (λ x y. Some (pair_cmp x y))
 pair_po = po pair_total pair_ties
