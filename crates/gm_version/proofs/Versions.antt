@@ -147,11 +147,13 @@ build-cases text parts false version read says =
       | inr word ↦ word
     ]
 
--- a version with another patch number and pre-release is a version, and is parsed into its parts
-pub version-with : (text new : List ℕ) (p : Parts) (patch : ℕ) (pre : List ℕ) → IsVersion text → version_parts (drop 1 text) ≡ Ok p
-    → patch < 2 ^ 64 → is_pre_release pre ≡ true → new ≡ version_text (p.0, p.1, patch, pre, p.4)
-    → IsVersion new × (version_parts (drop 1 new) ≡ Ok (p.0, p.1, patch, pre, p.4))
+-- the new text is the version with another patch number and pre-release, and is parsed into its parts
+abbrev pub IsVersionWith : List ℕ → List ℕ → Parts → ℕ → List ℕ → Type 0
+IsVersionWith text new p patch pre = IsVersion new × (version_parts (drop 1 new) ≡ Ok (p.0, p.1, patch, pre, p.4))
     × (new ≡ version_text ((parts_in text).0, (parts_in text).1, patch, pre, (parts_in text).4))
+
+pub version-with : (text new : List ℕ) (p : Parts) (patch : ℕ) (pre : List ℕ) → IsVersion text → version_parts (drop 1 text) ≡ Ok p
+    → patch < 2 ^ 64 → is_pre_release pre ≡ true → new ≡ version_text (p.0, p.1, patch, pre, p.4) → IsVersionWith text new p patch pre
 version-with text new p patch pre version read small good spelled =
     let same = parts-read text p read in
     let old = rw same at (version-parts text version).0 in
