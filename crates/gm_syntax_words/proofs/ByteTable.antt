@@ -18,7 +18,7 @@ agree_at : (f g : ℕ → Bool) (n : ℕ) → agree_below f g n ≡ true → (b 
 unfolding agree_below
 agree_at f g zero h b lt = absurd (omega arith)
 agree_at f g (suc n) h b lt =
-    let both = both_of (f n) (g n) (agree_below f g n) h in
+    let both = both_of (f n) (g n) _ h in
     elim (cases_eq b n) [ inl same ↦ rw same both.0 | inr other ↦ agree_at f g n both.1 b (omega arith) ]
 
 abbrev pub has_flag : List ℕ → ℕ → ℕ → Bool

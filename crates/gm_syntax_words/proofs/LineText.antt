@@ -64,7 +64,7 @@ module _ (first : ℕ) (line : List ℕ) (words : List Placed) (rest : List ℕ)
       subst (λ (l : List ℕ). FillText (first + (length line - length rest) + 1) l more comment) past
       (subst (λ (n : ℕ). FillText n (drop 1 rest) more comment) at f) in
       p more comment (subst (λ (l : List ℕ). FillText (first + (length line - length rest)) l more comment) (sym e)
-      (fill_blank (first + (length line - length rest)) b bytes more comment blank g))
+      (fill_blank _ b bytes more comment blank g))
 
   pub fills_word : (n : ℕ) (t : Placed) → n ≤ length rest
       → t.span ≡ Some (record {
@@ -75,7 +75,7 @@ module _ (first : ℕ) (line : List ℕ) (words : List Placed) (rest : List ℕ)
       → FillsUpTo first line (words ++ t ∷ []) (first + (length line - length (drop n rest))) (drop n rest)
   fills_word n t fits is text len more comment f =
       let at : first + (length line - length (drop n rest)) ≡ first + (length line - length rest) + n = omega (arith, le, fits, length-drop n rest) in
-      let g = fill_word (first + (length line - length rest)) n rest t more comment is text len
+      let g = fill_word _ n rest t more comment is text len
       (rw (← at) f) in
       rw (append_assoc words (t ∷ []) more) (p (t ∷ more) comment g)
 
@@ -94,4 +94,4 @@ module _ (first : ℕ) (line : List ℕ) (words : List Placed) (rest : List ℕ)
 pub read_comment : (before : Option Word) (text : List ℕ) (words : List Word) (comment : List ℕ)
     → Reads before text words (CommentEnd comment) → IsComment comment
 read_comment before text [] comment r = r.ends.1
-read_comment before text (w ∷ words) comment (rest, b, others) = read_comment (Some w) rest words comment others
+read_comment before text (w ∷ words) comment (rest, b, others) = read_comment _ rest words comment others

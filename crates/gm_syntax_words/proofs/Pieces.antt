@@ -154,7 +154,7 @@ string_facts before quote inside after bytes value n apart ascii e count shape =
 quoted_facts : (before : Option Word) (bytes : List ℕ) → ¬ IsBareWord before → (r : Result ℕ SyntaxKind)
     → QuotedFront r bytes → Facts (text_piece r) before (34 ∷ bytes)
 quoted_facts before bytes apart (Ok n) h =
-    string_facts before 34 (escaped_value h.0) h.1 bytes h.0 n apart (omega arith) h.2 h.3 (inl refl)
+    string_facts before 34 _ h.1 bytes h.0 n apart (omega arith) h.2 h.3 (inl refl)
 quoted_facts before bytes apart (Err OpenString) h = (
   apart,
   h.0,
@@ -186,13 +186,13 @@ stop_ascii (b ∷ after) z =
     ]
 
 no_arrow_at : (b : ℕ) (bytes : List ℕ) (rest : List ℕ) → (eqb b 61 && begins 62 bytes) ≡ false → b ∷ bytes ≡ 61 ∷ 62 ∷ rest → ⊥
-no_arrow_at b bytes rest h e = true≢false (sym (arrow_true rest (b ∷ bytes) e) ∙ h)
+no_arrow_at b bytes rest h e = true≢false (sym (arrow_true rest _ e) ∙ h)
 
 bare_facts : (before : Option Word) (b : ℕ) (bytes : List ℕ) → Stops before (b ∷ bytes) → is_word_byte b ≡ true
     → opens_comment (b ∷ bytes) ≡ false → (eqb b 61 && begins 62 bytes) ≡ false
     → WordFacts Bare (bare_len (b ∷ bytes)) before (b ∷ bytes)
 bare_facts before b bytes stops word opens arrow =
-    let f = bare_front (b ∷ bytes) in
+    let f = bare_front _ in
     let one = bare_cons b bytes word opens in
     record {
       text = f.text;
@@ -207,7 +207,7 @@ bare_facts before b bytes stops word opens arrow =
             filled = λ e. absurd (omega (arith, one, f.len, ap length e));
             word_bytes = f.word_bytes;
             no_comment = f.no_comment;
-            no_arrow = λ a. no_arrow_at b bytes (a.0 ++ f.after) arrow (f.parts ∙ ap (λ t. t ++ f.after) a.1);
+            no_arrow = λ a. no_arrow_at b bytes _ arrow (f.parts ∙ ap (λ t. t ++ f.after) a.1);
           },
           refl,
         ),

@@ -34,17 +34,17 @@ progress_start line = record { before = None; tracks = tracks_none; stops = tt; 
 
 module _ {line : List ℕ} {words : List Word} {after_bare : Bool} {rest : List ℕ} (p : Progress line words after_bare rest) where
   facts_of : (q : Piece) → piece_of after_bare rest ≡ q → Facts q p.before rest
-  facts_of q e = rw (← e) (facts after_bare p.before rest p.tracks p.stops)
+  facts_of q e = rw (← e) (facts _ _ rest p.tracks p.stops)
 
   goes_on : (q : Piece) → piece_of after_bare rest ≡ q → (all : List Word) (e : Ending) → Reads None line all e
       → (more : List Word) × (all ≡ words ++ more) × Continues q p.before rest more e
   goes_on q same all e r =
       let b = p.back all e r in
-      (b.0, b.1, rw (← same) (reads_to after_bare p.before rest b.0 e p.tracks b.2))
+      (b.0, b.1, rw (← same) (reads_to _ _ rest b.0 e p.tracks b.2))
 
   comes_from : (q : Piece) → piece_of after_bare rest ≡ q → (more : List Word) (e : Ending)
       → Continues q p.before rest more e → Reads None line (words ++ more) e
-  comes_from q same more e k = p.there more e (reads_from q p.before rest more e (facts_of q same) k)
+  comes_from q same more e k = p.there more e (reads_from q _ rest more e (facts_of q same) k)
 
   -- at a piece that ends the line in this way
   ends_with : (end : Ending) (q : Piece) → ((more : List Word) (e : Ending) → Continues q p.before rest more e → (more ≡ []) × (e ≡ end))
@@ -58,25 +58,25 @@ module _ {line : List ℕ} {words : List Word} {after_bare : Bool} {rest : List 
   }
 
   pub progress_end : piece_of after_bare rest ≡ piece.End → IsOnlyReading line words Nothing
-  progress_end same = ends_with Nothing piece.End (λ more e k. k) (refl, refl) same
+  progress_end same = ends_with Nothing _ (λ more e k. k) (refl, refl) same
 
   pub progress_comment : piece_of after_bare rest ≡ piece.Comment → IsOnlyReading line words (Comment (trim_end rest))
-  progress_comment same = ends_with (Comment (trim_end rest)) piece.Comment (λ more e k. k) (refl, refl) same
+  progress_comment same = ends_with _ _ (λ more e k. k) (refl, refl) same
 
   pub progress_fault : (kind : SyntaxKind) → piece_of after_bare rest ≡ piece.Fault kind → IsOnlyReading line words (Fault kind)
-  progress_fault kind same = ends_with (Fault kind) (piece.Fault kind) (λ more e k. k) (refl, refl) same
+  progress_fault kind same = ends_with _ _ (λ more e k. k) (refl, refl) same
 
   pub progress_blank : piece_of after_bare rest ≡ piece.Blank → Progress line words false (drop 1 rest)
   progress_blank same = record {
     before = None;
     tracks = tracks_none;
     stops = tt;
-    there = λ more e r. comes_from piece.Blank same more e r;
-    back = λ all e r. goes_on piece.Blank same all e r;
+    there = λ more e r. comes_from _ same more e r;
+    back = λ all e r. goes_on _ same all e r;
   }
 
   word_facts : {kind : Kind} {n : ℕ} → piece_of after_bare rest ≡ piece.Word kind n → WordFacts kind n p.before rest
-  word_facts {kind} {n} same = facts_of (piece.Word kind n) same
+  word_facts {kind} {n} same = facts_of _ same
 
   pub progress_word : {kind : Kind} {n : ℕ} → piece_of after_bare rest ≡ piece.Word kind n
       → Progress line (words ++ make_word kind (take n rest) ∷ []) (is_bare kind) (drop n rest)
@@ -84,11 +84,11 @@ module _ {line : List ℕ} {words : List Word} {after_bare : Bool} {rest : List 
       let w : Word = make_word kind (take n rest) in
       record {
         before = Some w;
-        tracks = tracks_kind kind (take n rest);
+        tracks = tracks_kind kind _;
         stops = stops_at (word_facts same);
         there = λ more e r. rw (append_assoc words (w ∷ []) more)
-            (comes_from (piece.Word kind n) same (w ∷ more) e (more, refl, r));
-        back = λ all e r. let g = goes_on (piece.Word kind n) same all e r in
+            (comes_from _ same (w ∷ more) e (more, refl, r));
+        back = λ all e r. let g = goes_on _ same all e r in
             (g.2.0, g.1 ∙ ap (λ m. words ++ m) g.2.1 ∙ sym (append_assoc words (w ∷ []) g.2.0), g.2.2);
       }
     where
@@ -136,19 +136,19 @@ module _ {line : List ℕ} {words : List Word} {after_bare : Bool} {rest : List 
 
   -- what the text is where the piece is its end or a blank
   pub end_empty : piece_of after_bare rest ≡ piece.End → rest ≡ []
-  end_empty same = facts_of piece.End same
+  end_empty same = facts_of _ same
 
   pub blank_begins : piece_of after_bare rest ≡ piece.Blank → (b : ℕ) × (bytes : List ℕ) × (rest ≡ b ∷ bytes) × (is_blank b ≡ true)
-  blank_begins same = facts_of piece.Blank same
+  blank_begins same = facts_of _ same
 
   pub blank_positive : piece_of after_bare rest ≡ piece.Blank → 0 < length rest
   blank_positive same =
-      let f : (b : ℕ) × (bytes : List ℕ) × (rest ≡ b ∷ bytes) × (is_blank b ≡ true) = facts_of piece.Blank same in
+      let f : (b : ℕ) × (bytes : List ℕ) × (rest ≡ b ∷ bytes) × (is_blank b ≡ true) = facts_of _ same in
       omega (arith, ap length f.2)
 
   pub blank_boundary : IsUtf8 rest → piece_of after_bare rest ≡ piece.Blank → IsCharBoundary rest 1 × (0 < length rest)
   blank_boundary utf8 same =
-      let f : (b : ℕ) × (bytes : List ℕ) × (rest ≡ b ∷ bytes) × (is_blank b ≡ true) = facts_of piece.Blank same in
+      let f : (b : ℕ) × (bytes : List ℕ) × (rest ≡ b ∷ bytes) × (is_blank b ≡ true) = facts_of _ same in
       let positive : 0 < length rest = omega (arith, ap length f.2) in
       let ascii : get_or rest 0 0 < 128 = rw (ap (λ (t : List ℕ). get_or t 0 0) f.2) (blank_ascii f.0 f.3) in
       ((beside_ascii rest 0 utf8 positive ascii).1, positive)

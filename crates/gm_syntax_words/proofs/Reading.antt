@@ -71,13 +71,13 @@ unfolding trim_end
 trim_parts [] = record { blanks = []; parts = refl; are_blank = tt; trimmed = λ front b k e. nil_not_push front b e }
 trim_parts (b ∷ bytes) =
     let t = trim_parts bytes in
-    let p = put_front_parts b bytes (trim_end bytes) t.blanks t.parts t.are_blank t.trimmed in
+    let p = put_front_parts b bytes _ _ t.parts t.are_blank t.trimmed in
     record { blanks = p.0; parts = p.1; are_blank = p.2; trimmed = p.3 }
 
 -- a text that begins with two slashes still does so when trimmed
 pub trim_slashes : (more : List ℕ) → (rest : List ℕ) × (trim_end (47 ∷ 47 ∷ more) ≡ 47 ∷ 47 ∷ rest)
 unfolding trim_end
-trim_slashes more = by_rest (trim_end more)
+trim_slashes more = by_rest _
   where
     slash_plain : is_blank 47 ≡ false
     slash_plain = (word_not_others 47 slash_word).0
@@ -142,7 +142,7 @@ reads_from piece.Blank before rest words e facts k =
 reads_from piece.Comment before rest words e facts k =
     let t = trim_parts rest in
     let s = trim_slashes facts.1 in
-    ends_reading before rest words e (Comment (trim_end rest)) k.0 k.1 (
+    ends_reading before rest words e _ k.0 k.1 (
       facts.0,
       record { slashes = (s.0, rw facts.2 s.1); trimmed = t.trimmed },
       t.blanks,
@@ -157,7 +157,7 @@ reads_from (piece.Word kind n) before rest words e facts k =
     (rw past
     (record { blanks = []; parts = facts.parts; are_blank = tt; shape = facts.shape; may_follow = facts.may_follow })) in
     rw k.1 (drop n rest, begins, k.2)
-reads_from (piece.Fault kind) before rest words e facts k = ends_reading before rest words e (Fault kind) k.0 k.1 facts
+reads_from (piece.Fault kind) before rest words e facts k = ends_reading before rest words e _ k.0 k.1 facts
 
 -- ---- from the reading to the piece
 
@@ -173,13 +173,13 @@ both_at text rest b bytes e h = rw e ((nonword_stops b bytes h).0, λ front f. (
 comment_stops : (w : Word) (rest : List ℕ) (d : ℕ) (more : List ℕ) → w.kind ≡ Bare → ¬ EndsInSlash (Some w)
     → rest ≡ 47 ∷ d ∷ more → opens_comment (47 ∷ d ∷ more) ≡ true → BothStop w.spelling rest
 comment_stops w rest d more bare apart e opens =
-    rw e (bare_stop_comment 47 (d ∷ more) slash_word opens, λ front f. absurd (apart (bare, front, f)))
+    rw e (bare_stop_comment 47 _ slash_word opens, λ front f. absurd (apart (bare, front, f)))
 
 fault_stops : (w : Word) (rest : List ℕ) (kind : SyntaxKind) → w.kind ≡ Bare → BeginsFault (Some w) kind rest → BothStop w.spelling rest
 fault_stops w rest BadByte bare h =
     elim h.3 [
-      | inl bad ↦ both_at w.spelling rest h.0 h.1 h.2 (bad_not_others h.0 bad).3
-      | inr quote ↦ both_at w.spelling rest h.0 h.1 h.2 (quote_not_others h.0 quote.0).2
+      | inl bad ↦ both_at _ rest h.0 h.1 h.2 (bad_not_others h.0 bad).3
+      | inr quote ↦ both_at _ rest h.0 h.1 h.2 (quote_not_others h.0 quote.0).2
     ]
 fault_stops w rest OpenString bare h = absurd (h.0 bare)
 fault_stops w rest BadEscape bare h = absurd (h.0 bare)
@@ -208,13 +208,13 @@ reads_stops w rest [] e r bare = by_blanks r.blanks r.parts r.are_blank r.ends
   where
     by_blanks : (blanks : List ℕ) → rest ≡ blanks ++ r.rest → AllBlank blanks → Ends (touching_word (Some w) blanks) e r.rest → BothStop w.spelling rest
     by_blanks [] parts are ends = rw parts (end_stops w r.rest e bare ends)
-    by_blanks (b ∷ blanks) parts are ends = blank_stops w.spelling rest b (blanks ++ r.rest) parts are.0
+    by_blanks (b ∷ blanks) parts are ends = blank_stops _ rest b _ parts are.0
 reads_stops w rest (v ∷ words) e (after, r, others) bare = by_blanks r.blanks r.parts r.are_blank r.may_follow
   where
     by_blanks : (blanks : List ℕ) → rest ≡ blanks ++ (v.spelling ++ after) → AllBlank blanks
         → MayFollow (touching_word (Some w) blanks) v → BothStop w.spelling rest
-    by_blanks [] parts are follows = mark_stops w.spelling rest v.spelling after parts (mark_shape v (follows bare).0 r.shape) (follows bare).1
-    by_blanks (b ∷ blanks) parts are follows = blank_stops w.spelling rest b (blanks ++ (v.spelling ++ after)) parts are.0
+    by_blanks [] parts are follows = mark_stops _ rest _ after parts (mark_shape v (follows bare).0 r.shape) (follows bare).1
+    by_blanks (b ∷ blanks) parts are follows = blank_stops _ rest b _ parts are.0
 
 -- a text that begins with a blank is read like the text after the blank
 blank_continues : (t : Bool) (before : Option Word) (rest : List ℕ) (b : ℕ) (bytes : List ℕ) (words : List Word)
@@ -250,10 +250,10 @@ fault_end t before rest BadByte tracks h =
     ])
 fault_end t before rest OpenString tracks h =
     rw (is_apart t before tracks h.0) (elim h.2 [
-      | inl e ↦ ap (piece_of false) e ∙ piece_quoted (escaped_value h.1)
+      | inl e ↦ ap (piece_of false) e ∙ piece_quoted _
           ∙ ap text_piece (open_plain h.1)
-      | inr (inl e) ↦ ap (piece_of false) e ∙ piece_quoted (escaped_value h.1 ++ 92 ∷ [])
-          ∙ ap text_piece (quoted_len-escaped h.1 (92 ∷ [])
+      | inr (inl e) ↦ ap (piece_of false) e ∙ piece_quoted _
+          ∙ ap text_piece (quoted_len-escaped h.1 _
           ∙ ap (longer (length (escaped_value h.1))) (quoted_cut 92 refl))
       | inr (inr e) ↦ ap (piece_of false) e.0 ∙ piece_raw h.1
           ∙ ap text_piece (open_raw h.1 e.1)
@@ -268,8 +268,8 @@ fault_end t before rest BadEscape tracks h =
     rw (
       is_apart t before tracks h.0,
       h.4,
-      piece_quoted (escaped_value h.1 ++ 92 ∷ h.2 ∷ h.3),
-      quoted_len-escaped h.1 (92 ∷ h.2 ∷ h.3),
+      piece_quoted _,
+      quoted_len-escaped h.1 _,
       quoted_bad 92 h.2 h.3 refl (escape_is_not h.2 h.5 h.6),
     ) refl
 fault_end t before rest BlockComment tracks h = rw h.2 (piece_block t h.1)
@@ -282,7 +282,7 @@ end_continues t before rest Nothing tracks h =
 end_continues t before rest (Comment text) tracks h =
     let begins : rest ≡ 47 ∷ 47 ∷ (h.1.slashes.0 ++ h.2) = rw (h.4, h.1.slashes.1) refl in
     let same : text ≡ trim_end rest = rw (← trim_end-append text h.2 h.3 h.1.trimmed, ← h.4) refl in
-    rw (begins, piece_comment t (h.1.slashes.0 ++ h.2)) (refl, rw (same, begins) refl)
+    rw (begins, piece_comment t _) (refl, rw (same, begins) refl)
 end_continues t before rest (Fault kind) tracks h = rw (fault_end t before rest kind tracks h) (refl, refl)
 
 -- the scanner takes the whole of a bare word
@@ -318,9 +318,9 @@ string_piece : (text after value : List ℕ) → IsString text value → piece_o
 string_piece text after value (inl e) =
     rw (
       e,
-      piece_quoted ((escaped_value value ++ 34 ∷ []) ++ after),
+      piece_quoted _,
       append_assoc (escaped_value value) (34 ∷ []) after,
-      quoted_len-escaped value (34 ∷ after),
+      quoted_len-escaped value _,
       quoted_end 34 after refl,
     ) (ap (λ n. piece.Word Text n) (omega (
       arith,
@@ -330,9 +330,9 @@ string_piece text after value (inl e) =
 string_piece text after value (inr (e, none)) =
     rw (
       e,
-      piece_raw ((value ++ 96 ∷ []) ++ after),
+      piece_raw _,
       append_assoc value (96 ∷ []) after,
-      raw_len-append value (96 ∷ after) none,
+      raw_len-append value _ none,
       raw_end 96 after refl,
     ) (ap (λ n. piece.Word Text n) (omega (arith, ap length e, length-append value (96 ∷ []))))
 
@@ -374,10 +374,10 @@ reads_to t before rest (w ∷ words) e tracks (after, r, others) = by_blanks r.b
     by_blanks : (blanks : List ℕ) → rest ≡ blanks ++ (w.spelling ++ after) → AllBlank blanks
         → MayFollow (touching_word before blanks) w → Continues (piece_of t rest) before rest (w ∷ words) e
     by_blanks [] parts are follows =
-        word_continues t before rest w.kind w.spelling after words e
-        (rw parts (shape_piece t before w.kind w.spelling after r.shape.0 tracks r.shape.1 follows (reads_stops w after words e others))) parts others
+        word_continues t before rest w.kind _ after words e
+        (rw parts (shape_piece t before w.kind _ after _ tracks r.shape.1 follows (reads_stops w after words e others))) parts others
     by_blanks (b ∷ blanks) parts are follows =
-        blank_continues t before rest b (blanks ++ (w.spelling ++ after)) (w ∷ words) e parts are.0 (
+        blank_continues t before rest b _ _ e parts are.0 (
           after,
           record {
             blanks = blanks;

@@ -106,9 +106,9 @@ bare_front (b ∷ bytes) =
                   parts = rw more.parts refl;
                   len = bare_cons b bytes word opens ∙ ap suc more.len;
                   word_bytes = (word, more.word_bytes);
-                  no_comment = no_comment_more b bytes more.text more.after more.parts opens more.no_comment;
+                  no_comment = no_comment_more b bytes _ _ more.parts opens more.no_comment;
                   stop = more.stop;
-                  no_slash = no_slash_more b bytes more.text more.after more.parts opens more.no_slash;
+                  no_slash = no_slash_more b bytes _ _ more.parts opens more.no_slash;
                 }
           ]
     ]
@@ -212,15 +212,15 @@ quoted_front (b ∷ c ∷ bytes) =
 
 -- the scanner goes past an escaped value
 pub quoted_len-escaped : (value tail : List ℕ) → quoted_len (escaped_value value ++ tail) ≡ longer (length (escaped_value value)) (quoted_len tail)
-quoted_len-escaped [] tail = longer_none (quoted_len tail)
+quoted_len-escaped [] tail = longer_none _
 quoted_len-escaped (b ∷ value) tail =
     elim (cases_Bool (is_escaped b)) [
       | inl m ↦
           rw (
             escaped_marked b value m,
-            quoted_escape 92 b (escaped_value value ++ tail) refl m,
+            quoted_escape 92 b _ refl m,
             quoted_len-escaped value tail,
-            longer_longer 2 (length (escaped_value value)) (quoted_len tail),
+            longer_longer 2 _ _,
           ) (ap (λ n. longer n (quoted_len tail)) (omega (
             arith,
             ap length (escaped_marked b value m),
@@ -229,9 +229,9 @@ quoted_len-escaped (b ∷ value) tail =
           let q : b ≢ 34 = λ e. false≢true (sym m ∙ escape_is b (inl e)) in
           let s : b ≢ 92 = λ e. false≢true (sym m ∙ escape_is b (inr e)) in
           ap (λ t. quoted_len (t ++ tail)) (escaped_plain b value m)
-          ∙ quoted_plain b (escaped_value value ++ tail) q s
+          ∙ quoted_plain b _ q s
           ∙ ap (longer 1) (quoted_len-escaped value tail)
-          ∙ longer_longer 1 (length (escaped_value value)) (quoted_len tail)
+          ∙ longer_longer 1 _ _
           ∙ ap (λ n. longer n (quoted_len tail)) (omega (arith, ap length (escaped_plain b value m)))
     ]
 
@@ -252,14 +252,14 @@ raw_front [] = rw raw_nil tt
 raw_front (b ∷ bytes) =
     elim (cases_eq b 96) [
       | inl e ↦ rw (raw_end b bytes e) ([], bytes, rw e refl, tt, refl)
-      | inr n ↦ rw (raw_cons b bytes n) (raw_front_more (raw_len bytes) b bytes n (raw_front bytes))
+      | inr n ↦ rw (raw_cons b bytes n) (raw_front_more _ b bytes n (raw_front bytes))
     ]
 
 pub raw_len-append : (value tail : List ℕ) → HasNoGrave value → raw_len (value ++ tail) ≡ longer (length value) (raw_len tail)
-raw_len-append [] tail h = longer_none (raw_len tail)
+raw_len-append [] tail h = longer_none _
 raw_len-append (b ∷ value) tail h =
     rw (
-      raw_cons b (value ++ tail) h.0,
+      raw_cons b _ h.0,
       raw_len-append value tail h.1,
-      longer_longer 1 (length value) (raw_len tail),
+      longer_longer 1 _ _,
     ) (ap (λ n. longer n (raw_len tail)) (omega arith))

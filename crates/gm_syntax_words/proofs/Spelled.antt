@@ -86,7 +86,7 @@ plain_front (b ∷ text) =
 
 escaped-append : (front after : List ℕ) → IsPlain front → escaped_value (front ++ after) ≡ front ++ escaped_value after
 escaped-append [] after p = refl
-escaped-append (b ∷ front) after p = rw (escaped_plain b (front ++ after) p.0, escaped-append front after p.1) refl
+escaped-append (b ∷ front) after p = rw (escaped_plain b _ p.0, escaped-append front after p.1) refl
 
 pub escaped_mark : (after : List ℕ) → 0 < length after → BeginsMark after → escaped_value after ≡ (92 ∷ []) ++ (take 1 after ++ escaped_value (drop 1 after))
 escaped_mark [] lt m = absurd (omega arith)
@@ -305,11 +305,11 @@ mark_boundary (b ∷ after) utf8 lt m = (beside_ascii (b ∷ after) 0 utf8 lt (m
 
 module _ (bytes : List ℕ) (n : ℕ) where
   pub plain_stops : n < length bytes → (get_or bytes n 0 ≡ 34) ⊎ (get_or bytes n 0 ≡ 92) → plain_len (drop n bytes) ≡ 0
-  plain_stops lt h = rw (drop_more bytes n 0 lt) (len_stop (get_or bytes n 0) (drop (n + 1) bytes) (escape_is (get_or bytes n 0) h))
+  plain_stops lt h = rw (drop_more bytes n 0 lt) (len_stop (get_or bytes n 0) (drop (n + 1) bytes) (escape_is _ h))
 
   pub plain_goes_on : n < length bytes → (get_or bytes n 0 ≡ 34 → ⊥) → (get_or bytes n 0 ≡ 92 → ⊥)
       → plain_len (drop n bytes) ≡ suc (plain_len (drop (n + 1) bytes))
-  plain_goes_on lt q s = rw (drop_more bytes n 0 lt) (len_more (get_or bytes n 0) (drop (n + 1) bytes) (escape_is_not (get_or bytes n 0) q s))
+  plain_goes_on lt q s = rw (drop_more bytes n 0 lt) (len_more (get_or bytes n 0) (drop (n + 1) bytes) (escape_is_not _ q s))
 
   pub plain_ends : length bytes ≤ n → plain_len (drop n bytes) ≡ 0
   plain_ends le = at_drop_all plain_len bytes n le ∙ len_nil

@@ -114,14 +114,14 @@ quoted_cut b s = rw (ne_eqb b 34 (omega arith)) refl
 
 module _ (bytes : List ℕ) (n : ℕ) where
   pub quoted_ends_at : n < length bytes → get_or bytes n 0 ≡ 34 → quoted_len (drop n bytes) ≡ Ok 1
-  quoted_ends_at lt e = rw (drop_more bytes n 0 lt) (quoted_end (get_or bytes n 0) (drop (n + 1) bytes) e)
+  quoted_ends_at lt e = rw (drop_more bytes n 0 lt) (quoted_end _ _ e)
 
   pub quoted_goes_on : n < length bytes → (get_or bytes n 0 ≡ 34 → ⊥) → (get_or bytes n 0 ≡ 92 → ⊥)
       → longer n (quoted_len (drop n bytes)) ≡ longer (n + 1) (quoted_len (drop (n + 1) bytes))
   quoted_goes_on lt q s = rw (
     drop_more bytes n 0 lt,
-    quoted_plain (get_or bytes n 0) (drop (n + 1) bytes) q s,
-  ) (longer_longer n 1 (quoted_len (drop (n + 1) bytes)))
+    quoted_plain _ _ q s,
+  ) (longer_longer n 1 _)
 
   two : n + 1 < length bytes → drop n bytes ≡ get_or bytes n 0 ∷ get_or bytes (n + 1) 0 ∷ drop (n + 2) bytes
   two lt =
@@ -132,15 +132,15 @@ module _ (bytes : List ℕ) (n : ℕ) where
   pub quoted_skips : n + 1 < length bytes → get_or bytes n 0 ≡ 92 → is_escaped (get_or bytes (n + 1) 0) ≡ true
       → longer n (quoted_len (drop n bytes)) ≡ longer (n + 2) (quoted_len (drop (n + 2) bytes))
   quoted_skips lt s e =
-      rw (two lt, quoted_escape (get_or bytes n 0) (get_or bytes (n + 1) 0) (drop (n + 2) bytes) s e)
-      (longer_longer n 2 (quoted_len (drop (n + 2) bytes)))
+      rw (two lt, quoted_escape _ _ _ s e)
+      (longer_longer n 2 _)
 
   pub quoted_refuses : n + 1 < length bytes → get_or bytes n 0 ≡ 92 → is_escaped (get_or bytes (n + 1) 0) ≡ false
       → quoted_len (drop n bytes) ≡ Err BadEscape
-  quoted_refuses lt s e = rw (two lt) (quoted_bad (get_or bytes n 0) (get_or bytes (n + 1) 0) (drop (n + 2) bytes) s e)
+  quoted_refuses lt s e = rw (two lt) (quoted_bad _ _ _ s e)
 
   pub quoted_is_cut : n + 1 ≡ length bytes → get_or bytes n 0 ≡ 92 → quoted_len (drop n bytes) ≡ Err OpenString
-  quoted_is_cut e s = rw (drop_more bytes n 0 (omega arith), at_drop_all (λ (t : List ℕ). t) bytes (n + 1) (omega arith)) (quoted_cut (get_or bytes n 0) s)
+  quoted_is_cut e s = rw (drop_more bytes n 0 (omega arith), at_drop_all (λ (t : List ℕ). t) bytes (n + 1) (omega arith)) (quoted_cut _ s)
 
   pub quoted_is_open : length bytes ≤ n → quoted_len (drop n bytes) ≡ Err OpenString
   quoted_is_open le = at_drop_all quoted_len bytes n le ∙ quoted_nil
@@ -160,11 +160,11 @@ unfolding raw_len
 raw_nil = refl
 
 pub raw_ends_at : (bytes : List ℕ) (n : ℕ) → n < length bytes → get_or bytes n 0 ≡ 96 → raw_len (drop n bytes) ≡ Ok 1
-raw_ends_at bytes n lt e = rw (drop_more bytes n 0 lt) (raw_end (get_or bytes n 0) (drop (n + 1) bytes) e)
+raw_ends_at bytes n lt e = rw (drop_more bytes n 0 lt) (raw_end _ _ e)
 
 pub raw_goes_on : (bytes : List ℕ) (n : ℕ) → n < length bytes → (get_or bytes n 0 ≡ 96 → ⊥)
     → longer n (raw_len (drop n bytes)) ≡ longer (n + 1) (raw_len (drop (n + 1) bytes))
-raw_goes_on bytes n lt h = rw (drop_more bytes n 0 lt, raw_cons (get_or bytes n 0) (drop (n + 1) bytes) h) (longer_longer n 1 (raw_len (drop (n + 1) bytes)))
+raw_goes_on bytes n lt h = rw (drop_more bytes n 0 lt, raw_cons _ _ h) (longer_longer n 1 _)
 
 pub raw_is_open : (bytes : List ℕ) (n : ℕ) → length bytes ≤ n → raw_len (drop n bytes) ≡ Err OpenString
 raw_is_open bytes n le = at_drop_all raw_len bytes n le ∙ raw_nil

@@ -29,12 +29,12 @@ split_at_last bytes n positive le =
 
 pub trim_less : (bytes : List ℕ) (n : ℕ) → 0 < n → n ≤ length bytes → is_blank (get_or bytes (n - 1) 0) ≡ true
     → trim_end (take (n - 1) bytes) ≡ trim_end (take n bytes)
-trim_less bytes n positive le h = sym (ap trim_end (split_at_last bytes n positive le) ∙ trim_push_blank (take (n - 1) bytes) (get_or bytes (n - 1) 0) h)
+trim_less bytes n positive le h = sym (ap trim_end (split_at_last bytes n positive le) ∙ trim_push_blank _ _ h)
 
 pub trim_done : (bytes : List ℕ) (n : ℕ) → 0 < n → n ≤ length bytes → is_blank (get_or bytes (n - 1) 0) ≡ false → trim_end (take n bytes) ≡ take n bytes
 trim_done bytes n positive le h =
     let e = split_at_last bytes n positive le in
-    ap trim_end e ∙ trim_push_plain (take (n - 1) bytes) (get_or bytes (n - 1) 0) h ∙ sym e
+    ap trim_end e ∙ trim_push_plain _ _ h ∙ sym e
 
 pub trim_empty : (bytes : List ℕ) (n : ℕ) → n ≡ 0 → trim_end (take n bytes) ≡ take n bytes
 trim_empty bytes n e = ap (λ k. trim_end (take k bytes)) e ∙ trim_nil ∙ sym (ap (λ k. take k bytes) e)

@@ -39,7 +39,7 @@ stand_push source line after rest first at n ts t whole is_rest in_range fits h 
     let width : first + at + n - (first + at) ≡ n = omega arith in
     let slice : take (first + at + n - (first + at)) (drop (first + at) source) ≡ t.word.spelling =
     rw (width, from_there, take-append-le n rest after fits, text) refl in
-    stand_append source first (first + at) (first + (at + n)) ts (t ∷ []) h (
+    stand_append source first _ _ ts _ h (
       record { first = first + at; after = first + at + n },
       is_first,
       omega arith,

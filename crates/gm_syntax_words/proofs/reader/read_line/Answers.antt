@@ -23,7 +23,7 @@ returns-in-End-clause-read c = progress_end c.pieces.invariant.progress
 pub split_at-requires : goal.split_at-requires
 split_at-requires c =
     let text = c.as_bytes-in-Comment.ensures.value in
-    trim_boundary c.pieces.rest.now c.trimmed_len.result c.pieces.invariant.utf8
+    trim_boundary _ _ c.pieces.invariant.utf8
     (omega (arith, ap length text, c.trimmed_len.ensures.in_range))
     (rw (← text) c.trimmed_len.ensures.text)
 
@@ -56,7 +56,7 @@ pieces-preserved-in-Blank c =
       progress = rw back (progress_blank c.pieces.invariant.progress same);
       in_range = omega (arith, ap length back, length-drop 1 c.pieces.rest.now, c.pieces.invariant.in_range);
       suffix = rw back (suffix_more _ _ 1 c.pieces.invariant.in_range positive c.pieces.invariant.suffix);
-      placed = λ source after whole. stand_widen _ _ _ _ c.pieces.words.items
+      placed = λ source after whole. stand_widen _ _ _ _ _
           (omega (arith, ap length back, length-drop 1 c.pieces.rest.now))
           (c.pieces.invariant.placed source after whole);
       numbered = c.pieces.invariant.numbered;
@@ -109,7 +109,7 @@ pieces-preserved c =
           (rw c.is_bare-after_bare.ensures
           (progress_word c.pieces.invariant.progress same)));
       in_range = omega (arith, ap length back, length-drop c.in-Word.len c.pieces.rest.now, c.pieces.invariant.in_range);
-      suffix = rw back (suffix_more _ _ c.in-Word.len c.pieces.invariant.in_range fits c.pieces.invariant.suffix);
+      suffix = rw back (suffix_more _ _ _ c.pieces.invariant.in_range fits c.pieces.invariant.suffix);
       placed = λ source after whole.
           rw c.in_ok-push_word-in-Word.ensures
           (subst (λ (k : ℕ). AreSlicesBetween source c.args.first (c.args.first + k)
@@ -137,12 +137,12 @@ pieces-preserved c =
 
 pub returns-in-End-clause-placed : goal.returns-in-End-clause-placed
 returns-in-End-clause-placed c = λ source after whole.
-    stand_widen _ _ _ _ c.pieces.words.items (omega arith)
+    stand_widen _ _ _ _ _ (omega arith)
     (c.pieces.invariant.placed source after whole)
 
 pub returns-in-Comment-clause-placed : goal.returns-in-Comment-clause-placed
 returns-in-Comment-clause-placed c = λ source after whole.
-    stand_widen _ _ _ _ c.pieces.words.items (omega arith)
+    stand_widen _ _ _ _ _ (omega arith)
     (c.pieces.invariant.placed source after whole)
 
 pub returns-in-End-clause-filled : goal.returns-in-End-clause-filled
@@ -155,7 +155,7 @@ returns-in-Comment-clause-filled c =
     rw (← c.as_bytes.ensures.value) (sym c.in-Comment.ensures) in
     let trimmed = subst (λ (l : List ℕ). take c.trimmed_len.result l ≡ trim_end l) c.as_bytes-in-Comment.ensures.value c.trimmed_len.ensures.text in
     let text : c.split_at.result.0.now ≡ trim_end c.pieces.rest.now = c.split_at.ensures.front ∙ trimmed in
-    let is = read_comment None c.args.line.now (words_of c.pieces.words.items) (trim_end c.pieces.rest.now)
+    let is = read_comment None _ _ _
     (progress_comment c.pieces.invariant.progress same).reads in
     fills_comment _ _ _ _ c.pieces.invariant.in_range
     c.pieces.invariant.filled c.split_at.result.0.now (rw text is) text

@@ -10,5 +10,5 @@ pub returns-then-is_plain : goal.returns-then-is_plain
 returns-then-is_plain c =
     let bytes = c.in-Some.ensures.cases.0 in
     ap (Word Bare) (c.bare_len.ensures ∙ ap bare_len bytes)
-    ∙ sym (ap (piece_of c.args.after_bare) bytes ∙ plain_piece c.args.after_bare c.in-Some.first.now c.in-Some.rest.now
+    ∙ sym (ap (piece_of c.args.after_bare) bytes ∙ plain_piece _ _ _
     (sym c.is_plain.ensures ∙ c.if-is_plain.true))

@@ -4,27 +4,27 @@ use Rattle.gm_syntax_words.proofs.scan.plain_end.Goals as goal
 
 pub returns-then-not-is_plain-2-clause-run : goal.returns-then-not-is_plain-2-clause-run
 returns-then-not-is_plain-2-clause-run c =
-    plain_counts c.args.bytes.now c.loop-n.n _ _ (omega arith) (omega arith) (sym c.is_plain.ensures ∙ c.if-not-is_plain.false) c.loop-n.invariant.counted
+    plain_counts _ _ _ _ (omega arith) (omega arith) (sym c.is_plain.ensures ∙ c.if-not-is_plain.false) c.loop-n.invariant.counted
 
 pub returns-then-not-is_plain-3-clause-run : goal.returns-then-not-is_plain-3-clause-run
 returns-then-not-is_plain-3-clause-run c =
-    plain_counts c.args.bytes.now (c.loop-n.n + 1) _ _ (omega arith) (omega arith) (sym c.is_plain-in-loop-n.ensures ∙ c.if-not-is_plain-2.false)
-    (plain_counts c.args.bytes.now c.loop-n.n _ _ (omega arith) (omega arith) (sym c.is_plain.ensures ∙ c.if-not-is_plain.false) c.loop-n.invariant.counted)
+    plain_counts _ _ _ _ (omega arith) (omega arith) (sym c.is_plain-in-loop-n.ensures ∙ c.if-not-is_plain-2.false)
+    (plain_counts _ _ _ _ (omega arith) (omega arith) (sym c.is_plain.ensures ∙ c.if-not-is_plain.false) c.loop-n.invariant.counted)
 
 pub returns-then-not-is_plain-4-clause-run : goal.returns-then-not-is_plain-4-clause-run
 returns-then-not-is_plain-4-clause-run c =
-    plain_counts c.args.bytes.now (c.loop-n.n + 2) _ _ (omega arith) (omega arith) (sym c.is_plain-in-loop-n-2.ensures ∙ c.if-not-is_plain-3.false)
-    (plain_counts c.args.bytes.now (c.loop-n.n + 1) _ _ (omega arith) (omega arith) (sym c.is_plain-in-loop-n.ensures ∙ c.if-not-is_plain-2.false)
-    (plain_counts c.args.bytes.now c.loop-n.n _ _ (omega arith) (omega arith) (sym c.is_plain.ensures ∙ c.if-not-is_plain.false) c.loop-n.invariant.counted))
+    plain_counts _ _ _ _ (omega arith) (omega arith) (sym c.is_plain-in-loop-n-2.ensures ∙ c.if-not-is_plain-3.false)
+    (plain_counts _ _ _ _ (omega arith) (omega arith) (sym c.is_plain-in-loop-n.ensures ∙ c.if-not-is_plain-2.false)
+    (plain_counts _ _ _ _ (omega arith) (omega arith) (sym c.is_plain.ensures ∙ c.if-not-is_plain.false) c.loop-n.invariant.counted))
 
 pub loop-n-preserved : goal.loop-n-preserved
 loop-n-preserved c = record {
   past = omega arith;
   in_range = omega arith;
-  counted = plain_counts c.args.bytes.now (c.loop-n.n + 3) _ _ (omega arith) (omega arith) (sym c.is_plain-in-loop-n-3.ensures ∙ c.if-not-is_plain-4.false)
-      (plain_counts c.args.bytes.now (c.loop-n.n + 2) _ _ (omega arith) (omega arith) (sym c.is_plain-in-loop-n-2.ensures ∙ c.if-not-is_plain-3.false)
-      (plain_counts c.args.bytes.now (c.loop-n.n + 1) _ _ (omega arith) (omega arith) (sym c.is_plain-in-loop-n.ensures ∙ c.if-not-is_plain-2.false)
-      (plain_counts c.args.bytes.now c.loop-n.n _ _ (omega arith) (omega arith)
+  counted = plain_counts _ _ _ _ (omega arith) (omega arith) (sym c.is_plain-in-loop-n-3.ensures ∙ c.if-not-is_plain-4.false)
+      (plain_counts _ _ _ _ (omega arith) (omega arith) (sym c.is_plain-in-loop-n-2.ensures ∙ c.if-not-is_plain-3.false)
+      (plain_counts _ _ _ _ (omega arith) (omega arith) (sym c.is_plain-in-loop-n.ensures ∙ c.if-not-is_plain-2.false)
+      (plain_counts _ _ _ _ (omega arith) (omega arith)
       (sym c.is_plain.ensures ∙ c.if-not-is_plain.false) c.loop-n.invariant.counted)));
 }
 
@@ -32,6 +32,6 @@ pub loop-n-2-preserved : goal.loop-n-2-preserved
 loop-n-2-preserved c = record {
   past = omega arith;
   in_range = omega arith;
-  counted = plain_counts c.args.bytes.now c.loop-n-2.n _ _ (omega arith) (omega arith)
+  counted = plain_counts _ _ _ _ (omega arith) (omega arith)
       (sym c.is_plain-in-loop-n-2-2.ensures ∙ c.if-is_plain.true) c.loop-n-2.invariant.counted;
 }

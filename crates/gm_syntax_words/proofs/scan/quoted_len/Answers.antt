@@ -21,7 +21,7 @@ pub loop-n-preserved-then-b-eq92 : goal.loop-n-preserved-then-b-eq92
 loop-n-preserved-then-b-eq92 c = record {
   in_range = omega arith;
   counted = sym (quoted_skips c.args.bytes.now c.loop-n.n (omega arith) (omega arith)
-      (escape_is (get_or c.args.bytes.now (c.loop-n.n + 1) 0)
+      (escape_is _
       (elim c.else-c-ne34.branch [
         | else-c-ne34-via-then-c-ne34+else-c-ne92 w ↦ inr w.if-c-ne92.false
         | else-c-ne34-via-else-c-ne34 w ↦ inl w.if-c-ne34.false

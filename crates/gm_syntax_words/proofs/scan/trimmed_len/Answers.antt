@@ -6,14 +6,14 @@ pub loop-n-preserved : goal.loop-n-preserved
 loop-n-preserved c = record {
   in_range = omega arith;
   trimmed =
-      trim_less c.args.bytes.now c.loop-n.n (omega arith) c.loop-n.invariant.in_range (sym c.is_blank.ensures ∙ c.if-is_blank.true)
+      trim_less _ _ (omega arith) c.loop-n.invariant.in_range (sym c.is_blank.ensures ∙ c.if-is_blank.true)
       ∙ c.loop-n.invariant.trimmed;
 }
 
 pub returns-else-is_blank-clause-text : goal.returns-else-is_blank-clause-text
 returns-else-is_blank-clause-text c =
-    sym (trim_done c.args.bytes.now c.loop-n.n (omega arith) c.loop-n.invariant.in_range (sym c.is_blank.ensures ∙ c.if-is_blank.false))
+    sym (trim_done _ _ (omega arith) c.loop-n.invariant.in_range (sym c.is_blank.ensures ∙ c.if-is_blank.false))
     ∙ c.loop-n.invariant.trimmed
 
 pub returns-after-loop-n-clause-text : goal.returns-after-loop-n-clause-text
-returns-after-loop-n-clause-text c = sym (trim_empty c.args.bytes.now c.loop-n.n (omega arith)) ∙ c.loop-n.invariant.trimmed
+returns-after-loop-n-clause-text c = sym (trim_empty _ _ (omega arith)) ∙ c.loop-n.invariant.trimmed

@@ -18,7 +18,7 @@ cut_is c = plain_cut _ _ _ (c.split_at.ensures.front ∙ ap (λ n. take n c.args
 
 pub split_at-requires : goal.split_at-requires
 split_at-requires c = rw (c.plain_len.ensures.value ∙ ap plain_len c.as_bytes.ensures.value)
-    (plain_boundary c.args.rest.now c.utf8.rest)
+    (plain_boundary _ c.utf8.rest)
 
 pub returns-then-is_empty-clause-pushed : goal.returns-then-is_empty-clause-pushed
 returns-then-is_empty-clause-pushed c =
@@ -31,8 +31,8 @@ pub split_at-requires-2 : goal.split_at-requires-2
 split_at-requires-2 c =
     let k = (goal.at.split_at-requires-2 c).After-split_at in
     let boundary : IsCharBoundary c.args.rest.now c.plain_len.result =
-    rw (len_is k) (plain_boundary c.args.rest.now c.utf8.rest) in
-    mark_boundary c.split_at.result.1.now (rw c.split_at.ensures.back
+    rw (len_is k) (plain_boundary _ c.utf8.rest) in
+    mark_boundary _ (rw c.split_at.ensures.back
     (cut c.args.rest.now c.plain_len.result c.utf8.rest boundary).1)
     (omega (arith, eqb-false _ 0 (sym c.is_empty.ensures ∙ c.if-is_empty.false))) (cut_is k).marked
 

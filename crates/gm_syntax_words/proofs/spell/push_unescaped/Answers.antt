@@ -19,12 +19,12 @@ cut_is c = plain_cut _ _ _ (c.split_at.ensures.front ∙ ap (λ n. take n c.args
 
 pub split_at-requires : goal.split_at-requires
 split_at-requires c = rw (c.plain_len.ensures.value ∙ ap plain_len c.as_bytes.ensures.value)
-    (plain_boundary c.args.rest.now c.utf8.rest)
+    (plain_boundary _ c.utf8.rest)
 
 after_utf8 : (c : After-split_at) → IsUtf8 c.split_at.result.1.now
 after_utf8 c =
     let boundary : IsCharBoundary c.args.rest.now c.plain_len.result =
-    rw (len_is c) (plain_boundary c.args.rest.now c.utf8.rest) in
+    rw (len_is c) (plain_boundary _ c.utf8.rest) in
     rw c.split_at.ensures.back (cut c.args.rest.now c.plain_len.result c.utf8.rest boundary).1
 
 pub returns-then-is_empty-clause-pushed : goal.returns-then-is_empty-clause-pushed
@@ -38,11 +38,11 @@ returns-then-is_empty-clause-pushed c = λ value e.
 pub split_at-requires-2 : goal.split_at-requires-2
 split_at-requires-2 c =
     let k = (goal.at.split_at-requires-2 c).After-split_at in
-    mark_boundary c.split_at.result.1.now (after_utf8 k) (omega (arith, eqb-false _ 0 (sym c.is_empty.ensures ∙ c.if-is_empty.false))) (cut_is k).marked
+    mark_boundary _ (after_utf8 k) (omega (arith, eqb-false _ 0 (sym c.is_empty.ensures ∙ c.if-is_empty.false))) (cut_is k).marked
 
 here : (c : After-split_at) (value : List ℕ) → c.args.rest.now ≡ escaped_value value
     → 0 < length c.split_at.result.1.now → Escape value c.split_at.result.0.now c.split_at.result.1.now
-here c value e filled = escape_of value c.split_at.result.0.now c.split_at.result.1.now filled (escape_at (cut_is c) value e)
+here c value e filled = escape_of value _ _ filled (escape_at (cut_is c) value e)
 
 pub split_at-requires-3 : goal.split_at-requires-3
 split_at-requires-3 c =
@@ -52,7 +52,7 @@ split_at-requires-3 c =
     let m = next_marked (here k c.requires.is_escaped.0 c.requires.is_escaped.1 filled) c.split_at-2.ensures.back in
     let utf8 : IsUtf8 c.split_at-2.result.1.now = rw c.split_at-2.ensures.back
     (cut after 1 (after_utf8 k) (mark_boundary after (after_utf8 k) filled (cut_is k).marked)).1 in
-    mark_boundary c.split_at-2.result.1.now utf8 m.0 m.1
+    mark_boundary _ utf8 m.0 m.1
 
 pub returns-clause-pushed : goal.returns-clause-pushed
 returns-clause-pushed c = λ value e.

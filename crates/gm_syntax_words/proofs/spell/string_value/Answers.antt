@@ -6,18 +6,18 @@ use Rattle.gm_syntax_words.proofs.spell.string_value.Goals as goal
 use Rattle.gm_syntax_words.proofs.spell.string_value.Goals.{After-split_at-2}
 
 whole : (c : After-split_at-2) → Inside c.args.text.now c.split_at.result.1.now c.split_at-2.result.0.now c.requires.0
-whole c = inside_at c.args.text.now c.requires.0 c.split_at.result.1.now c.split_at-2.result.0.now c.requires.1
+whole c = inside_at _ _ _ _ c.requires.1
     c.split_at.ensures.back c.split_at-2.ensures.front
 
 pub split_at-requires : goal.split_at-requires
-split_at-requires c = first_boundary c.args.text.now _ _ _ (inside_at c.args.text.now c.requires.0 _ _ c.requires.1 refl refl) c.utf8.text
+split_at-requires c = first_boundary _ _ _ _ (inside_at _ _ _ _ c.requires.1 refl refl) c.utf8.text
 
 pub split_at-requires-2 : goal.split_at-requires-2
 split_at-requires-2 c =
     let rest = c.split_at.result.1.now in
-    let i = inside_at c.args.text.now c.requires.0 rest (take (length rest - 1) rest) c.requires.1 c.split_at.ensures.back refl in
-    let utf8 : IsUtf8 rest = rw c.split_at.ensures.back (cut c.args.text.now 1 c.utf8.text (first_boundary c.args.text.now _ _ _ i c.utf8.text)).1 in
-    last_boundary c.args.text.now rest _ _ i utf8
+    let i = inside_at _ _ rest _ c.requires.1 c.split_at.ensures.back refl in
+    let utf8 : IsUtf8 rest = rw c.split_at.ensures.back (cut c.args.text.now 1 c.utf8.text (first_boundary _ _ _ _ i c.utf8.text)).1 in
+    last_boundary _ rest _ _ i utf8
 
 pub returns-then-as_bytes-eq96 : goal.returns-then-as_bytes-eq96
 returns-then-as_bytes-eq96 c = raw_string _ _ _ _ (whole (goal.at.returns-then-as_bytes-eq96 c).After-split_at-2)

@@ -11,14 +11,14 @@ returns-then-can_be_bare-clause-is_new c =
     let can : can_be_bare c.args.value.now ≡ true = cc in
     record {
       bare = λ h. ap (own_word Bare) c.in_ok-from_str.ensures.ok;
-      quoted = λ h. absurd (h (is_bare_word c.args.value.now can));
+      quoted = λ h. absurd (h (is_bare_word _ can));
     }
 
 pub returns-clause-is_new : goal.returns-clause-is_new
 returns-clause-is_new c =
     let cannot : can_be_bare c.args.value.now ≡ false = cc in
     record {
-      bare = λ h. absurd (true≢false (sym (bare_word_is c.args.value.now h) ∙ cannot));
+      bare = λ h. absurd (true≢false (sym (bare_word_is _ h) ∙ cannot));
       quoted = λ h. ap (own_word Text) c.in_ok-quoted.ensures;
     }
 
@@ -36,4 +36,4 @@ pub invariant_of-result : goal.invariant_of-result
 invariant_of-result c =
     let can : can_be_bare c.args.value.now ≡ true = cc in
     rw c.in_ok-from_str.ensures.ok
-    (c.args.value.now, (is_bare_word c.args.value.now can, refl))
+    (c.args.value.now, (is_bare_word _ can, refl))
