@@ -36,7 +36,7 @@ pub exclusion-added : (mode : Mode) (old : Fields) (now : Exclusions) (pair : Mo
     → OnOk result (now.lines.items ≡ old.excludes.lines.items ++ pair ∷ [])
     → IfErr result (λ fault. fault ≡ line.NoMemory) → IsAdded mode old (record old { excludes = now }) (Excludes pair) result
 unfolding directive_kinds
-exclusion-added mode old now pair (Ok u) early lines memory = λ ds holds. (rw lines (say-exclusion holds pair), early)
+exclusion-added mode old now pair (Ok u) early lines memory = λ ds holds. (rw lines (say-exclusion holds _), early)
 exclusion-added mode old now pair (Err line.NoMemory) early lines memory = tt
 exclusion-added mode old now pair (Err (line.Kind kind)) early lines memory = absurd (cc memory)
 
@@ -46,9 +46,8 @@ pub replacing-added : (mode : Mode) (old : Fields) (now : Replacements) (r : Rep
     → ReportsConflict r (replace_views old.replaces.lines.items) result
     → IsAdded mode old (record old { replaces = now }) (Replaces r) result
 replacing-added mode old now r (Ok u) early lines conflict = λ ds holds. (
-  rw lines (say-replacing holds r),
-  replace-right mode ds r early (ap (list_any (is_conflict r)) holds.replaces_are ∙ conflict),
+  rw lines (say-replacing holds _),
+  replace-right _ _ _ early (ap (list_any (is_conflict r)) holds.replaces_are ∙ conflict),
 )
 replacing-added mode old now r (Err fault) early lines conflict =
-    conflict-reported mode old (record old { replaces = now }) r (replace_views old.replaces.lines.items) fault early
-    (λ ds holds. holds.replaces_are) conflict
+    conflict-reported _ old (record old { replaces = now }) _ _ _ early (λ ds holds. holds.replaces_are) conflict

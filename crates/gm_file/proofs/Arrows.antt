@@ -1,5 +1,5 @@
 -- The two sides of a replace, split at the first arrow.
-use Rattle.std.proofs.Common.{◌≡◌, ℕ, ◌+◌, ◌-◌, ◌<◌, Bool, not, List, [], ◌∷◌, ◌++◌, length, map, take, drop, Option, Some, Err, inl, inr, refl, sym, ap, subst, ◌∙◌, arith}
+use Rattle.std.proofs.Common.{◌≡◌, ℕ, ◌+◌, ◌-◌, ◌<◌, Bool, not, List, [], ◌∷◌, ◌++◌, length, map, take, drop, Option, Some, Err, inl, inr, refl, sym, ap, ◌∙◌, arith}
 use Rattle.std.proofs.Math.ListN.{drop_of_length-le}
 use Rattle.std.proofs.lemmas.Bool.{cases_Bool}
 use Rattle.std.proofs.lemmas.List.{drop-drop, drop-map, take-map, take_rest}
@@ -30,21 +30,20 @@ arrow-place tokens n e = e ∙ length-prefix_len (λ t. not (is_arrow t.word)) t
 
 pub before-arrow : (tokens front : List Placed) (n : ℕ) → n ≡ length (take_while (λ t. not (is_arrow t.word)) tokens)
     → front ≡ take n tokens → words_of front ≡ before_first is_arrow (words_of tokens)
-before-arrow tokens front n e is =
-    rw (is, sym (take-map (λ t. t.word) n tokens)) (ap (λ k. take k (words_of tokens)) (arrow-place tokens n e))
+before-arrow tokens front n e is = rw (is, sym (take-map (λ t. t.word) n tokens)) (rw (arrow-place tokens n e))
 
 rest-after : (tokens rest : List Placed) (n : ℕ) → n ≡ length (take_while (λ t. not (is_arrow t.word)) tokens)
     → rest ≡ drop n tokens → words_of (drop 1 rest) ≡ after_first is_arrow (words_of tokens)
 rest-after tokens rest n e is =
-    rw (is, drop-drop 1 n tokens, sym (drop-map (λ t. t.word) (n + 1) tokens)) (ap (λ k. drop (k + 1) (words_of tokens)) (arrow-place tokens n e))
+    rw (is, drop-drop 1 n tokens, sym (drop-map (λ t. t.word) (n + 1) tokens)) (rw (arrow-place tokens n e))
 
 pub after-arrow : (tokens rest : List Placed) (n : ℕ) → n ≡ length (take_while (λ t. not (is_arrow t.word)) tokens) → rest ≡ drop n tokens
     → words_of (take (length rest - 1) (drop 1 rest)) ≡ after_first is_arrow (words_of tokens)
-after-arrow tokens rest n e is = ap words_of (take_rest rest 1) ∙ rest-after tokens rest n e is
+after-arrow tokens rest n e is = ap words_of (take_rest _ 1) ∙ rest-after _ _ _ e is
 
 pub no-arrow_before : (tokens rest : List Placed) (n : ℕ) → n ≡ length (take_while (λ t. not (is_arrow t.word)) tokens)
     → rest ≡ drop n tokens → length rest < 1 → after_first is_arrow (words_of tokens) ≡ []
-no-arrow_before tokens rest n e is short = sym (rest-after tokens rest n e is) ∙ ap words_of (drop_of_length-le rest {i = 1} (omega (arith, short)))
+no-arrow_before tokens rest n e is short = sym (rest-after _ _ _ e is) ∙ ap words_of (drop_of_length-le rest {i = 1} (omega (arith, short)))
 
 pub first-append : {X : Type 0} (xs ys : List X) (x : X) → first xs ≡ Some x → first (xs ++ ys) ≡ Some x
 first-append [] ys x e = cc e
@@ -60,7 +59,7 @@ right-version-fault left path version p q v (line.Kind k) is-p sound-p is-q soun
     let e : left.path ≡ p = cc in
     let f : path ≡ q = cc in
     let g : left.version ≡ v = cc in
-    rw (e, f, g, sound-p, sound-q, sound-v) (first-append (version_kinds version) _ k told)
+    rw (e, f, g, sound-p, sound-q, sound-v) (first-append _ _ _ told)
 
 -- ---- the faults of the two sides, in the order in which the parts are read
 
@@ -73,19 +72,14 @@ module _ (left : Left) (path version : List ℕ) where
       → IsPartRead replace_view WrongArguments replacing_kinds (Some (replacing left (Module path version))) (Err fault)
   left-path-fault line.NoMemory told = tt
   left-path-fault (line.Kind k) told =
-      first-append (before-right-version ++ version_kinds version) _ k
-      (first-append before-right-version (version_kinds version) k
-      (first-append (path_kinds left.path ++ path_kinds path) (left_version_kinds left.version) k
-      (first-append (path_kinds left.path) (path_kinds path) k told)))
+      first-append _ _ _ (first-append _ _ _ (first-append _ _ _ (first-append _ _ _ told)))
 
   pub right-path-fault : (fault : LineFault) → path_kinds left.path ≡ []
       → IsPartRead {X = List ℕ} {Y = List ℕ} (λ x. x) WrongArguments path_kinds (Some path) (Err fault)
       → IsPartRead replace_view WrongArguments replacing_kinds (Some (replacing left (Module path version))) (Err fault)
   right-path-fault line.NoMemory sound told = tt
   right-path-fault (line.Kind k) sound told =
-      rw sound (first-append (path_kinds path ++ left_version_kinds left.version ++ version_kinds version) _ k
-      (first-append (path_kinds path ++ left_version_kinds left.version) (version_kinds version) k
-      (first-append (path_kinds path) (left_version_kinds left.version) k told)))
+      rw sound (first-append _ _ _ (first-append _ _ _ (first-append _ _ _ told)))
 
   pub left-version-fault : (fault : LineFault) → path_kinds left.path ≡ [] → path_kinds path ≡ []
       → IsPartRead {X = Option (List ℕ)} {Y = Option (List ℕ)} (λ x. x) WrongArguments left_version_kinds
@@ -93,11 +87,10 @@ module _ (left : Left) (path version : List ℕ) where
       → IsPartRead replace_view WrongArguments replacing_kinds (Some (replacing left (Module path version))) (Err fault)
   left-version-fault line.NoMemory sound-p sound-q told = tt
   left-version-fault (line.Kind k) sound-p sound-q told =
-      rw (sound-p, sound-q) (first-append (left_version_kinds left.version ++ version_kinds version) _ k
-      (first-append (left_version_kinds left.version) (version_kinds version) k told))
+      rw (sound-p, sound-q) (first-append _ _ _ (first-append _ _ _ told))
 
 -- a part without faults, by what its reader says
 pub sound-part : {X : Type 0} (kinds : X → List DirectiveKind) (part read : X) → Some part ≡ Some read → kinds read ≡ [] → kinds part ≡ []
 sound-part {X} kinds part read same sound =
     let e : part ≡ read = cc in
-    subst (λ (x : X). kinds x ≡ []) (sym e) sound
+    rw e sound

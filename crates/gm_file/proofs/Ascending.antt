@@ -25,10 +25,10 @@ upto_trans a b c one other = ap not (upto by_parts a b c (not-true _ one) (not-t
 turned : (r s : Ordering) → s ≡ ordering_reverse r → not (is_gt r) ≡ false → not (is_gt s) ≡ true
 turned Less s e above = cc above
 turned Equal s e above = cc above
-turned Greater s e above = ap (λ o. not (is_gt o)) e
+turned Greater s e above = rw e
 
 pub upto_back : (a b : List ℕ) → is_at_most a b ≡ false → is_at_most b a ≡ true
-upto_back a b above = turned (precedence (parts_in a) (parts_in b)) (precedence (parts_in b) (parts_in a)) (by_parts.antisymm b a) above
+upto_back a b above = turned _ _ (by_parts.antisymm b a) above
 
 less_first : (r s : Ordering) → ordering_then r s ≡ Less → not (is_gt r) ≡ true
 less_first Less s e = refl
@@ -45,8 +45,8 @@ first_not_less Greater s t e = refl
 
 reversed : (r s : Ordering) → s ≡ ordering_reverse r → is_lt r ≡ false → not (is_gt s) ≡ true
 reversed Less s e above = cc above
-reversed Equal s e above = ap (λ o. not (is_gt o)) e
-reversed Greater s e above = ap (λ o. not (is_gt o)) e
+reversed Equal s e above = rw e
+reversed Greater s e above = rw e
 
 -- the order of ends: by the low end, and then by the high end
 abbrev ends_cmp : Ends → Ends → Ordering
@@ -56,8 +56,7 @@ ends_total : IsTotalOrder ends_cmp
 ends_total = then_total (on_total (λ (e : Ends). e.low.now) version_total) (on_total (λ (e : Ends). e.high.now) version_total)
 
 not_below : (a b : Ends) → is_lt (ends_cmp b a) ≡ false → is_at_most a.low.now b.low.now ≡ true
-not_below a b e = reversed (precedence (parts_in b.low.now) (parts_in a.low.now)) (precedence (parts_in a.low.now) (parts_in b.low.now))
-    (by_parts.antisymm a.low.now b.low.now) (first_not_less _ _ _ e)
+not_below a b e = reversed _ _ (by_parts.antisymm a.low.now b.low.now) (first_not_less _ _ _ e)
 
 all_above : (low : List ℕ) (xs : List Ends) → ((j : ℕ) (d : Ends) → j < length xs → is_at_most low (slice_index_or xs j d).low.now ≡ true)
     → AllByRecursion (λ other. is_at_most low other.0 ≡ true) (map ends_view xs)
@@ -77,16 +76,16 @@ ascend_from (x ∷ xs) above = (
 pub sorted_from : (intervals : List VersionInterval) (found sorted : List Ends) → map ends_view found ≡ intervals → IsPermutation found sorted
     → IsSorted ends_cmp sorted → AreSorted (map ends_view sorted) intervals
 sorted_from intervals found sorted same moved ordered = record {
-  ascend = ascend_from sorted (λ i j d order within. not_below (slice_index_or sorted i d) (slice_index_or sorted j d)
-      (sorted_far (λ x y. is_lt (ends_cmp x y)) (ranks_by ends_total (λ (e : Ends). e)) sorted ordered i j d order within));
+  ascend = ascend_from _ (λ i j d order within. not_below (slice_index_or sorted i d) (slice_index_or sorted j d)
+      (sorted_far (λ x y. is_lt (ends_cmp x y)) (ranks_by ends_total (λ (e : Ends). e)) _ ordered _ _ d order within));
   same = λ version. sym (subst (λ ps. list_any (holds_version version) ps ≡ list_any (holds_version version) (map ends_view sorted)) same
-      (list_any-IsPermutation (holds_version version) _ _ (IsPermutation-map ends_view found sorted moved)));
+      (list_any-IsPermutation _ _ _ (IsPermutation-map ends_view found sorted moved)));
 }
 
 -- the higher of two ends
 pub farther_kept : (reach high version : List ℕ) → is_at_most high reach ≡ true
     → is_at_most version reach ≡ (is_at_most version reach || is_at_most version high)
-farther_kept reach high version below = by_test (is_at_most version reach) (is_at_most version high) (λ e. upto_trans version high reach e below)
+farther_kept reach high version below = by_test _ _ (λ e. upto_trans version high reach e below)
   where
     by_test : (a b : Bool) → (b ≡ true → a ≡ true) → a ≡ (a || b)
     by_test true b f = refl
@@ -95,8 +94,7 @@ farther_kept reach high version below = by_test (is_at_most version reach) (is_a
 
 pub farther_new : (reach high version : List ℕ) → is_at_most high reach ≡ false
     → is_at_most version high ≡ (is_at_most version reach || is_at_most version high)
-farther_new reach high version above = by_test (is_at_most version reach) (is_at_most version high)
-    (λ e. upto_trans version reach high e (upto_back high reach above))
+farther_new reach high version above = by_test _ _ (λ e. upto_trans version reach high e (upto_back high reach above))
   where
     by_test : (a b : Bool) → (a ≡ true → b ≡ true) → b ≡ (a || b)
     by_test true b f = f refl

@@ -1,5 +1,5 @@
 -- The steps of reading a dependency's file from its bytes.
-use Rattle.std.proofs.Common.{◌≡◌, ℕ, ◌+◌, List, [], ◌∷◌, ◌++◌, length, Option, Some, None, Ok, Err, inl, inr, refl, sym, ap, subst, ◌∙◌, arith, Bor}
+use Rattle.std.proofs.Common.{◌≡◌, ℕ, ◌+◌, List, [], ◌∷◌, ◌++◌, length, Option, Some, None, Ok, Err, inl, inr, refl, sym, ap, ◌∙◌, arith, Bor}
 use Rattle.std.proofs.lemmas.List.{length-append, length-map, map-append, map_push}
 use Rattle.std.specs.Prelude.{unwrap_or}
 use Rattle.std.specs.Option.{option_copied, option_map}
@@ -40,7 +40,7 @@ word-behind (Some t) = refl
 
 -- before the first line
 pub dep-none : (fields : Fields) → Holds Lax [] fields → HaveIndexes fields → AreDepLines [] (record { block = None; fields = fields })
-dep-none fields holds found = read-none Lax fields holds found
+dep-none fields holds found = read-none _ _ holds found
 
 -- one more line without a fault
 pub dep-more : (lines : List (Line Word)) (here : Line Word) (block : Option Word) (old new : DepLines)
@@ -49,18 +49,17 @@ pub dep-more : (lines : List (Line Word)) (here : Line Word) (block : Option Wor
     → word_of new.block ≡ block_after_line (word_of old.block) here
     → AreDepLines (lines ++ here ∷ []) new
 dep-more lines here block old new so is found added after =
-    let read : AreReadTo Lax lines block old.fields = subst (λ (b : Option Word). AreReadTo Lax lines b old.fields) (sym is) so in
-    let now : word_of new.block ≡ block_after_line block here = after ∙ ap (λ (b : Option Word). block_after_line b here) (sym is) in
-    subst (λ (b : Option Word). AreReadTo Lax (lines ++ here ∷ []) b new.fields) (sym now)
-    (read-more Lax lines block here old.fields new.fields read found added)
+    let read : AreReadTo Lax lines block old.fields = rw is so in
+    let now : word_of new.block ≡ block_after_line block here = after ∙ rw (← is) in
+    rw now (read-more _ _ _ _ _ _ read found added)
 
 -- the next line has a fault
 pub dep-fault : (lines : List (Line Word)) (here : Line Word) (block : Option Word) (old : DepLines) (new : Fields)
     (fault : LineFault) → AreDepLines lines old → block ≡ word_of old.block
     → IsLineAdded Lax old.fields new (item_at (block, here)) (Err fault) → HasNextFault lines here fault
 dep-fault lines here block old new fault so is told = λ later.
-    let read : AreReadTo Lax lines block old.fields = subst (λ (b : Option Word). AreReadTo Lax lines b old.fields) (sym is) so in
-    fault-reported Lax lines block here later ((lines ++ here ∷ []) ++ later) (length lines + 1) old.fields new fault read refl refl told
+    let read : AreReadTo Lax lines block old.fields = rw is so in
+    fault-reported _ _ _ _ _ _ _ _ new _ read refl refl told
 
 -- a fault of the text comes first
 pub misread-syntax : (mode : Mode) (bytes : List ℕ) (fault : SyntaxFault) → IsParsedAs bytes (Err fault) → IsBytesFault mode bytes (fault_by_syntax fault)
@@ -71,8 +70,8 @@ misread-syntax mode bytes (syntax.Syntax number kind) is = is
 
 -- that fault, or that memory ran out
 pub misread-text : (mode : Mode) (bytes : List ℕ) (fault : SyntaxFault) → IsFaultOrNoMemory bytes fault → IsBytesFault mode bytes (fault_by_syntax fault)
-misread-text mode bytes fault (inl is) = misread-syntax mode bytes fault is
-misread-text mode bytes fault (inr none) = subst (λ (f : SyntaxFault). IsBytesFault mode bytes (fault_by_syntax f)) (sym none) tt
+misread-text mode bytes fault (inl is) = misread-syntax _ _ _ is
+misread-text mode bytes fault (inr none) = rw none tt
 
 -- a fault of the directives of bytes that are a document
 pub misread-file : (mode : Mode) (bytes : List ℕ) (lines : List (Line Placed)) (fault : FileFault)
@@ -90,8 +89,8 @@ misread-line left lines here number (line.Kind kind) is told rest =
     let same : length (plain_lines lines) + 1 ≡ number = omega (arith, is, length-append lines (here ∷ []), length-map lines plain) in (
       (lines ++ here ∷ []) ++ rest.0,
       rest.2,
-      ap (fault_of Lax) (map-append plain (lines ++ here ∷ []) rest.0 ∙ ap (λ (ls : List (Line Word)). ls ++ plain_lines rest.0) (map_push plain lines here))
-          ∙ told (plain_lines rest.0) ∙ ap (λ (n : ℕ). Some (n, kind)) same,
+      ap (fault_of Lax) (map-append _ _ _ ∙ ap (λ (ls : List (Line Word)). ls ++ plain_lines rest.0) (map_push _ _ _))
+          ∙ told (plain_lines rest.0) ∙ rw same,
     )
 
 -- all lines have been read
@@ -100,8 +99,8 @@ pub dep-whole : (bytes : List ℕ) (said : DepLines) (file : Dependency) → Are
 dep-whole bytes said file all is = (
   all.0,
   all.1,
-  lax-sound (plain_lines all.0) said.fields all.2.read,
-  sym (is ∙ dependency-is (plain_lines all.0) said.fields (unwrap_or said.fields.go (1, 16)) all.2.read refl),
+  lax-sound _ _ all.2.read,
+  sym (is ∙ dependency-is _ _ _ all.2.read refl),
 )
 
 -- a line that says nothing but may open or close a block, without a fault
@@ -110,5 +109,4 @@ pub level-more : (lines : List (Line Word)) (here : Line Word) (item : Item) (ol
     → IsLineAdded Lax old.fields old.fields item (Ok tt) → word_of block ≡ block_after_line (word_of old.block) here
     → AreDepLines (lines ++ here ∷ []) (record old { block = block })
 level-more lines here item old block is so added after =
-    dep-more lines here (word_of old.block) old (record old { block = block }) so refl so.read.found
-    (subst (λ (i : Item). IsLineAdded Lax old.fields old.fields i (Ok tt)) (sym is) added) after
+    dep-more _ _ _ _ _ so refl so.read.found (rw is added) after

@@ -4,7 +4,7 @@ use Rattle.std.specs.Option.{option_map}
 use Rattle.gm_syntax_words.specs.Words.{Word}
 use Rattle.gm_file.specs.declared.verb.Verb.{Verb}
 use Rattle.gm_file.specs.declared.verb.Verb.TheVariants.{Module as ForModule, Go as ForGo, Require as ForRequire, Exclude as ForExclude, Replace as ForReplace, Retract as ForRetract, Nothing as ForNothing, Unknown}
-use Rattle.gm_file.specs.Directives.{Directive, DeclaresModule, DeclaresGo, Requires, Excludes, Replaces, Retracts, directive_of, ends_of, one_of, pair_of, replacing_of, verb_eq, verb_of_directive}
+use Rattle.gm_file.specs.Directives.{Directive, directive_of, verb_eq, verb_of_directive}
 
 pub same-verb : (one other : Verb) → verb_eq one other ≡ true → one ≡ other
 same-verb ForModule ForModule e = refl
@@ -34,12 +34,12 @@ mapped make verb (Some x) d says e = let is : make x ≡ d = cc in sym (ap verb_
 
 pub directive-verb : (verb : Verb) (words : List Word) (d : Directive) → directive_of verb words ≡ Some d → verb_of_directive d ≡ verb
 unfolding directive_of
-directive-verb ForModule words d e = mapped DeclaresModule ForModule (one_of words) d (λ x. refl) e
-directive-verb ForGo words d e = mapped DeclaresGo ForGo (one_of words) d (λ x. refl) e
-directive-verb ForRequire words d e = mapped Requires ForRequire (pair_of words) d (λ x. refl) e
-directive-verb ForExclude words d e = mapped Excludes ForExclude (pair_of words) d (λ x. refl) e
-directive-verb ForReplace words d e = mapped Replaces ForReplace (replacing_of words) d (λ x. refl) e
-directive-verb ForRetract words d e = mapped Retracts ForRetract (ends_of words) d (λ x. refl) e
+directive-verb ForModule words d e = mapped _ _ _ _ (λ x. refl) e
+directive-verb ForGo words d e = mapped _ _ _ _ (λ x. refl) e
+directive-verb ForRequire words d e = mapped _ _ _ _ (λ x. refl) e
+directive-verb ForExclude words d e = mapped _ _ _ _ (λ x. refl) e
+directive-verb ForReplace words d e = mapped _ _ _ _ (λ x. refl) e
+directive-verb ForRetract words d e = mapped _ _ _ _ (λ x. refl) e
 directive-verb ForNothing words d e = let is = same-some e in sym (ap verb_of_directive is)
   where
     same-some : {x y : Directive} → Some x ≡ Some y → x ≡ y

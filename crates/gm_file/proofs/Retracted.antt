@@ -1,6 +1,6 @@
 -- The retractions of a dependency's file.
-use Rattle.std.proofs.Common.{◌≡◌, ℕ, ◌||◌, Bool, true, false, List, [], ◌∷◌, ◌++◌, length, codes, Option, Some, None, Ok, refl, sym, ap, subst, ◌∙◌}
-use Rattle.std.specs.Prelude.{◌==◌, if◌then◌else◌, option_and_then}
+use Rattle.std.proofs.Common.{◌≡◌, ℕ, Bool, true, false, List, [], ◌∷◌, ◌++◌, codes, Option, Some, None, Ok, refl, sym, ap, ◌∙◌}
+use Rattle.std.specs.Prelude.{if◌then◌else◌, option_and_then}
 use Rattle.std.specs.Option.{option_map, option_to_list}
 use Rattle.std.proofs.lemmas.List.Elements.{filter_map-append}
 use Rattle.std.specs.Cmp.Lexicographic.{same_text}
@@ -14,8 +14,7 @@ use Rattle.gm_syntax.specs.LineViews.{plain, plain_lines}
 use Rattle.std.proofs.lemmas.List.{map_push}
 use Rattle.gm_file.specs.declared.verb.Verb.{Verb}
 use Rattle.gm_file.specs.declared.verb.Verb.TheVariants.{Module as ForModule, Go as ForGo, Require as ForRequire, Exclude as ForExclude, Replace as ForReplace, Retract as ForRetract, Nothing as ForNothing, Unknown}
-use Rattle.gm_file.specs.Directives.{Strict, VersionInterval, Directive, DeclaresModule, DeclaresGo, Requires, Excludes, Replaces, Retracts, Item, Saying, block_after_lines, block_after_line, directive_in, directive_of, directives, ends_of, item_at, main_verb, one_of, pair_of, replacing_of}
-use Rattle.gm_file.specs.declared.fault.DirectiveKind.{DirectiveKind}
+use Rattle.gm_file.specs.Directives.{Strict, VersionInterval, Directive, DeclaresModule, DeclaresGo, Requires, Excludes, Replaces, Retracts, Item, Saying, block_after_lines, block_after_line, directive_in, directive_of, directives, item_at, main_verb, one_of, pair_of, replacing_of}
 use Rattle.gm_file.specs.declared.fault.DirectiveKind.TheVariants.{WrongArguments}
 use Rattle.gm_file.specs.declared.fault.LineFault.TheVariants as line
 use Rattle.gm_file.specs.Faults.{ends_kinds}
@@ -61,14 +60,12 @@ verb-by false false false false false false = refl
 
 not-retract : (text : List ℕ) → bytes_eq text (codes "retract") ≡ false → is_retract (main_verb text) ≡ false
 not-retract text e =
-    rw e (verb-by (bytes_eq text (codes "module")) (bytes_eq text (codes "go")) (bytes_eq text (codes "require"))
-    (bytes_eq text (codes "exclude")) (bytes_eq text (codes "replace"))
-    (bytes_eq text (codes "toolchain") || bytes_eq text (codes "godebug") || bytes_eq text (codes "tool") || bytes_eq text (codes "ignore")))
+    rw e (verb-by _ _ _ _ _ _)
 
 -- an entry with another verb retracts nothing
 pub other-retracts : (item : Item) (verb : List ℕ) (words : List Word) → item ≡ Saying verb words
     → bytes_eq verb (codes "retract") ≡ false → None ≡ retraction_at item
-other-retracts item verb words is other = sym (ap retraction_at is ∙ other-verb (main_verb verb) words (not-retract verb other))
+other-retracts item verb words is other = sym (ap retraction_at is ∙ other-verb _ words (not-retract verb other))
 
 and-map : (o : Option VersionInterval) → option_and_then valid_interval (option_map Retracts o) ≡ option_and_then valid_ends o
 and-map None = refl
@@ -79,12 +76,12 @@ pub retract-retracts : (item : Item) (verb : List ℕ) (words : List Word) → i
     → bytes_eq verb (codes "retract") ≡ true → retraction_in words ≡ retraction_at item
 unfolding directive_of
 retract-retracts item verb words is same =
-    let e : verb ≡ codes "retract" = same_text verb (codes "retract") (sym same) in
-    sym (ap retraction_at is ∙ ap (λ (v : List ℕ). retraction_at (Saying v words)) e ∙ and-map (ends_of words))
+    let e : verb ≡ codes "retract" = same_text _ _ (sym same) in
+    sym (ap retraction_at is ∙ rw e (and-map _))
 
 to-list : (o : Option Directive) → filter_map valid_interval (option_to_list o) ≡ option_to_list (option_and_then valid_interval o)
 to-list None = refl
-to-list (Some d) = by (valid_interval d)
+to-list (Some d) = by _
   where
     by : (o : Option VersionInterval) → cons_option o [] ≡ option_to_list o
     by None = refl
@@ -95,19 +92,17 @@ retracts-snoc : (lines : List (Line Word)) (line : Line Word)
     → lax_retracts_of (lines ++ line ∷ []) ≡ lax_retracts_of lines
     ++ option_to_list (retraction_at (item_at (block_after_lines None lines, line)))
 retracts-snoc lines line =
-    ap (filter_map valid_interval) (said-once Strict lines line)
+    ap (filter_map valid_interval) (said-once Strict _ _)
     ∙ filter_map-append valid_interval (directives Strict lines) (option_to_list (directive_in Strict (item_at (block_after_lines None lines, line))))
-    ∙ ap (λ (ps : List VersionInterval). lax_retracts_of lines ++ ps) (to-list (directive_in Strict (item_at (block_after_lines None lines, line))))
+    ∙ rw (to-list _)
 
 -- after one more line
 pub retracted-more : (lines : List (Line Word)) (block : Option Word) (line : Line Word)
     (intervals more : List VersionInterval) → AreRetracted lines block intervals
     → more ≡ intervals ++ option_to_list (retraction_at (item_at (block, line))) → AreRetracted (lines ++ line ∷ []) (block_after_line block line) more
 retracted-more lines block line intervals more so is = record {
-  open_is = ap (λ (b : Option Word). block_after_line b line) so.open_is ∙ sym (block-snoc None lines line);
-  are = is ∙ ap (λ (ps : List VersionInterval). ps ++ option_to_list (retraction_at (item_at (block, line)))) so.are
-      ∙ ap (λ (b : Option Word). lax_retracts_of lines ++ option_to_list (retraction_at (item_at (b, line)))) so.open_is
-      ∙ sym (retracts-snoc lines line);
+  open_is = rw so.open_is (sym (block-snoc None lines line));
+  are = is ∙ rw so.are (rw so.open_is (sym (retracts-snoc _ _)));
 }
 
 pub retractions-more : (lines : List (Line Word)) (here : Line Word) (block : Option Word) (old new : Retractions)
@@ -117,9 +112,9 @@ pub retractions-more : (lines : List (Line Word)) (here : Line Word) (block : Op
 retractions-more lines here block old new so is added after =
     let intervals = interval_views old.intervals.items in
     let more = interval_views new.intervals.items in
-    let before : AreRetracted lines block intervals = subst (λ (b : Option Word). AreRetracted lines b intervals) (sym is) so in
-    let now : word_of new.block ≡ block_after_line block here = after ∙ ap (λ (b : Option Word). block_after_line b here) (sym is) in
-    subst (λ (b : Option Word). AreRetracted (lines ++ here ∷ []) b more) (sym now) (retracted-more lines block here intervals more before added)
+    let before : AreRetracted lines block intervals = rw is so in
+    let now : word_of new.block ≡ block_after_line block here = after ∙ rw (← is) in
+    rw now (retracted-more _ _ _ _ _ before added)
 
 -- some lines of a text have been read, and these are their retractions
 abbrev pub AreRetractedSofar : Unread → Retractions → Type 0
@@ -128,12 +123,10 @@ AreRetractedSofar left said = (lines : List (Line Placed)) × HasRead left lines
 -- after one more line
 pub retracted-sofar : (left : Unread) (lines : List (Line Placed)) (here : Line Placed) (said : Retractions) → HasRead left (lines ++ here ∷ [])
     → AreRetractionsOf (plain_lines lines ++ plain here ∷ []) said → AreRetractedSofar left said
-retracted-sofar left lines here said read so =
-    (lines ++ here ∷ [], read, subst (λ (ls : List (Line Word)). AreRetractionsOf ls said) (sym (map_push plain lines here)) so)
+retracted-sofar left lines here said read so = (lines ++ here ∷ [], read, rw (map_push _ _ _) so)
 
 -- an interval that was read
 pub ends-read : (part : Option VersionInterval) (interval : Interval)
     → IsPartRead interval_view WrongArguments ends_kinds part (Ok interval)
     → Some (interval_view interval) ≡ option_and_then valid_ends part
-ends-read part interval read =
-    sym (ap (option_and_then valid_ends) read.0 ∙ ap (λ (ks : List DirectiveKind). if length ks == 0 then Some (interval_view interval) else None) read.1)
+ends-read part interval read = sym (ap (option_and_then valid_ends) read.0 ∙ rw read.1)

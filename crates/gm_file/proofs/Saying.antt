@@ -20,25 +20,25 @@ use Rattle.gm_name.proofs.Logic.{or-false}
 
 -- a directive that gives nothing to a field leaves it unchanged
 skip : {Y : Type 0} (h : Directive → Option Y) (ds : List Directive) (d : Directive) → h d ≡ None → filter_map h (ds ++ d ∷ []) ≡ filter_map h ds
-skip {Y} h ds d e = filter_map-append h ds (d ∷ []) ∙ ap (λ (o : Option Y). filter_map h ds ++ cons_option o []) e ∙ append-nil (filter_map h ds)
+skip {Y} h ds d e = filter_map-append h _ _ ∙ ap (λ (o : Option Y). filter_map h ds ++ cons_option o []) e ∙ append-nil (filter_map h ds)
 
 put : {Y : Type 0} (h : Directive → Option Y) (ds : List Directive) (d : Directive) (y : Y) → h d ≡ Some y
     → filter_map h (ds ++ d ∷ []) ≡ filter_map h ds ++ y ∷ []
-put {Y} h ds d y e = filter_map-append h ds (d ∷ []) ∙ ap (λ (o : Option Y). filter_map h ds ++ cons_option o []) e
+put {Y} h ds d y e = filter_map-append h _ _ ∙ ap (λ (o : Option Y). filter_map h ds ++ cons_option o []) e
 
 or-true : (a : Bool) → (a || (true || false)) ≡ true
 or-true true = refl
 or-true false = refl
 
 pass : (p : Directive → Bool) (ds : List Directive) (d : Directive) → p d ≡ false → list_any p (ds ++ d ∷ []) ≡ list_any p ds
-pass p ds d e = list_any-append p ds (d ∷ []) ∙ ap (λ (b : Bool). list_any p ds || (b || false)) e ∙ or-false (list_any p ds)
+pass p ds d e = list_any-append p ds (d ∷ []) ∙ rw e (or-false _)
 
 hit : (p : Directive → Bool) (ds : List Directive) (d : Directive) → p d ≡ true → list_any p (ds ++ d ∷ []) ≡ true
-hit p ds d e = list_any-append p ds (d ∷ []) ∙ ap (λ (b : Bool). list_any p ds || (b || false)) e ∙ or-true (list_any p ds)
+hit p ds d e = list_any-append p ds (d ∷ []) ∙ rw e (or-true _)
 
-first-new : {X : Type 0} (xs : List X) (x : X) → first xs ≡ None → first (xs ++ x ∷ []) ≡ Some x
-first-new [] x e = refl
-first-new (y ∷ xs) x e = cc e
+first-new : {X : Type 0} (xs : List X) {x : X} → first xs ≡ None → first (xs ++ x ∷ []) ≡ Some x
+first-new [] e = refl
+first-new (y ∷ xs) e = cc e
 
 none-by : {X : Type 0} (o : Option X) (b rest : Bool) (xs : List X) → b ≡ is_some o → (b || rest) ≡ false
     → (rest ≡ false → first xs ≡ None) → first (cons_option o xs) ≡ None
@@ -50,7 +50,7 @@ none-by (Some x) false rest xs s e later = absurd (cc s)
 none-first : {X : Type 0} (h : Directive → Option X) (p : Directive → Bool) → ((d : Directive) → p d ≡ is_some (h d))
     → (ds : List Directive) → list_any p ds ≡ false → first (filter_map h ds) ≡ None
 none-first h p same [] e = refl
-none-first h p same (d ∷ ds) e = none-by (h d) (p d) (list_any p ds) (filter_map h ds) (same d) e (none-first h p same ds)
+none-first h p same (d ∷ ds) e = none-by _ _ _ _ (same d) e (none-first h p same ds)
 
 is_go-given : (d : Directive) → is_go d ≡ is_some (as_go d)
 is_go-given (DeclaresModule path) = refl
@@ -73,95 +73,58 @@ is_module-given Kept = refl
 module _ {mode : Mode} {ds : List Directive} {declared : Option (List ℕ)} {go : Option (ℕ × ℕ)}
     {requirements excludes : List ModuleVersion} {replaces : List Replacing} {retracts : List VersionInterval}
     (say : HaveFields mode ds declared go requirements excludes replaces retracts) where
-  -- a directive that gives nothing to any field leaves all of them unchanged
-  pub say-kept : HaveFields mode (ds ++ Kept ∷ []) declared go requirements excludes replaces retracts
-  say-kept = record {
-    declared_is = ap first (skip as_module ds Kept refl) ∙ say.declared_is;
-    is_declared = pass is_module ds Kept refl ∙ say.is_declared;
-    go_is = ap (λ (ts : List (List ℕ)). option_and_then (go_in mode) (first ts)) (skip as_go ds Kept refl) ∙ say.go_is;
-    is_given = pass is_go ds Kept refl ∙ say.is_given;
-    requirements_are = skip as_requirement ds Kept refl ∙ say.requirements_are;
-    excludes_are = skip as_exclusion ds Kept refl ∙ say.excludes_are;
-    replaces_are = skip as_replacing ds Kept refl ∙ say.replaces_are;
-    retracts_are = skip as_interval ds Kept refl ∙ say.retracts_are;
+  -- the fields with one more directive, given what then is known of the module and of the go version
+  abbrev With : Directive → Option (List ℕ) → Option (ℕ × ℕ) → Type 0
+  With d path numbers = HaveFields mode (ds ++ d ∷ []) path numbers (requirements ++ cons_option (as_requirement d) [])
+      (excludes ++ cons_option (as_exclusion d) []) (replaces ++ cons_option (as_replacing d) []) (retracts ++ cons_option (as_interval d) [])
+
+  say-more : (d : Directive) (path : Option (List ℕ)) (numbers : Option (ℕ × ℕ)) → first (filter_map as_module (ds ++ d ∷ [])) ≡ path
+      → list_any is_module (ds ++ d ∷ []) ≡ is_some path → option_and_then (go_in mode) (first (filter_map as_go (ds ++ d ∷ []))) ≡ numbers
+      → list_any is_go (ds ++ d ∷ []) ≡ is_some numbers → With d path numbers
+  say-more d path numbers declared_is is_declared go_is is_given = record {
+    declared_is = declared_is;
+    is_declared = is_declared;
+    go_is = go_is;
+    is_given = is_given;
+    requirements_are = filter_map-append as_requirement ds (d ∷ []) ∙ rw say.requirements_are;
+    excludes_are = filter_map-append as_exclusion ds (d ∷ []) ∙ rw say.excludes_are;
+    replaces_are = filter_map-append as_replacing ds (d ∷ []) ∙ rw say.replaces_are;
+    retracts_are = filter_map-append as_interval ds (d ∷ []) ∙ rw say.retracts_are;
   }
+
+  -- a directive that says neither leaves both unchanged
+  say-entry : (d : Directive) → as_module d ≡ None → is_module d ≡ false → as_go d ≡ None → is_go d ≡ false → With d declared go
+  say-entry d no_path no_module no_text no_go = say-more d declared go (rw (skip as_module ds d no_path) say.declared_is)
+      (pass is_module ds d no_module ∙ say.is_declared) (rw (skip as_go ds d no_text) say.go_is) (pass is_go ds d no_go ∙ say.is_given)
+
+  pub say-kept : HaveFields mode (ds ++ Kept ∷ []) declared go requirements excludes replaces retracts
+  say-kept = simp append-nil at (say-entry Kept refl refl refl refl)
 
   pub say-requirement : (p : ModuleVersion) → HaveFields mode (ds ++ Requires p ∷ []) declared go (requirements ++ p ∷ []) excludes replaces retracts
-  say-requirement p = let d = Requires p in record {
-    declared_is = ap first (skip as_module ds d refl) ∙ say.declared_is;
-    is_declared = pass is_module ds d refl ∙ say.is_declared;
-    go_is = ap (λ (ts : List (List ℕ)). option_and_then (go_in mode) (first ts)) (skip as_go ds d refl) ∙ say.go_is;
-    is_given = pass is_go ds d refl ∙ say.is_given;
-    requirements_are = put as_requirement ds d p refl ∙ ap (λ (ps : List ModuleVersion). ps ++ p ∷ []) say.requirements_are;
-    excludes_are = skip as_exclusion ds d refl ∙ say.excludes_are;
-    replaces_are = skip as_replacing ds d refl ∙ say.replaces_are;
-    retracts_are = skip as_interval ds d refl ∙ say.retracts_are;
-  }
+  say-requirement p = simp append-nil at (say-entry (Requires p) refl refl refl refl)
 
   pub say-exclusion : (p : ModuleVersion) → HaveFields mode (ds ++ Excludes p ∷ []) declared go requirements (excludes ++ p ∷ []) replaces retracts
-  say-exclusion p = let d = Excludes p in record {
-    declared_is = ap first (skip as_module ds d refl) ∙ say.declared_is;
-    is_declared = pass is_module ds d refl ∙ say.is_declared;
-    go_is = ap (λ (ts : List (List ℕ)). option_and_then (go_in mode) (first ts)) (skip as_go ds d refl) ∙ say.go_is;
-    is_given = pass is_go ds d refl ∙ say.is_given;
-    requirements_are = skip as_requirement ds d refl ∙ say.requirements_are;
-    excludes_are = put as_exclusion ds d p refl ∙ ap (λ (ps : List ModuleVersion). ps ++ p ∷ []) say.excludes_are;
-    replaces_are = skip as_replacing ds d refl ∙ say.replaces_are;
-    retracts_are = skip as_interval ds d refl ∙ say.retracts_are;
-  }
+  say-exclusion p = simp append-nil at (say-entry (Excludes p) refl refl refl refl)
 
   pub say-replacing : (r : Replacing) → HaveFields mode (ds ++ Replaces r ∷ []) declared go requirements excludes (replaces ++ r ∷ []) retracts
-  say-replacing r = let d = Replaces r in record {
-    declared_is = ap first (skip as_module ds d refl) ∙ say.declared_is;
-    is_declared = pass is_module ds d refl ∙ say.is_declared;
-    go_is = ap (λ (ts : List (List ℕ)). option_and_then (go_in mode) (first ts)) (skip as_go ds d refl) ∙ say.go_is;
-    is_given = pass is_go ds d refl ∙ say.is_given;
-    requirements_are = skip as_requirement ds d refl ∙ say.requirements_are;
-    excludes_are = skip as_exclusion ds d refl ∙ say.excludes_are;
-    replaces_are = put as_replacing ds d r refl ∙ ap (λ (rs : List Replacing). rs ++ r ∷ []) say.replaces_are;
-    retracts_are = skip as_interval ds d refl ∙ say.retracts_are;
-  }
+  say-replacing r = simp append-nil at (say-entry (Replaces r) refl refl refl refl)
 
   pub say-interval : (ends : VersionInterval) → HaveFields mode (ds ++ Retracts ends ∷ []) declared go requirements excludes replaces (retracts ++ ends ∷ [])
-  say-interval ends = let d = Retracts ends in record {
-    declared_is = ap first (skip as_module ds d refl) ∙ say.declared_is;
-    is_declared = pass is_module ds d refl ∙ say.is_declared;
-    go_is = ap (λ (ts : List (List ℕ)). option_and_then (go_in mode) (first ts)) (skip as_go ds d refl) ∙ say.go_is;
-    is_given = pass is_go ds d refl ∙ say.is_given;
-    requirements_are = skip as_requirement ds d refl ∙ say.requirements_are;
-    excludes_are = skip as_exclusion ds d refl ∙ say.excludes_are;
-    replaces_are = skip as_replacing ds d refl ∙ say.replaces_are;
-    retracts_are = put as_interval ds d ends refl ∙ ap (λ (ps : List VersionInterval). ps ++ ends ∷ []) say.retracts_are;
-  }
+  say-interval ends = simp append-nil at (say-entry (Retracts ends) refl refl refl refl)
 
   pub say-module : (path : List ℕ) → is_some declared ≡ false
       → HaveFields mode (ds ++ DeclaresModule path ∷ []) (Some path) go requirements excludes replaces retracts
-  say-module path none = let d = DeclaresModule path in record {
-    declared_is = ap first (put as_module ds d path refl)
-        ∙ first-new (filter_map as_module ds) path (none-first as_module is_module is_module-given ds
-        (say.is_declared ∙ none));
-    is_declared = hit is_module ds d refl;
-    go_is = ap (λ (ts : List (List ℕ)). option_and_then (go_in mode) (first ts)) (skip as_go ds d refl) ∙ say.go_is;
-    is_given = pass is_go ds d refl ∙ say.is_given;
-    requirements_are = skip as_requirement ds d refl ∙ say.requirements_are;
-    excludes_are = skip as_exclusion ds d refl ∙ say.excludes_are;
-    replaces_are = skip as_replacing ds d refl ∙ say.replaces_are;
-    retracts_are = skip as_interval ds d refl ∙ say.retracts_are;
-  }
+  say-module path none = let d = DeclaresModule path in
+      let none_yet = none-first as_module is_module is_module-given ds (say.is_declared ∙ none) in
+      simp append-nil at (say-more d (Some path) go (rw (put as_module ds d path refl) (first-new (filter_map as_module ds) none_yet))
+      (hit is_module ds d refl) (rw (skip as_go ds d refl) say.go_is) (pass is_go ds d refl ∙ say.is_given))
 
   pub say-go : (text : List ℕ) (numbers : ℕ × ℕ) → is_some go ≡ false → go_in mode text ≡ Some numbers
       → HaveFields mode (ds ++ DeclaresGo text ∷ []) declared (Some numbers) requirements excludes replaces retracts
-  say-go text numbers none read = let d = DeclaresGo text in record {
-    declared_is = ap first (skip as_module ds d refl) ∙ say.declared_is;
-    is_declared = pass is_module ds d refl ∙ say.is_declared;
-    go_is = ap (λ (ts : List (List ℕ)). option_and_then (go_in mode) (first ts)) (put as_go ds d text refl)
-        ∙ ap (option_and_then (go_in mode)) (first-new (filter_map as_go ds) text (none-first as_go is_go is_go-given ds (say.is_given ∙ none))) ∙ read;
-    is_given = hit is_go ds d refl;
-    requirements_are = skip as_requirement ds d refl ∙ say.requirements_are;
-    excludes_are = skip as_exclusion ds d refl ∙ say.excludes_are;
-    replaces_are = skip as_replacing ds d refl ∙ say.replaces_are;
-    retracts_are = skip as_interval ds d refl ∙ say.retracts_are;
-  }
+  say-go text numbers none read = let d = DeclaresGo text in
+      let none_yet = none-first as_go is_go is_go-given ds (say.is_given ∙ none) in
+      simp append-nil at (say-more d declared (Some numbers) (rw (skip as_module ds d refl) say.declared_is) (pass is_module ds d refl ∙ say.is_declared)
+      (rw (put as_go ds d text refl, first-new (filter_map as_go ds) none_yet) read) (hit is_go ds d refl))
 
 -- ---- faults after earlier directives
 
@@ -171,25 +134,25 @@ conflicts-lines r (DeclaresModule path ∷ ds) = conflicts-lines r ds
 conflicts-lines r (DeclaresGo text ∷ ds) = conflicts-lines r ds
 conflicts-lines r (Requires p ∷ ds) = conflicts-lines r ds
 conflicts-lines r (Excludes p ∷ ds) = conflicts-lines r ds
-conflicts-lines r (Replaces other ∷ ds) = ap (λ (b : Bool). is_conflict r other || b) (conflicts-lines r ds)
+conflicts-lines r (Replaces other ∷ ds) = rw (conflicts-lines r ds)
 conflicts-lines r (Retracts ends ∷ ds) = conflicts-lines r ds
 conflicts-lines r (Kept ∷ ds) = conflicts-lines r ds
 
-none-behind : (kinds : List DirectiveKind) (b : Bool) (kind : DirectiveKind) → kinds ≡ [] → b ≡ false → kinds ++ unless (not b) kind ≡ []
-none-behind kinds b kind none e = rw (none, e) refl
+none-behind : {kinds : List DirectiveKind} {b : Bool} (kind : DirectiveKind) → kinds ≡ [] → b ≡ false → kinds ++ unless (not b) kind ≡ []
+none-behind kind none e = rw (none, e) refl
 
-one-behind : (kinds : List DirectiveKind) (b : Bool) (kind : DirectiveKind) → kinds ≡ [] → b ≡ true → first (kinds ++ unless (not b) kind) ≡ Some kind
-one-behind kinds b kind none e = rw (none, e) refl
+one-behind : {kinds : List DirectiveKind} {b : Bool} {kind : DirectiveKind} → kinds ≡ [] → b ≡ true → first (kinds ++ unless (not b) kind) ≡ Some kind
+one-behind none e = rw (none, e) refl
 
 pub module-right : (mode : Mode) (ds : List Directive) (path : List ℕ) → path_kinds path ≡ []
     → list_any is_module ds ≡ false → directive_kinds mode ds (DeclaresModule path) ≡ []
 unfolding directive_kinds
-module-right mode ds path early none = none-behind (path_kinds path) (list_any is_module ds) Repeated early none
+module-right mode ds path early none = none-behind _ early none
 
 pub module-repeated : (mode : Mode) (ds : List Directive) (path : List ℕ) → path_kinds path ≡ []
     → list_any is_module ds ≡ true → first (directive_kinds mode ds (DeclaresModule path)) ≡ Some Repeated
 unfolding directive_kinds
-module-repeated mode ds path early some = one-behind (path_kinds path) (list_any is_module ds) Repeated early some
+module-repeated mode ds path early some = one-behind early some
 
 pub go-right : (mode : Mode) (ds : List Directive) (text : List ℕ) (numbers : ℕ × ℕ) → list_any is_go ds ≡ false
     → go_in mode text ≡ Some numbers → directive_kinds mode ds (DeclaresGo text) ≡ []
@@ -209,13 +172,13 @@ go-bad mode ds text none unread = rw (none, unread) refl
 pub replace-right : (mode : Mode) (ds : List Directive) (r : Replacing) → own_kinds (Replaces r) ≡ []
     → list_any (is_conflict r) (filter_map as_replacing ds) ≡ false → directive_kinds mode ds (Replaces r) ≡ []
 unfolding directive_kinds
-replace-right mode ds r early none = none-behind (own_kinds (Replaces r)) (list_any (conflicts r) ds) ConflictingReplace early (conflicts-lines r ds ∙ none)
+replace-right mode ds r early none = none-behind ConflictingReplace early (conflicts-lines r ds ∙ none)
 
 pub replace-conflicts : (mode : Mode) (ds : List Directive) (r : Replacing) → own_kinds (Replaces r) ≡ []
     → list_any (is_conflict r) (filter_map as_replacing ds) ≡ true
     → first (directive_kinds mode ds (Replaces r)) ≡ Some ConflictingReplace
 unfolding directive_kinds
-replace-conflicts mode ds r early some = one-behind (own_kinds (Replaces r)) (list_any (conflicts r) ds) ConflictingReplace early (conflicts-lines r ds ∙ some)
+replace-conflicts mode ds r early some = one-behind early (conflicts-lines r ds ∙ some)
 
 -- the result of adding a replace that conflicts with an earlier one
 pub conflict-reported : (mode : Mode) (old new : Fields) (r : Replacing) (replaces : List Replacing) (fault : LineFault) → own_kinds (Replaces r) ≡ []
@@ -223,4 +186,4 @@ pub conflict-reported : (mode : Mode) (old new : Fields) (r : Replacing) (replac
     → ReportsConflict r replaces (Err fault) → IsAdded mode old new (Replaces r) (Err fault)
 conflict-reported mode old new r replaces line.NoMemory early are told = tt
 conflict-reported mode old new r replaces (line.Kind kind) early are told = λ ds holds.
-    replace-conflicts mode ds r early (ap (list_any (is_conflict r)) (are ds holds) ∙ told.1) ∙ ap Some (sym told.0)
+    replace-conflicts _ _ _ early (ap (list_any (is_conflict r)) (are ds holds) ∙ told.1) ∙ ap Some (sym told.0)

@@ -1,9 +1,8 @@
 -- The set of excluded versions after one more line.
-use Rattle.std.proofs.Common.{◌≡◌, ◌||◌, Bool, true, false, cond, List, [], ◌∷◌, ◌++◌, refl, sym, ap, ◌∙◌}
+use Rattle.std.proofs.Common.{◌≡◌, ◌||◌, Bool, true, false, cond, List, [], ◌∷◌, ◌++◌, refl, sym, ◌∙◌}
 use Rattle.std.proofs.lemmas.List.Folds.{list_any-append}
 use Rattle.std.specs.BTreeSet as set
 use Rattle.std.specs.List.{list_any}
-use Rattle.std.specs.Ordering.{is_eq}
 use Rattle.gm_name.specs.ModuleVersion.{ModuleVersion, pair_cmp, pair_eq, pair_ties}
 
 or-by : (b c d : Bool) → b ≡ d → cond b true c ≡ (c || (d || false))
@@ -20,6 +19,5 @@ pub set-with : (old new : set.BTreeSet ModuleVersion) (lines : List ModuleVersio
     → set.Updates pair_cmp old new p true
     → (q : ModuleVersion) → set.contains pair_cmp new q ≡ list_any (λ y. pair_eq y q) (lines ++ p ∷ [])
 set-with old new lines p same updates q =
-    updates.0 q ∙ ap (λ (c : Bool). cond (is_eq (pair_cmp p q)) true c) (same q)
-    ∙ or-by (is_eq (pair_cmp p q)) (list_any (λ y. pair_eq y q) lines) (pair_eq p q) (sym (pair_ties p q))
-    ∙ sym (list_any-append (λ y. pair_eq y q) lines (p ∷ []))
+    updates.0 q ∙ rw (same q) (or-by _ (list_any (λ y. pair_eq y q) lines) _ (sym (pair_ties p q))
+    ∙ sym (list_any-append (λ y. pair_eq y q) lines (p ∷ [])))

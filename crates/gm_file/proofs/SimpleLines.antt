@@ -1,5 +1,5 @@
 -- Lines that are read without a list of words, in a block of `require` and outside blocks.
-use Rattle.std.proofs.Common.{◌≡◌, ℕ, true, false, List, [], ◌∷◌, ◌++◌, codes, Option, Some, None, Result, Ok, Err, is_some, OnOk, refl, sym, ap, subst, append-nil}
+use Rattle.std.proofs.Common.{◌≡◌, ℕ, true, false, List, [], ◌∷◌, ◌++◌, codes, Option, Some, None, Result, Ok, Err, is_some, OnOk, refl, sym, subst, append-nil}
 use Rattle.std.specs.Prelude.{IfSome}
 use Rattle.std.proofs.lemmas.List.{map_push}
 use Rattle.std.specs.Str.{bytes_eq}
@@ -39,7 +39,7 @@ pub require-added : (old : Fields) (now : Requirements) (path version : List ℕ
     → IsLineAdded Lax old (record old { requirements = now }) (require_item path version) result
 unfolding directive_of directive_kinds
 require-added old now path version (Ok u) items told = λ ds holds.
-    (rw items (say-requirement holds (path, version)), told.1)
+    (rw items (say-requirement holds _), told.1)
 require-added old now path version (Err line.NoMemory) items told = tt
 require-added old now path version (Err (line.Kind kind)) items told = λ ds holds. told
 
@@ -54,7 +54,7 @@ pub pair-in-block : (block : Option Placed) (path version : List ℕ) (suffix : 
     → item_at (word_of block, pair_line path version suffix) ≡ require_item path version
 unfolding item_at
 pair-in-block None path version suffix spelled e = absurd (cc e)
-pair-in-block (Some verb) path version suffix spelled e = ap (λ (text : List ℕ). Saying text (bare_word path ∷ bare_word version ∷ [])) spelled
+pair-in-block (Some verb) path version suffix spelled e = rw spelled
 
 pub pair-outside : (block : Option Placed) (verb value : List ℕ) (suffix : Option (List ℕ)) → is_some block ≡ false
     → item_at (word_of block, pair_line verb value suffix) ≡ single_item verb value
@@ -74,8 +74,7 @@ triple-in-block : (block : Option Placed) (path version : List ℕ) (suffix : Op
     → first (item_kinds Lax ds (item_at (word_of block, triple_line (codes "require") path version suffix))) ≡ Some WrongArguments
 unfolding item_at directive_of
 triple-in-block None path version suffix spelled e ds = absurd (cc e)
-triple-in-block (Some verb) path version suffix spelled e ds =
-    ap (λ (text : List ℕ). first (item_kinds Lax ds (Saying text (bare_word (codes "require") ∷ bare_word path ∷ bare_word version ∷ [])))) spelled
+triple-in-block (Some verb) path version suffix spelled e ds = rw spelled
 
 -- ---- the lines with one more
 
@@ -84,23 +83,21 @@ pub triple-refused : (lines : List (Line Word)) (path version : List ℕ) (suffi
     → HasNextFault lines (triple_line (codes "require") path version suffix) (line.Kind WrongArguments)
 triple-refused lines path version suffix old takes opened so =
     dep-fault lines (triple_line (codes "require") path version suffix) (word_of old.block) old old.fields (line.Kind WrongArguments) so refl
-    (λ ds holds. triple-in-block old.block path version suffix takes opened ds)
+    (λ ds holds. triple-in-block _ _ _ _ takes opened _)
 
 module _ (lines : List (Line Word)) (path version : List ℕ) (words : List Word) (suffix : Option (List ℕ)) (old : DepLines)
     (item : item_at (word_of old.block, Entry words suffix) ≡ require_item path version) (so : AreDepLines lines old) where
-  requires-more : (fields : Fields) → HaveIndexes fields
+  requires-more : {fields : Fields} → HaveIndexes fields
       → IsLineAdded Lax old.fields fields (require_item path version) (Ok tt)
       → AreDepLines (lines ++ Entry words suffix ∷ []) (record old { fields = fields })
-  requires-more fields found added =
+  requires-more found added =
       let here : Line Word = Entry words suffix in
-      dep-more lines here (word_of old.block) old (record old { fields = fields }) so refl found
-      (subst (λ (i : Item). IsLineAdded Lax old.fields fields i (Ok tt)) (sym item) added) refl
+      dep-more _ _ _ _ _ so refl found (rw item added) refl
 
   requires-fault : (new : Fields) (fault : LineFault) → IsLineAdded Lax old.fields new (require_item path version)
       (Err fault) → HasNextFault lines (Entry words suffix) fault
   requires-fault new fault told =
-      dep-fault lines (Entry words suffix) (word_of old.block) old new fault so refl
-      (subst (λ (i : Item). IsLineAdded Lax old.fields new i (Err fault)) (sym item) told)
+      dep-fault _ _ _ _ new _ so refl (subst (λ (i : Item). IsLineAdded Lax old.fields new i (Err fault)) (sym item) told)
 
   -- a requirement is added, or refused
   pub required-next : (now : Requirements) (result : Result (Unit {0}) LineFault) → HaveIndexes old.fields
@@ -108,11 +105,10 @@ module _ (lines : List (Line Word)) (path version : List ℕ) (words : List Word
       → IsPartRead {Y = Unit {0}} (λ _. (path, version)) WrongArguments pair_kinds (Some (path, version)) result
       → IsNextLineOf lines (Entry words suffix) (record old { fields = record old.fields { requirements = now } }) result
   required-next now (Ok u) found items told =
-      requires-more (record old.fields { requirements = now })
-      (record { excludes = found.excludes; replaces = found.replaces })
-      (require-added old.fields now path version (Ok u) items told)
+      requires-more (record { excludes = found.excludes; replaces = found.replaces })
+      (require-added old.fields now path version (Ok _) items told)
   required-next now (Err fault) found items told =
-      requires-fault (record old.fields { requirements = now }) fault (require-added old.fields now path version (Err fault) items told)
+      requires-fault (record old.fields { requirements = now }) _ (require-added old.fields now path version (Err fault) items told)
 
 -- ---- outside blocks
 
@@ -142,18 +138,17 @@ pub single-bad : (old new : Fields) (verb value : List ℕ) (fault : LineFault) 
     → IsLineAdded Lax old new (single_item verb value) (Err fault)
 unfolding directive_of directive_kinds
 single-bad old new verb value line.NoMemory is told = tt
-single-bad old new verb value (line.Kind kind) is told = rw is (λ ds holds. first-append (path_kinds value) _ kind told)
+single-bad old new verb value (line.Kind kind) is told = rw is (λ ds holds. first-append _ _ _ told)
 
 pub single-next : (lines : List (Line Word)) (verb value : List ℕ) (suffix : Option (List ℕ)) (old : DepLines)
     (new : Fields) (result : Result (Unit {0}) LineFault) → is_some old.block ≡ false → AreDepLines lines old
     → OnOk result (HaveIndexes new) → IsLineAdded Lax old.fields new (single_item verb value) result
     → IsNextLineOf lines (pair_line verb value suffix) (record old { fields = new }) result
 single-next lines verb value suffix old new (Ok u) none so found added =
-    dep-more lines (pair_line verb value suffix) (word_of old.block) old (record old { fields = new }) so refl found
-    (subst (λ (i : Item). IsLineAdded Lax old.fields new i (Ok tt)) (sym (pair-outside old.block verb value suffix none)) added) refl
+    dep-more _ _ _ _ _ so refl found (rw (pair-outside _ _ _ _ none) added) refl
 single-next lines verb value suffix old new (Err fault) none so found told =
-    dep-fault lines (pair_line verb value suffix) (word_of old.block) old new fault so refl
-    (subst (λ (i : Item). IsLineAdded Lax old.fields new i (Err fault)) (sym (pair-outside old.block verb value suffix none)) told)
+    dep-fault _ _ _ _ new _ so refl
+    (subst (λ (i : Item). IsLineAdded Lax old.fields new i (Err fault)) (sym (pair-outside _ _ _ _ none)) told)
 
 -- ---- a simple line that has been read after others
 
@@ -169,45 +164,39 @@ closing-item : (block : Option Word) → item_at (block, Close None) ≡ Silent
 unfolding item_at
 closing-item block = refl
 
-same-fields : (fields : Fields) (ds : List Directive) → Holds Lax ds fields → Holds Lax (ds ++ []) fields
-same-fields fields ds holds = subst (λ (all : List Directive). Holds Lax all fields) (sym (append-nil ds)) holds
+same-fields : (fields : Fields) {ds : List Directive} → Holds Lax ds fields → Holds Lax (ds ++ []) fields
+same-fields fields {ds} holds = rw (append-nil ds) holds
 
 module _ (lines : List (Line Placed)) (left : Unread) (said : DepLines) (so : AreDepLines (plain_lines lines) said) where
   pub blank-said : HasRead left (lines ++ Blank ∷ []) → IsLineSaid left lines said (Ok tt)
   blank-said read = (
     Blank,
     read,
-    level-more (plain_lines lines) Blank Silent said said.block (blank-item (word_of said.block)) so
-        (λ ds holds. (same-fields said.fields ds holds, refl)) refl,
+    level-more _ _ _ _ _ (blank-item _) so (λ ds holds. (same-fields said.fields holds, refl)) refl,
   )
 
   pub opening-said : (verb : Placed) → verb.word.spelling ≡ codes "require" → IsOpeningRead left lines verb
       → IsLineSaid left lines (record said { block = Some verb }) (Ok tt)
   opening-said verb spelled (suffix, read) =
-      let kinds : opening_kinds (verb_in Lax verb.word.spelling) ≡ [] = ap (λ (text : List ℕ). opening_kinds (verb_in Lax text)) spelled in (
+      let kinds : opening_kinds (verb_in Lax verb.word.spelling) ≡ [] = rw spelled in (
         Open verb suffix,
         read,
-        level-more (plain_lines lines) (Open verb.word suffix) (Opening verb.word.spelling) said (Some verb)
-            (opening-item (word_of said.block) verb.word suffix) so
-            (λ ds holds. (same-fields said.fields ds holds, kinds)) refl,
+        level-more _ _ _ _ (Some verb) (opening-item _ _ _) so (λ ds holds. (same-fields said.fields holds, kinds)) refl,
       )
 
   pub closing-said : HasRead left (lines ++ Close None ∷ []) → IsLineSaid left lines (record said { block = None }) (Ok tt)
   closing-said read = (
     Close None,
     read,
-    level-more (plain_lines lines) (Close None) Silent said None (closing-item (word_of said.block)) so
-        (λ ds holds. (same-fields said.fields ds holds, refl)) refl,
+    level-more _ _ _ _ None (closing-item _) so (λ ds holds. (same-fields said.fields holds, refl)) refl,
   )
 
 -- a line of words, whatever its comment
 pub words-said : (lines : List (Line Placed)) (left : Unread) (words : Option (List ℕ) → Line Word) (new : DepLines) (result : Result (Unit {0}) LineFault)
     → ((suffix : Option (List ℕ)) → IsNextLineOf (plain_lines lines) (words suffix) new result)
     → (here : Line Placed) × (suffix : Option (List ℕ)) × (plain here ≡ words suffix) × HasRead left (lines ++ here ∷ []) → IsLineSaid left lines new result
-words-said lines left words new result told (here, suffix, is, read) =
-    (here, read, subst (λ (l : Line Word). IsNextLineOf (plain_lines lines) l new result) (sym is) (told suffix))
+words-said lines left words new result told (here, suffix, is, read) = (here, read, rw is (told suffix))
 
 -- one more line has been said
 pub sofar-more : (left : Unread) (lines : List (Line Placed)) (said : DepLines) → IsLineSaid left lines said (Ok tt) → AreReadSofar left said
-sofar-more left lines said (here, read, so) =
-    (lines ++ here ∷ [], read, subst (λ (ls : List (Line Word)). AreDepLines ls said) (sym (map_push plain lines here)) so)
+sofar-more left lines said (here, read, so) = (lines ++ here ∷ [], read, rw (map_push _ _ _) so)

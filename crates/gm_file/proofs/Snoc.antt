@@ -12,13 +12,13 @@ pub with_blocks-snoc : {W : Type 0} (block : Option W) (lines more : List (Line 
     → with_blocks_from block (lines ++ more) ≡ with_blocks_from block lines
     ++ with_blocks_from (block_after_lines block lines) more
 with_blocks-snoc block [] more = refl
-with_blocks-snoc block (line ∷ lines) more = ap (λ ss. (block, line) ∷ ss) (with_blocks-snoc (block_after_line block line) lines more)
+with_blocks-snoc block (line ∷ lines) more = rw (with_blocks-snoc (block_after_line block line) lines more)
 
 before-snoc : {X : Type 0} (before xs : List X) (x : X) → with_before_from before (xs ++ x ∷ []) ≡ with_before_from before xs ++ (before ++ xs, x) ∷ []
 before-snoc before [] x = ap (λ b. (b, x) ∷ []) (sym (append-nil before))
 before-snoc {X} before (y ∷ xs) x =
-    ap (λ (r : List (List X × X)). (before, y) ∷ r) (before-snoc (before ++ y ∷ []) xs x
-    ∙ ap (λ (b : List X). with_before_from (before ++ y ∷ []) xs ++ (b, x) ∷ []) (append_assoc before (y ∷ []) xs))
+    rw (before-snoc (before ++ y ∷ []) xs x
+    ∙ ap (λ (b : List X). with_before_from (before ++ y ∷ []) xs ++ (b, x) ∷ []) (append_assoc before _ _))
 
 pub length-with_blocks : {W : Type 0} (block : Option W) (lines : List (Line W)) → length (with_blocks_from block lines) ≡ length lines
 length-with_blocks block [] = refl
@@ -28,8 +28,7 @@ length-with_blocks block (line ∷ lines) = ap suc (length-with_blocks (block_af
 pub directives-snoc : (mode : Mode) (lines : List (Line Word)) (line : Line Word)
     → directives mode (lines ++ line ∷ []) ≡ directives mode lines ++ filter_map (directive_said mode) ((block_after_lines None lines, line) ∷ [])
 directives-snoc mode lines line =
-    ap (filter_map (directive_said mode)) (with_blocks-snoc None lines (line ∷ []))
-    ∙ filter_map-append (directive_said mode) (with_blocks lines) ((block_after_lines None lines, line) ∷ [])
+    ap (filter_map (directive_said mode)) (with_blocks-snoc None _ _) ∙ filter_map-append (directive_said mode) _ _
 
 -- the faults after one more line: those of the lines before it, and then its own
 pub faults-snoc : (mode : Mode) (lines : List (Line Word)) (line : Line Word)
@@ -39,10 +38,6 @@ pub faults-snoc : (mode : Mode) (lines : List (Line Word)) (line : Line Word)
 unfolding faults
 faults-snoc mode lines line =
     let seat : LineInBlock Word = (block_after_lines None lines, line) in
-    ap (λ ss. flat_map (faults_after mode) (with_before ss)) (with_blocks-snoc None lines (line ∷ []))
-    ∙ ap (flat_map (faults_after mode)) (before-snoc [] (with_blocks lines) seat)
+    rw (with_blocks-snoc None lines (line ∷ [])) (ap (flat_map (faults_after mode)) (before-snoc [] (with_blocks lines) seat)
     ∙ flat_map-append (faults_after mode) (with_before (with_blocks lines)) ((with_blocks lines, seat) ∷ [])
-    ∙ ap (λ fs. flat_map (faults_after mode) (with_before (with_blocks lines)) ++ fs) (append-nil (faults_after mode (with_blocks lines, seat)))
-    ∙ ap (λ n. flat_map (faults_after mode) (with_before (with_blocks lines))
-    ++ map (λ kind. (n + 1, kind)) (item_kinds mode (directives mode lines) (item_at seat)))
-    (length-with_blocks None lines)
+    ∙ rw (append-nil (faults_after mode (with_blocks lines, seat))) (rw (length-with_blocks None _)))

@@ -1,10 +1,11 @@
 -- The steps of a sweep over intervals.
-use Rattle.std.proofs.Common.{◌≡◌, ◌∙◌, ◌+◌, ◌<◌, ◌&&◌, ◌||◌, zero, suc, ℕ, Bool, true, false, cond, not, List, [], ◌∷◌, ◌++◌, take, drop, length, slice_index_or, Option, Some, Contains, ap, ap₂, sym, subst, refl, arith, add-one}
+use Rattle.std.proofs.Common.{◌≡◌, ◌∙◌, ◌+◌, ◌<◌, ◌&&◌, ◌||◌, zero, suc, ℕ, Bool, true, false, List, [], ◌∷◌, ◌++◌, take, drop, length, slice_index_or, Option, Some, Contains, ap, ap₂, sym, refl, arith, add-one, append-nil}
 use Rattle.std.proofs.Math.Seq.{take-suc, drop-cons}
 use Rattle.std.proofs.lemmas.Bool.{and_from}
+use Rattle.std.proofs.lemmas.List.Elements.{filter-append}
 use Rattle.std.proofs.lemmas.List.Folds.{list_all_more, list_any-append}
 use Rattle.std.specs.List.Sorted.{IsStrictlySortedBy}
-use Rattle.std.specs.List.{AllByRecursion, filter, list_all, list_any}
+use Rattle.std.specs.List.{AllByRecursion, list_all, list_any}
 use Rattle.std.specs.declared.cmp.Ordering.TheVariants.{Less}
 use Rattle.gm_version.specs.Version.{version_cmp}
 use Rattle.gm_file.specs.Directives.{VersionInterval}
@@ -14,7 +15,7 @@ use Rattle.gm_file.proofs.Ascending.{upto_less, upto_trans}
 use Rattle.gm_name.proofs.Logic.{or-false}
 
 taken_more : (ps : List VersionInterval) (n : ℕ) (d : VersionInterval) → n < length ps → take (n + 1) ps ≡ take n ps ++ slice_index_or ps n d ∷ []
-taken_more ps n d within = ap (λ i. take i ps) (add-one n) ∙ take-suc ps n d within
+taken_more ps n d within = rw (add-one _) (take-suc ps _ _ within)
 
 -- after one more interval, which begins at the version or before
 pub swept_more : (ps : List VersionInterval) (v : List ℕ) (n : ℕ) (reach : Option (List ℕ)) (p : VersionInterval)
@@ -23,18 +24,17 @@ pub swept_more : (ps : List VersionInterval) (v : List ℕ) (n : ℕ) (reach : O
     → AreSwept ps v (n + 1) (Some high)
 swept_more ps v n reach p high swept within item begins far = record {
   within = omega arith;
-  begun = list_all_more (λ (ends : VersionInterval). is_at_most ends.0 v) ps n p within
-      ∙ and_from _ _ swept.begun (subst (λ (q : VersionInterval). is_at_most q.0 v ≡ true) item begins);
+  begun = list_all_more _ _ _ _ within ∙ and_from _ _ swept.begun (rw item at begins);
   reached = λ w. far w ∙ ap₂ (λ (x y : Bool). x || y) (swept.reached w) (ap (λ (q : VersionInterval). is_at_most w q.1) item ∙ sym (or-false _))
       ∙ sym (list_any-append (λ (ends : VersionInterval). is_at_most w ends.1) (take n ps) (slice_index_or ps n p ∷ []))
-      ∙ ap (list_any (λ (ends : VersionInterval). is_at_most w ends.1)) (sym (taken_more ps n p within));
+      ∙ ap (list_any (λ (ends : VersionInterval). is_at_most w ends.1)) (sym (taken_more _ _ p within));
 }
 
 all_later : (v w : List ℕ) → is_at_most v w ≡ true → (qs : List VersionInterval) → list_all (λ (ends : VersionInterval). is_at_most ends.0 v) qs ≡ true
     → list_all (λ (ends : VersionInterval). is_at_most ends.0 w) qs ≡ true
 all_later v w order [] begun = refl
 all_later v w order (q ∷ qs) begun =
-    let parts = split (is_at_most q.0 v) (list_all (λ (ends : VersionInterval). is_at_most ends.0 v) qs) begun in
+    let parts = split _ _ begun in
     and_from _ _ (upto_trans q.0 v w parts.0 order) (all_later v w order qs parts.1)
   where
     split : (a b : Bool) → (a && b) ≡ true → (a ≡ true) × (b ≡ true)
@@ -43,9 +43,9 @@ all_later v w order (q ∷ qs) begun =
     split false b e = cc e
 
 -- the state remains valid for a later version
-pub swept_later : (ps : List VersionInterval) (v w : List ℕ) (n : ℕ) (reach : Option (List ℕ)) → AreSwept ps v n reach
+pub swept_later : {ps : List VersionInterval} {v w : List ℕ} {n : ℕ} {reach : Option (List ℕ)} → AreSwept ps v n reach
     → version_cmp v w ≡ Less → AreSwept ps w n reach
-swept_later ps v w n reach swept less = record {
+swept_later {ps} {v} {w} {n} swept less = record {
   within = swept.within;
   begun = all_later v w (upto_less v w less) (take n ps) swept.begun;
   reached = swept.reached;
@@ -55,12 +55,11 @@ swept_later ps v w n reach swept less = record {
 held_begun : (v : List ℕ) (qs : List VersionInterval) → list_all (λ (ends : VersionInterval). is_at_most ends.0 v) qs ≡ true
     → list_any (holds_version v) qs ≡ list_any (λ (ends : VersionInterval). is_at_most v ends.1) qs
 held_begun v [] begun = refl
-held_begun v (q ∷ qs) begun = first (is_at_most q.0 v) (is_at_most v q.1)
-    (list_all (λ (ends : VersionInterval). is_at_most ends.0 v) qs) (list_any (holds_version v) qs)
+held_begun v (q ∷ qs) begun = first _ _ _ (list_any (holds_version v) qs)
     (list_any (λ (ends : VersionInterval). is_at_most v ends.1) qs) begun (held_begun v qs)
   where
     first : (low high all some reached : Bool) → (low && all) ≡ true → (all ≡ true → some ≡ reached) → ((low && high) || some) ≡ (high || reached)
-    first true high true some reached e same = ap (λ b. high || b) (same refl)
+    first true high true some reached e same = rw (same refl)
     first true high false some reached e same = cc e
     first false high all some reached e same = cc e
 
@@ -80,7 +79,7 @@ late_rest : (v : List ℕ) (qs : List VersionInterval) → Ascend qs
     → ((d : VersionInterval) → 0 < length qs → is_at_most (slice_index_or qs 0 d).0 v ≡ false)
     → list_any (holds_version v) qs ≡ false
 late_rest v [] ascend late = refl
-late_rest v (q ∷ qs) ascend late = first (is_at_most q.0 v) (is_at_most v q.1) _ (late q (omega arith)) (late_all v q.0 (late q (omega arith)) qs ascend.0)
+late_rest v (q ∷ qs) ascend late = first _ _ _ (late q (omega arith)) (late_all v q.0 (late q (omega arith)) _ ascend.0)
   where
     first : (low high some : Bool) → low ≡ false → some ≡ false → ((low && high) || some) ≡ false
     first true high some e f = cc e
@@ -101,23 +100,23 @@ any_take_drop : (v : List ℕ) (ps : List VersionInterval) (n : ℕ)
     → list_any (holds_version v) ps ≡ (list_any (holds_version v) (take n ps) || list_any (holds_version v) (drop n ps))
 any_take_drop v ps zero = refl
 any_take_drop v [] (suc n) = refl
-any_take_drop v (p ∷ ps) (suc n) = ap (λ b. holds_version v p || b) (any_take_drop v ps n) ∙ grouped (holds_version v p) _ _
+any_take_drop v (p ∷ ps) (suc n) = rw (any_take_drop v ps n) (grouped (holds_version v p) _ _)
   where
     grouped : (a b c : Bool) → (a || (b || c)) ≡ ((a || b) || c)
     grouped true b c = refl
     grouped false b c = refl
 
 -- an interval contains the version exactly if the highest end is not below it
-pub held_is : (ps : List VersionInterval) (v : List ℕ) (n : ℕ) (reach : Option (List ℕ)) → Ascend ps
+pub held_is : {ps : List VersionInterval} {v : List ℕ} {n : ℕ} {reach : Option (List ℕ)} → Ascend ps
     → AreAllSwept ps v n reach → is_retracted ps v ≡ is_reached v reach
-held_is ps v n reach ascend all =
+held_is {ps} {v} {n} ascend all =
     any_take_drop v ps n ∙ ap₂ (λ (x y : Bool). x || y) (held_begun v (take n ps) all.swept.begun ∙ sym (all.swept.reached v))
-    (late_rest v (drop n ps) (ascend_drop ps n ascend) (late_drop v ps n all.ended)) ∙ or-false _
+    (late_rest v _ (ascend_drop _ _ ascend) (late_drop v _ _ all.ended)) ∙ or-false _
 
 -- ---- the loop over the versions
 
 drop_here : (vs : List (List ℕ)) (i : ℕ) (v : List ℕ) → i < length vs → v ≡ slice_index_or vs i v → drop i vs ≡ v ∷ drop (i + 1) vs
-drop_here vs i v within item = drop-cons vs i v within ∙ ap₂ (λ (x : List ℕ) (xs : List (List ℕ)). x ∷ xs) (sym item) (ap (λ n. drop n vs) (sym (add-one i)))
+drop_here vs i v within item = drop-cons vs _ _ within ∙ ap₂ (λ (x : List ℕ) (xs : List (List ℕ)). x ∷ xs) (sym item) (rw (← (add-one _)))
 
 -- the state is valid for each version that remains
 abbrev pub ReadyFor : List VersionInterval → List (List ℕ) → ℕ → Option (List ℕ) → Type 0
@@ -125,57 +124,39 @@ ReadyFor ps left n reach = (w : List ℕ) → Contains left w → AreSwept ps w 
 
 pub ready_here : (ps : List VersionInterval) (vs : List (List ℕ)) (i : ℕ) (v : List ℕ) (n : ℕ) (reach : Option (List ℕ)) → i < length vs
     → v ≡ slice_index_or vs i v → ReadyFor ps (drop i vs) n reach → AreSwept ps v n reach
-ready_here ps vs i v n reach within item ready =
-    ready v (subst (λ left. Contains left v) (sym (drop_here vs i v within item)) (0, omega arith, refl))
+ready_here ps vs i v n reach within item ready = ready _ (rw (drop_here _ _ _ within item) (0, omega arith, refl))
 
 above_all : (v w : List ℕ) (left : List (List ℕ)) → AllByRecursion (λ (y : List ℕ). version_cmp v y ≡ Less) left → Contains left w → version_cmp v w ≡ Less
 above_all v w [] above inside = let none : inside.0 < 0 = inside.1 in absurd (omega arith)
-above_all v w (x ∷ left) above (zero, within, is) = subst (λ (y : List ℕ). version_cmp v y ≡ Less) is above.0
+above_all v w (x ∷ left) above (zero, within, is) = rw is at above.0
 above_all v w (x ∷ left) above (suc k, within, is) = above_all v w left above.1 (k, omega arith, is)
 
 pub sorted_rest : (vs : List (List ℕ)) (i : ℕ) (v : List ℕ) → i < length vs → v ≡ slice_index_or vs i v
     → IsStrictlySortedBy version_cmp (drop i vs) → IsStrictlySortedBy version_cmp (drop (i + 1) vs)
 unfolding IsStrictlySortedBy
 sorted_rest vs i v within item sorted =
-    let here : IsStrictlySortedBy version_cmp (v ∷ drop (i + 1) vs) = subst (IsStrictlySortedBy version_cmp) (drop_here vs i v within item) sorted in
+    let here : IsStrictlySortedBy version_cmp (v ∷ drop (i + 1) vs) = rw (drop_here _ _ _ within item) at sorted in
     here.1
 
 pub ready_rest : (ps : List VersionInterval) (vs : List (List ℕ)) (i : ℕ) (v : List ℕ) (n : ℕ) (reach : Option (List ℕ)) → i < length vs
     → v ≡ slice_index_or vs i v → IsStrictlySortedBy version_cmp (drop i vs) → AreSwept ps v n reach → ReadyFor ps (drop (i + 1) vs) n reach
 unfolding IsStrictlySortedBy
 ready_rest ps vs i v n reach within item sorted swept =
-    let here : IsStrictlySortedBy version_cmp (v ∷ drop (i + 1) vs) = subst (IsStrictlySortedBy version_cmp) (drop_here vs i v within item) sorted in
-    λ w inside. swept_later ps v w n reach swept (above_all v w (drop (i + 1) vs) here.0 inside)
-
-filter_kept : (p : List ℕ → Bool) (xs : List (List ℕ)) (x : List ℕ) → p x ≡ true → filter p (xs ++ x ∷ []) ≡ filter p xs ++ x ∷ []
-filter_kept p [] x kept = rw kept refl
-filter_kept p (y ∷ xs) x kept = elim (p y) as (λ b. cond b (y ∷ filter p (xs ++ x ∷ [])) (filter p (xs ++ x ∷ []))
-    ≡ cond b (y ∷ filter p xs) (filter p xs) ++ x ∷ []) [
-      | true ↦ ap (λ (zs : List (List ℕ)). y ∷ zs) (filter_kept p xs x kept)
-      | false ↦ filter_kept p xs x kept
-    ]
-
-filter_left : (p : List ℕ → Bool) (xs : List (List ℕ)) (x : List ℕ) → p x ≡ false → filter p (xs ++ x ∷ []) ≡ filter p xs
-filter_left p [] x left = rw left refl
-filter_left p (y ∷ xs) x left = elim (p y) as (λ b. cond b (y ∷ filter p (xs ++ x ∷ [])) (filter p (xs ++ x ∷ [])) ≡ cond b (y ∷ filter p xs) (filter p xs)) [
-  | true ↦ ap (λ (zs : List (List ℕ)). y ∷ zs) (filter_left p xs x left)
-  | false ↦ filter_left p xs x left
-]
+    let here : IsStrictlySortedBy version_cmp (v ∷ drop (i + 1) vs) = rw (drop_here _ _ _ within item) at sorted in
+    λ w inside. swept_later swept (above_all v _ _ here.0 inside)
 
 taken : (vs : List (List ℕ)) (i : ℕ) (v : List ℕ) → i < length vs → v ≡ slice_index_or vs i v → take (i + 1) vs ≡ take i vs ++ v ∷ []
-taken vs i v within item = ap (λ n. take n vs) (add-one i) ∙ take-suc vs i v within ∙ ap (λ (x : List ℕ). take i vs ++ x ∷ []) (sym item)
+taken vs i v within item = rw (add-one _) (take-suc vs _ _ within ∙ ap (λ (x : List ℕ). take i vs ++ x ∷ []) (sym item))
 
 -- the version is shown if it is above the highest end, and left out otherwise
 module _ (ps intervals : List VersionInterval) (sorted : AreSorted ps intervals) (vs : List (List ℕ)) (i : ℕ)
     (v : List ℕ) (within : i < length vs) (item : v ≡ slice_index_or vs i v) (n : ℕ) (reach : Option (List ℕ))
     (all : AreAllSwept ps v n reach) (reached : Bool) (is : reached ≡ is_reached v reach) where
   held_here : is_retracted intervals v ≡ reached
-  held_here = sym (sorted.same v) ∙ held_is ps v n reach sorted.ascend all ∙ sym is
+  held_here = sym (sorted.same v) ∙ held_is sorted.ascend all ∙ sym is
 
   pub shown_more : reached ≡ false → shown_of intervals (take (i + 1) vs) ≡ shown_of intervals (take i vs) ++ v ∷ []
-  shown_more not_reached = ap (shown_of intervals) (taken vs i v within item)
-      ∙ filter_kept (λ version. not (is_retracted intervals version)) (take i vs) v (ap not (held_here ∙ not_reached))
+  shown_more not_reached = rw (taken _ _ _ within item) (filter-append _ (take i vs) (v ∷ []) ∙ rw (held_here ∙ not_reached))
 
   pub shown_same : reached ≡ true → shown_of intervals (take (i + 1) vs) ≡ shown_of intervals (take i vs)
-  shown_same was_reached = ap (shown_of intervals) (taken vs i v within item)
-      ∙ filter_left (λ version. not (is_retracted intervals version)) (take i vs) v (ap not (held_here ∙ was_reached))
+  shown_same was_reached = rw (taken _ _ _ within item) (filter-append _ (take i vs) (v ∷ []) ∙ rw (held_here ∙ was_reached) (append-nil _))
