@@ -17,7 +17,6 @@ pub mod Rooted
 pub mod Exactly
 pub mod Loads
 pub mod InTurn
-pub mod LawProofs
 pub mod RunLemmas
 pub mod FoundFiles
 pub mod Gathered

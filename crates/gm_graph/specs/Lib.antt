@@ -3,4 +3,3 @@ pub mod WorklistFaults
 pub mod Outcome
 pub mod Entries
 pub mod Run
-pub mod Laws

@@ -21,7 +21,6 @@ mod fault;
 mod findings;
 mod followed;
 mod gathering;
-pub mod laws;
 mod loaded;
 mod loading;
 mod marks;

@@ -13,7 +13,7 @@ use Rattle.gm_graph.specs.Entries.{Entry}
 use Rattle.gm_graph.specs.declared.fault.Fault.{Fault}
 use Rattle.gm_graph.specs.Run.{AreFaults, AreTooMany, IsEdge}
 use Rattle.gm_graph_cache.specs.Sayings.{Run, run_of}
-use Rattle.gm_graph.proofs.LawProofs.{faults_total}
+use Rattle.gomod_laws.proofs.GraphLawProofs.{faults_total}
 use Rattle.gm_graph.proofs.RunLemmas.{Agrees, fault, same_edges, too_many as many_stay}
 use Rattle.gomod_words.specs.declared.usage.Command.{Command}
 use Rattle.gomod_words.specs.declared.usage.Command.TheVariants.{Fmt, Edit, Versions, List as Rows, Chain}

@@ -1,9 +1,7 @@
-//! Laws over the definitions, for use in the proofs of the crates above. The functions do nothing: each contract is
-//! a law.
-//!
-//! They show that the definitions mean what the Go Modules Reference says, independently of any code.
+//! Laws over the definitions of module graphs. They show that these mean what the Go Modules Reference says,
+//! independently of any code.
 
-ghost use Rattle.gm_graph.specs.Laws.{EarlierSayingsStay, FirstAnswersSaySomething, ModulesSayOneThing, OneAnswer, RepliesSayOneThing, RowsAreRequired, RowsSatisfyRequirements, UnprunedIsPlain};
+ghost use Rattle.gomod_laws.specs.GraphLaws.{EarlierSayingsStay, FirstAnswersSaySomething, ModulesSayOneThing, OneAnswer, RepliesSayOneThing, RowsAreRequired, RowsSatisfyRequirements, UnprunedIsPlain};
 
 /// A reply to a name has one meaning: one fault, or one file's contents.
 pub fn replies_say_one_thing()

@@ -13,7 +13,7 @@ use Rattle.gm_graph_select.proofs.Same.{AreSame, same_back, same_build_list}
 use Rattle.gm_graph.specs.declared.fault.Fault.{Fault}
 use Rattle.gm_graph.specs.Run.{IsDeep, IsEdge, IsOpened, IsVertex, from_deep, from_main, from_top}
 use Rattle.gm_graph_cache.specs.Sayings.{Run}
-use Rattle.gm_graph.specs.Laws.{EarlierSayingsStay, FirstAnswersSaySomething, IsTransitivelyRequired, ModulesSayOneThing, OneAnswer, RowsAreRequired, RowsSatisfyRequirements, UnprunedIsPlain, required, further}
+use Rattle.gomod_laws.specs.GraphLaws.{EarlierSayingsStay, FirstAnswersSaySomething, IsTransitivelyRequired, ModulesSayOneThing, OneAnswer, RowsAreRequired, RowsSatisfyRequirements, UnprunedIsPlain, required, further}
 use Rattle.gm_graph_cache.proofs.Sayings.{answer_stays, one_said, says_more}
 
 pub rows_are_required : RowsAreRequired
