@@ -18,12 +18,12 @@ FitFrom inside (line ∷ lines) = Fits inside line × FitFrom (inside_after insi
 
 pub valid_fit : (inside : Bool) (lines : List (Line Word)) → AreValidFrom inside lines → FitFrom inside lines
 valid_fit inside [] v = tt
-valid_fit inside (l ∷ ls) v = (line_fits inside v.0.0 l v.0.2, valid_fit (inside_after inside l) ls v.1)
+valid_fit inside (l ∷ ls) v = (line_fits inside v.0.0 l v.0.2, valid_fit _ ls v.1)
 
 pub fit_push : (inside : Bool) (lines : List (Line Word)) (line : Line Word) → FitFrom inside lines
     → Fits (inside_after_all inside lines) line → FitFrom inside (lines ++ line ∷ [])
 fit_push inside [] line f g = (g, tt)
-fit_push inside (l ∷ ls) line f g = (f.0, fit_push (inside_after inside l) ls line f.1 g)
+fit_push inside (l ∷ ls) line f g = (f.0, fit_push _ ls line f.1 g)
 
 -- ---- counting
 
@@ -49,7 +49,7 @@ by_counts false opened closed e = le-ltb closed opened (omega (arith, e))
 -- more openings than closings exactly where a block is open
 pub open_after : (lines : List (Line Word)) → FitFrom false lines → is_open_after lines ≡ inside_after_all false lines
 open_after lines f =
-    by_counts (inside_after_all false lines) (openings lines) (closings lines) (counts_from false lines f)
+    by_counts _ _ _ (counts_from false lines f)
 
 pub counts_closed : (lines : List (Line Word)) → FitFrom false lines → inside_after_all false lines ≡ false
     → openings lines ≡ closings lines

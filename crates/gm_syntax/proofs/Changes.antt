@@ -28,15 +28,15 @@ standing_lines at (l ∷ ls) s e =
 
 pub stand_parts : (b : Bool) (xs ys : List (Line Word)) → AreValidFrom b (xs ++ ys) → AreValidFrom b xs × AreValidFrom (inside_after_all b xs) ys
 stand_parts b [] ys s = (tt, s)
-stand_parts b (x ∷ xs) ys s = let r = stand_parts (inside_after b x) xs ys s.1 in ((s.0, r.0), r.1)
+stand_parts b (x ∷ xs) ys s = let r = stand_parts _ xs ys s.1 in ((s.0, r.0), r.1)
 
 pub stand_together : (b : Bool) (xs ys : List (Line Word)) → AreValidFrom b xs → AreValidFrom (inside_after_all b xs) ys → AreValidFrom b (xs ++ ys)
 stand_together b [] ys s t = t
-stand_together b (x ∷ xs) ys s t = (s.0, stand_together (inside_after b x) xs ys s.1 t)
+stand_together b (x ∷ xs) ys s t = (s.0, stand_together _ xs ys s.1 t)
 
 pub inside_after_all-append : (b : Bool) (xs ys : List (Line Word)) → inside_after_all b (xs ++ ys) ≡ inside_after_all (inside_after_all b xs) ys
 inside_after_all-append b [] ys = refl
-inside_after_all-append b (x ∷ xs) ys = inside_after_all-append (inside_after b x) xs ys
+inside_after_all-append b (x ∷ xs) ys = inside_after_all-append _ xs ys
 
 pub inside_after-level : (b : Bool) (line : Line Word) → is_level line ≡ true → inside_after b line ≡ b
 inside_after-level b (Open verb suffix) e = cc
@@ -55,10 +55,10 @@ inside_after_all-level b (l ∷ ls) e =
 pub lines_go_out : (front middle back : List (Line Word)) → IsDocument (front ++ (middle ++ back))
     → inside_after_all (inside_after_all false front) middle ≡ inside_after_all false front → IsDocument (front ++ back)
 lines_go_out front middle back d e =
-    let all = lines_stand start (front ++ (middle ++ back)) d in
-    let parts = stand_parts false front (middle ++ back) all.0 in
-    let more = stand_parts (inside_after_all false front) middle back parts.1 in
-    standing_lines start (front ++ back) (stand_together false front back parts.0 (rw e at more.1)) (rw (
+    let all = lines_stand start _ d in
+    let parts = stand_parts false front _ all.0 in
+    let more = stand_parts _ middle back parts.1 in
+    standing_lines start _ (stand_together false front back parts.0 (rw e at more.1)) (rw (
       inside_after_all-append false front back,
       ← e,
       ← inside_after_all-append (inside_after_all false front) middle back,
@@ -67,10 +67,10 @@ lines_go_out front middle back d e =
 
 pub level_lines_go_out : (front middle back : List (Line Word)) → IsDocument (front ++ (middle ++ back))
     → list_all is_level middle ≡ true → IsDocument (front ++ back)
-level_lines_go_out front middle back d e = lines_go_out front middle back d (inside_after_all-level (inside_after_all false front) middle e)
+level_lines_go_out front middle back d e = lines_go_out front middle back d (inside_after_all-level _ middle e)
 
 pub open_outside : (b : Bool) (verb : Word) (suffix : Option (List ℕ)) → IsValidLine b (Open verb suffix) → b ≡ false
-open_outside b verb suffix s = line_fits b s.0 (Open verb suffix) s.2
+open_outside b verb suffix s = line_fits b s.0 _ s.2
 
 slice_parts : (lines : List (Line Word)) (from to : ℕ) → from ≤ to → lines ≡ take from lines ++ (slice_range lines from to ++ drop to lines)
 slice_parts lines from to le =
@@ -153,7 +153,7 @@ valid_anywhere inside other line k (text, plain, at) = (
     comment = at.comment;
     spelled = at.spelled;
     classed =
-        class_level inside other at.words at.comment line at.classed k;
+        class_level inside other _ _ line at.classed k;
   },
 )
 
@@ -172,7 +172,7 @@ level_line_goes_in front back line inside d k s =
 pub level_line_goes_in_at : (lines : List (Line Word)) (at : ℕ) (line : Line Word) (inside : Bool) → IsDocument lines
     → is_level line ≡ true → IsValidLine inside line → IsDocument (insert lines at line)
 level_line_goes_in_at lines at line inside d k s =
-    level_line_goes_in (take at lines) (drop at lines) line inside (rw (take-append-drop at lines) d) k s
+    level_line_goes_in _ _ line inside (rw (take-append-drop at lines) d) k s
 
 -- ---- lines made by edits
 
@@ -203,9 +203,9 @@ filled_length (w ∷ words) h = omega arith
 
 pub standing_entry : (inside : Bool) (words : List Word) (suffix : Option (List ℕ)) → IsValidLine inside (Entry words suffix) → IsEntry words suffix
 standing_entry inside words suffix (text, plain, at) =
-    let f = from_words inside at.words at.comment (Entry words suffix) at.classed in
-    let g = rw (f.0, f.1) at (spelled_are_words text at.words at.comment plain at.spelled) in
-    let t = level_tests inside at.words at.comment (Entry words suffix) at.classed refl in
+    let f = from_words inside _ _ _ at.classed in
+    let g = rw (f.0, f.1) at (spelled_are_words text _ _ plain at.spelled) in
+    let t = level_tests inside _ _ _ at.classed refl in
     record {
       are_words = g.0;
       is_suffix = g.1;

@@ -103,7 +103,7 @@ after_first source front first (b ∷ after) number ls plain ended parts count f
     let whole : source ≡ past ++ after = rw (parts, inner, append_assoc front (first ++ b ∷ []) after) refl in
     let len : length front + length first + 1 ≡ length past = omega (arith, length-append front (first ++ b ∷ []), length-append first (b ∷ [])) in
     let feeds : line_feeds past ≡ line_feeds front + (0 + 1) =
-    rw (feeds-append front (first ++ b ∷ []), feeds-append first (b ∷ []), no_feeds first plain, one_feed b ended) refl in
+    rw (feeds-append front _, feeds-append first _, no_feeds first plain, one_feed b ended) refl in
     again past after whole (omega (arith, count, feeds)) (rw (← len) f)
 
 pub lines_counted : (source front rest : List ℕ) (number : ℕ) (ls : List (Line Placed)) → source ≡ front ++ rest
@@ -112,7 +112,7 @@ pub lines_counted : (source front rest : List ℕ) (number : ℕ) (ls : List (Li
 lines_counted source front rest number [] parts count f h = tt
 lines_counted source front [] number (l ∷ ls) parts count f h = absurd (subst (λ (ts : List (List ℕ)). FillLines (length front) ts (l ∷ ls)) lines_nil f)
 lines_counted source front (b ∷ bytes) number (l ∷ ls) parts count f h =
-    let first = first_line (b ∷ bytes) in
+    let first = first_line _ in
     let g = subst (λ (ts : List (List ℕ)). FillLines (length front) ts (l ∷ ls)) (first.lines (omega arith)) f in
     let s : Stands source (length front) number first.line = record {
       front = front;
@@ -122,9 +122,9 @@ lines_counted source front (b ∷ bytes) number (l ∷ ls) parts count f h =
       count = count;
       plain = first.no_line_feed;
     } in
-    all_together (IsLineCounted source) (tokens_of l) (all_tokens ls) (line_counted source (length front) number first.line l s g.0 h.0)
-    (after_first source front first.line first.after number ls first.no_line_feed first.ended s.parts count g.1
-    (λ past rest whole feeds k. lines_counted source past rest (number + 1) ls whole feeds k h.1))
+    all_together (IsLineCounted source) (tokens_of l) (all_tokens ls) (line_counted source _ number _ l s g.0 h.0)
+    (after_first source front _ _ number ls first.no_line_feed first.ended s.parts count g.1
+    (λ past rest whole feeds k. lines_counted source past rest _ ls whole feeds k h.1))
 
 -- the words of a document, from its start on
 pub document_counted : (source : List ℕ) (doc : List (Line Placed)) → FillLines 0 (lines_of source) doc → AreLinesNumbered 1 doc → AreLinesCounted source doc

@@ -31,7 +31,7 @@ pub line_filled : (inside : Bool) (first : ℕ) (text : List ℕ) (ts : List Pla
     (l : Line Placed) → class_of inside (words_of ts) comment ≡ Ok (plain l)
     → tokens_of l ≡ take (length (tokens_of l)) ts
     → FillText first text ts comment → FillsLine first text l
-line_filled inside first text ts comment l classed same f = by_line l (from_words inside (words_of ts) comment (plain l) classed) same
+line_filled inside first text ts comment l classed same f = by_line l (from_words inside _ comment _ classed) same
   where
     fill_as : (us : List Placed) (c : Option (List ℕ)) → ts ≡ us → comment ≡ c → FillText first text us c
     fill_as us c e d = rw (← d) (rw (← e) f)
@@ -45,11 +45,11 @@ line_filled inside first text ts comment l classed same f = by_line l (from_word
     by_line (Comment c) w same = fill_as [] (Some c) (none ts w.0) w.1
     by_line (Open verb suffix) w same =
         let o = one_word verb ts verb.word (mark 40 ∷ []) same w.0 in
-        let k = one_left o.0 (mark 40) o.2 in
-        (k.0, rw k.2 refl, fill_as (verb ∷ k.0 ∷ []) suffix (o.1 ∙ ap (λ x. verb ∷ x) k.1) w.1)
+        let k = one_left o.0 _ o.2 in
+        (k.0, rw k.2 refl, fill_as _ suffix (o.1 ∙ ap (λ x. verb ∷ x) k.1) w.1)
     by_line (Close suffix) w same =
-        let k = one_left ts (mark 41) w.0 in
-        (k.0, rw k.2 refl, fill_as (k.0 ∷ []) suffix k.1 w.1)
+        let k = one_left ts _ w.0 in
+        (k.0, rw k.2 refl, fill_as _ suffix k.1 w.1)
     by_line (Entry words suffix) w same =
         let len : length ts ≡ length words = rw (← length-map ts (λ (t : Placed). t.word), w.0) (length-map words (λ (t : Placed). t.word)) in
         fill_as words suffix (sym (same ∙ take_all (length words) ts (omega (arith, len)))) w.1

@@ -42,9 +42,9 @@ unfolding layout_lines layout_from
 laid_text b [] = refl
 laid_text b (l ∷ ls) =
     elim (cases_Bool (is_blank_line l)) [
-      | inl k ↦ rw k (laid_text (record b { gap_pending = true }) ls)
-      | inr k ↦ rw k (laid_text_by (has_gap b l) b.inside l
-          (layout_from (state_after b l) ls) (layout_lines (state_after b l) ls) (laid_text (state_after b l) ls))
+      | inl k ↦ rw k (laid_text _ ls)
+      | inr k ↦ rw k (laid_text_by _ _ l
+          _ _ (laid_text _ ls))
     ]
 
 -- ---- the lines of the layout are laid out
@@ -58,8 +58,8 @@ unfolding layout_lines
 first_filled b [] e = refl
 first_filled b (l ∷ ls) e =
     elim (cases_Bool (is_blank_line l)) [
-      | inl k ↦ rw k (first_filled (record b { gap_pending = true }) ls e)
-      | inr k ↦ rw (k, e, no_gap b.gap_pending (not (is_close l))) k
+      | inl k ↦ rw k (first_filled _ ls e)
+      | inr k ↦ rw (k, e, no_gap _ _) k
     ]
 
 last_past : (c : Bool) (l : Line Word) (ls : List (Line Word)) → is_blank_line l ≡ false → ends_blank ls ≡ false
@@ -142,7 +142,7 @@ gap_is line next (x ∷ blanks) back inside h k =
     let p = and_both (is_blank_line x) (list_all is_blank_line blanks) h in
     let b = state_after (place (not (is_open line)) true inside) next in (
       layout_lines b back,
-      rw (p.0, skip_blanks (not (is_open line)) inside blanks (next ∷ back) p.1, k, same_gap (is_open line) (is_close next)) refl,
+      rw (p.0, skip_blanks _ inside blanks _ p.1, k, same_gap _ _) refl,
       filled_again b back,
     )
 
@@ -189,11 +189,11 @@ blank_front l ls e =
 
 blanks_end : (l : Line Word) (ls : List (Line Word)) → filled_lines (l ∷ ls) ≡ [] → ends_blank (l ∷ ls) ≡ true
 blanks_end l [] e = (blank_front l [] e).0
-blanks_end l (m ∷ ls) e = blanks_end m ls (blank_front l (m ∷ ls) e).1
+blanks_end l (m ∷ ls) e = blanks_end m ls (blank_front l _ e).1
 
 no_tail : (before tail : List (Line Word)) (line : Line Word) → filled_lines tail ≡ [] → ends_blank (before ++ line ∷ tail) ≡ false → tail ≡ []
 no_tail before [] line e h = refl
-no_tail before (t ∷ tail) line e h = absurd (true≢false (sym (blanks_end t tail e) ∙ sym (ends_blank-append before (t ∷ tail) line) ∙ h))
+no_tail before (t ∷ tail) line e h = absurd (true≢false (sym (blanks_end t tail e) ∙ sym (ends_blank-append before _ line) ∙ h))
 
 no_lines : (laid : List (Line Word)) → filled_lines laid ≡ [] → begins_blank laid ≡ false → laid ≡ []
 no_lines [] e h = refl
@@ -216,10 +216,10 @@ gap_same : (line next : Line Word) (blanks : List (Line Word))
     → cond (is_some_line blanks && (not (is_open line) && not (is_close next))) (Blank ∷ []) []
     ≡ gap_between line blanks next
 gap_same line next [] = refl
-gap_same line next (x ∷ blanks) = same_gap (is_open line) (is_close next)
+gap_same line next (x ∷ blanks) = same_gap _ _
 
 gap_none : (line next : Line Word) (blanks : List (Line Word)) → filled_lines (gap_between line blanks next) ≡ []
-gap_none line next blanks = rw (← gap_same line next blanks) (gap_filled (is_some_line blanks && (not (is_open line) && not (is_close next))))
+gap_none line next blanks = rw (← gap_same line next blanks) (gap_filled _)
 
 module _ (lines laid : List (Line Word)) (h : AreLaidOut lines laid) where
   -- after a kept line, laid has the same lines as the layout
@@ -232,11 +232,11 @@ module _ (lines laid : List (Line Word)) (h : AreLaidOut lines laid) where
       let kept = rw (
         f,
         e,
-        filled-append before (line ∷ tail),
-        filled-append front (line ∷ (blanks ++ [])),
+        filled-append before _,
+        filled-append front _,
         same,
         filled_other line tail k,
-        filled_other line (blanks ++ []) k,
+        filled_other line _ k,
         append-nil blanks,
         filled_blanks blanks b,
       ) at h.kept in
@@ -249,12 +249,12 @@ module _ (lines laid : List (Line Word)) (h : AreLaidOut lines laid) where
         | inr j ↦
             let p = h.between front blanks ls line l k b j e in
             let gap = gap_between line blanks l in
-            let here = same_split before p.0 tail (gap ++ l ∷ p.1) line k (sym f ∙ p.2) (same ∙ sym p.3) in
+            let here = same_split before p.0 tail _ line k (sym f ∙ p.2) (same ∙ sym p.3) in
             let past = tail_is ls (front ++ line ∷ blanks) [] (before ++ line ∷ gap) p.1 l (inside_after inside l) j refl
             (rw (append_assoc front (line ∷ blanks) (l ∷ ls)) e) (rw (append_assoc before (line ∷ gap) (l ∷ p.1), ← here) f)
             (rw (
-              filled-append before (line ∷ gap),
-              filled-append front (line ∷ blanks),
+              filled-append before _,
+              filled-append front _,
               filled_other line gap k,
               filled_other line blanks k,
               gap_none line l blanks,
@@ -271,7 +271,7 @@ module _ (lines laid : List (Line Word)) (h : AreLaidOut lines laid) where
   all_is (l ∷ ls) blanks gap_pending b e =
       elim (cases_Bool (is_blank_line l)) [
         | inl j ↦ rw j (all_is ls (blanks ++ l ∷ []) true (all_push blanks l b j) (rw (append_assoc blanks (l ∷ []) ls) e))
-        | inr j ↦ by_first laid (rw (e, filled-append blanks (l ∷ ls), filled_blanks blanks b, filled_other l ls j) at h.kept) h.no_blank_first j refl
+        | inr j ↦ by_first laid (rw (e, filled-append blanks _, filled_blanks blanks b, filled_other l ls j) at h.kept) h.no_blank_first j refl
       ]
     where
       by_first : (all : List (Line Word)) → filled_lines all ≡ l ∷ filled_lines ls → begins_blank all ≡ false
@@ -281,7 +281,7 @@ module _ (lines laid : List (Line Word)) (h : AreLaidOut lines laid) where
           let both = rw (filled_other m all first) at keeps in
           let same : m ≡ l = cc in
           let past = tail_is ls blanks [] [] all l (inside_after false l) j refl e (rw (← same) f) (filled_none ∙ sym (filled_blanks blanks b)) in
-          rw (f, same, j, no_gap gap_pending (not (is_close l))) (rw past refl)
+          rw (f, same, j, no_gap _ _) (rw past refl)
 
 -- the layout of lines, stated without the algorithm
 pub is_layout : (lines : List (Line Word)) → IsLayout lines (layout lines)
@@ -289,5 +289,5 @@ is_layout lines = record {
   laid = layout_lines initial_state lines;
   are_laid = are_laid_out lines;
   only = λ others h. all_is lines others h lines [] false refl refl;
-  is_text = laid_text initial_state lines;
+  is_text = laid_text _ lines;
 }

@@ -11,7 +11,7 @@ use Rattle.gm_syntax_words.specs.ReadLine.{fault_at}
 use Rattle.gm_syntax_words.proofs.WordPlaces.{suffix_of_suffix, stand_widen}
 use Rattle.gm_syntax.specs.declared.line.Line as declared
 use Rattle.gm_syntax.specs.Document.{Line, after, Place}
-use Rattle.gm_syntax.specs.LineViews.{line_of, plain, plain_lines, tokens_of, all_tokens}
+use Rattle.gm_syntax.specs.LineViews.{line_of, plain, plain_lines, tokens_of}
 use Rattle.gm_syntax.specs.Placing.{FillsLine}
 use Rattle.gm_syntax.specs.Parsed.{IsParsedAs, IsFaultOrNoMemory}
 use Rattle.gm_syntax.specs.Private.Reader.{IsOnlyLine, IsLineReadAs}
@@ -66,13 +66,13 @@ module _ {left : Unread} {lines : List (Line Placed)} (so : HasRead left lines) 
   pub read_end : lines_of left.rest ≡ [] → left.at.inside ≡ false → IsReadDocument left.source lines
   read_end none outside =
       let whole = text_end so.progress none outside in
-      let fills = lines_fill_end left.source left.rest lines so.filled none in
+      let fills = lines_fill_end _ _ lines so.filled none in
       record {
         parsed = (so.is_text, whole.0);
         document = whole.1;
-        placed = stand_widen left.source 0 (length left.source - length left.rest) (length left.source) (all_tokens lines) (omega arith) so.placed;
+        placed = stand_widen _ 0 _ _ _ (omega arith) so.placed;
         numbered = so.numbered;
-        stand = record { fills_lines = fills; counted_lines = document_counted left.source lines fills so.numbered };
+        stand = record { fills_lines = fills; counted_lines = document_counted _ lines fills so.numbered };
       }
 
   -- there is no line left, and the last block is open

@@ -35,10 +35,10 @@ escape-by b rest false false eq es = unescaped-plain b rest (sym es)
 pub unescaped-escaped : (value : List ℕ) → unescaped_bytes (escaped_value value) ≡ value
 unescaped-escaped [] = refl
 unescaped-escaped (b ∷ value) =
-    rw (escape-by b (escaped_value value) (b == 34) (b == 92) refl refl, unescaped-escaped value) refl
+    rw (escape-by b _ _ _ refl refl, unescaped-escaped value) refl
 
 string_is : (text value : List ℕ) → IsString text value → string_value text ≡ value
-string_is text value (inl e) = rw (e, last-cut (escaped_value value) 34) (unescaped-escaped value)
+string_is text value (inl e) = rw (e, last-cut _ 34) (unescaped-escaped value)
 string_is text value (inr e) = rw e.0 (last-cut value 96)
 
 shape_is : (kind : Kind) (text value : List ℕ) → HasShape kind text value → value_of_kind kind text ≡ value
@@ -47,7 +47,7 @@ shape_is Text text value h = string_is text value h
 shape_is Mark text value h = sym h.1
 
 pub value_is : (w : Word) (value : List ℕ) → HasValue w value → value_of w ≡ value
-value_is w value h = shape_is w.kind w.spelling value h
+value_is w value h = shape_is w.kind _ value h
 
 -- ---- new words
 
@@ -59,15 +59,15 @@ not_bare_tested text e h = true≢false (sym (bare_word_is text h) ∙ e)
 
 plain_escaped : (value : List ℕ) → HasNoLineFeed value → HasNoLineFeed (escaped_value value)
 plain_escaped [] h = tt
-plain_escaped (b ∷ value) h = plain_append (if (b == 34) || (b == 92) then 92 ∷ b ∷ [] else b ∷ [])
-    (escaped_value value) (piece ((b == 34) || (b == 92))) (plain_escaped value h.1)
+plain_escaped (b ∷ value) h = plain_append _
+    _ (piece ((b == 34) || (b == 92))) (plain_escaped value h.1)
   where
     piece : (x : Bool) → HasNoLineFeed (if x then 92 ∷ b ∷ [] else b ∷ [])
     piece true = (omega arith, (h.0, tt))
     piece false = (h.0, tt)
 
 pub plain_quoted : (value : List ℕ) → HasNoLineFeed value → HasNoLineFeed (in_quotes value)
-plain_quoted value h = (omega arith, plain_append (escaped_value value) (34 ∷ []) (plain_escaped value h) (omega arith, tt))
+plain_quoted value h = (omega arith, plain_append _ _ (plain_escaped value h) (omega arith, tt))
 
 -- the function and the relation describe the same word
 pub new_word_is : (value : List ℕ) (t : Placed) → IsNewWord value t → t ≡ record { word = new_word value; line = 0; span = None }

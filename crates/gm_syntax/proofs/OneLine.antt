@@ -60,7 +60,7 @@ module _ (inside : Bool) (text : List ℕ) (words : List Word) where
   pub one_fault : (kind : SyntaxKind) → IsOnlyReading text words (Fault kind) → IsOnlyLine inside text (Err kind)
   one_fault kind so = record {
     holds = inl (words, so.reads);
-    only_line = λ other at. absurd (fault_no_ending at.comment kind (sym (so.only at.words (ending_of at.comment) at.spelled).1));
+    only_line = λ other at. absurd (fault_no_ending _ kind (sym (so.only at.words (ending_of at.comment) at.spelled).1));
     only_fault = fault;
   }
     where

@@ -8,9 +8,8 @@ use Rattle.gm_syntax_words.specs.declared.word.Kind.{Kind}
 use Rattle.gm_syntax_words.specs.declared.word.Kind.TheVariants.{Bare, Text, Mark}
 use Rattle.gm_syntax_words.specs.Bytes.{is_blank}
 use Rattle.gm_syntax_words.specs.Words.{Word, AllBlank, HasShape, IsShaped, escaped_value}
-use Rattle.gm_syntax_words.specs.Lines.{lines_of}
 use Rattle.gm_syntax_words.specs.Tokens.{Placed, words_of}
-use Rattle.gm_syntax_words.specs.Spelling.{Ending, Reads, ending_of}
+use Rattle.gm_syntax_words.specs.Spelling.{Ending, Reads}
 use Rattle.gm_syntax_words.specs.LineText.{IsNextWord, FillText}
 use Rattle.gm_syntax_words.proofs.Classes.{bracket_not_blank, quote_not_others, word_not_others, equals_word, quote_quote, grave_quote}
 use Rattle.gm_syntax.specs.Document.{Line, Blank, Comment, Open, Close, Entry, Finish, Whole, IsLineAt, ReadsLines, start, after, Place}
@@ -60,11 +59,11 @@ module _ (from : ℕ) (text : List ℕ) (t u : Placed) (s r : Span) (rest other 
     (same : t.word ≡ u.word) (n : IsNextWord from text t s rest) (m : IsNextWord from text u r other) where
   pub one_next : (s ≡ r) × (rest ≡ other)
   one_next =
-      let p = shape_solid t.word.kind t.word.spelling shaped.0 shaped.1 in
+      let p = shape_solid _ _ _ shaped.1 in
       let spelling : u.word.spelling ≡ t.word.spelling = rw same refl in
       let here = n.parts ∙ ap (λ l. n.blanks ++ (l ++ rest)) p.parts in
       let there = m.parts ∙ ap (λ l. m.blanks ++ (l ++ other)) (spelling ∙ p.parts) in
-      let b = same_blanks p.byte n.blanks m.blanks (p.more ++ rest) (p.more ++ other) p.solid n.are_blank m.are_blank (sym here ∙ there) in
+      let b = same_blanks p.byte _ _ _ _ p.solid n.are_blank m.are_blank (sym here ∙ there) in
       let first : s.first ≡ r.first = omega (arith, n.first, m.first, b.0) in
       (same_span s r first (omega (arith, n.after, m.after, first, ap length spelling)), append_cancel_left p.more rest other b.1)
 
@@ -101,15 +100,15 @@ words_same source from text (t ∷ ts) (u ∷ us) c d shaped e f g p q =
 
 reads_shaped : (before : Option Word) (text : List ℕ) (words : List Word) (e : Ending) → Reads before text words e → AllByRecursion IsShaped words
 reads_shaped before text [] e r = tt
-reads_shaped before text (w ∷ words) e (rest, b, others) = (b.shape, reads_shaped (Some w) rest words e others)
+reads_shaped before text (w ∷ words) e (rest, b, others) = (b.shape, reads_shaped _ rest words e others)
 
 line_shaped : (inside : Bool) (text : List ℕ) (l : Line Placed) → IsLineAt inside text (plain l) → AllByRecursion IsShaped (words_of (tokens_of l))
 line_shaped inside text (Open verb suffix) h =
-    let w = from_words inside h.words h.comment (Open verb.word suffix) h.classed in
-    ((subst (AllByRecursion IsShaped) w.0 (reads_shaped None text h.words (ending_of h.comment) h.spelled)).0, tt)
+    let w = from_words inside h.words _ _ h.classed in
+    ((subst (AllByRecursion IsShaped) w.0 (reads_shaped None text h.words _ h.spelled)).0, tt)
 line_shaped inside text (Entry words suffix) h =
-    let w = from_words inside h.words h.comment (Entry (words_of words) suffix) h.classed in
-    rw (← w.0) (reads_shaped None text h.words (ending_of h.comment) h.spelled)
+    let w = from_words inside h.words _ _ h.classed in
+    rw (← w.0) (reads_shaped None text h.words _ h.spelled)
 line_shaped inside text l h = tt
 
 module _ (source : List ℕ) (from : ℕ) (text : List ℕ) where
@@ -153,4 +152,4 @@ pub one_placing : (source : List ℕ) (doc other : List (Line Placed)) → IsPar
     → IsParsedAs source (Ok other) → IsPlacedIn source doc → IsPlacedIn source other → doc ≡ other
 one_placing source doc other p q a b =
     let words : plain_lines other ≡ plain_lines doc = (p.1.only (plain_lines other) Whole q.1.reads).0 in
-    lines_same source start 0 (lines_of source) doc other Whole p.1.reads (sym words) a.fills_lines b.fills_lines a.counted_lines b.counted_lines
+    lines_same source start 0 _ doc other Whole p.1.reads (sym words) a.fills_lines b.fills_lines a.counted_lines b.counted_lines

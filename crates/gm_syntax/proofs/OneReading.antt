@@ -34,10 +34,10 @@ from_piece n line rest words after_bare (piece.Fault kind) le p e later = record
 
 -- since the rest of the line has only one reading, so has the line
 from_rest : (n : ℕ) (line rest : List ℕ) (words : List Word) (after_bare : Bool) → length rest ≤ n → Progress line words after_bare rest → OneReading line
-from_rest zero line rest words after_bare le p = from_piece zero line rest words after_bare (piece_of after_bare rest)
+from_rest zero line rest words after_bare le p = from_piece zero line rest words _ _
     le p refl (λ other more b lt q. absurd (omega arith))
-from_rest (suc n) line rest words after_bare le p = from_piece (suc n) line rest words after_bare
-    (piece_of after_bare rest) le p refl (λ other more b lt q. from_rest n line other more b (omega arith) q)
+from_rest (suc n) line rest words after_bare le p = from_piece (suc n) line rest words _
+    _ le p refl (λ other more b lt q. from_rest n line other more b (omega arith) q)
 
 one_reading : (line : List ℕ) → OneReading line
 one_reading line = from_rest (length line) line line [] false (omega arith) (progress_start line)
@@ -68,7 +68,7 @@ never_both line s f =
     not_end s.1 f.0 ((r.only.only s.0 (ending_of s.1) s.2).1 ∙ sym (r.only.only f.1.0 (Fault f.0) f.1.1).1)
 
 pub spelled_or_faulty : (line : List ℕ) → IsSpelled line ⊎ IsFaulty line
-spelled_or_faulty line = by_ending (one_reading line).words (one_reading line).ending (one_reading line).only
+spelled_or_faulty line = by_ending _ _ (one_reading line).only
   where
     by_ending : (words : List Word) (e : Ending) → IsOnlyReading line words e → IsSpelled line ⊎ IsFaulty line
     by_ending words Nothing o = inl (words, None, o.reads)

@@ -11,10 +11,9 @@ use Rattle.gm_syntax_words.specs.Tokens.{Placed}
 use Rattle.gm_syntax_words.specs.Lines.{lines_of}
 use Rattle.gm_syntax_words.specs.Spelling.{Fault, Reads, IsSpelledBy}
 use Rattle.gm_syntax.specs.Document.{Line, Finish, Whole, Faulty, class_of, IsLineAt, HasLineFault, ReadsLines, start, after, Place}
-use Rattle.gm_syntax.specs.LineViews.{plain_lines}
 use Rattle.gm_syntax.specs.Parsed.{IsParsedAs}
 use Rattle.gm_syntax.specs.Reader.{IsOnlyText}
-use Rattle.gm_syntax.specs.Documents.{is_open_after, HaveNoFault, IsNeverClosed, IsReading, IsReadingResult}
+use Rattle.gm_syntax.specs.Documents.{HaveNoFault, IsNeverClosed, IsReading, IsReadingResult}
 use Rattle.gm_syntax.proofs.Stable.{same_ok, same_err, not_ok, class_is}
 use Rattle.gm_syntax.proofs.OneReading.{one_spelling, one_fault, never_both, spelled_or_faulty}
 use Rattle.gm_syntax.proofs.TextPieces.{pieces_lines}
@@ -32,7 +31,7 @@ class_same inside text words others comment other s t =
 pub one_line_at : (inside : Bool) (text : List ℕ) (line other : Line Word) → IsLineAt inside text line
     → IsLineAt inside text other → line ≡ other
 one_line_at inside text line other a b =
-    same_ok line other (sym a.classed ∙ class_same inside text a.words b.words a.comment b.comment a.spelled b.spelled ∙ b.classed)
+    same_ok line other (sym a.classed ∙ class_same inside text a.words b.words _ _ a.spelled b.spelled ∙ b.classed)
 
 pub one_fault_at : (inside : Bool) (text : List ℕ) (kind other : SyntaxKind) → HasLineFault inside text kind
     → HasLineFault inside text other → kind ≡ other
@@ -53,7 +52,7 @@ pub not_both_at : (inside : Bool) (text : List ℕ) (line : Line Word) (kind : S
 not_both_at inside text line kind a f =
     elim f [
       | inl g ↦ never_both text (a.words, a.comment, a.spelled) (kind, g)
-      | inr s ↦ not_ok kind line (sym s.3 ∙ class_same inside text s.0 a.words s.1 a.comment s.2 a.spelled ∙ a.classed)
+      | inr s ↦ not_ok kind line (sym s.3 ∙ class_same inside text s.0 a.words s.1 _ s.2 a.spelled ∙ a.classed)
     ]
 
 pub either_at : (inside : Bool) (text : List ℕ)
@@ -75,7 +74,7 @@ either_at inside text =
 no_open_block_lexical : (before : Option Word) (text : List ℕ) (words : List Word)
     → Reads before text words (Fault OpenBlock) → ⊥
 no_open_block_lexical before text [] r = r.ends
-no_open_block_lexical before text (w ∷ words) r = no_open_block_lexical (Some w) r.0 words r.2
+no_open_block_lexical before text (w ∷ words) r = no_open_block_lexical _ r.0 words r.2
 
 no_open_block_class : (inside : Bool) (words : List Word) (comment : Option (List ℕ))
     → class_of inside words comment ≡ Err OpenBlock → ⊥
@@ -129,7 +128,7 @@ some_reading text = let w = some_walk start (lines_of text) in (w.0, w.1, readin
 pub one_reading_of : (text : List ℕ) (lines others : List (Line Word)) (f g : Finish) → IsReading text lines f
     → IsReading text others g → (others ≡ lines) × (g ≡ f)
 one_reading_of text lines others f g r s =
-    one_walk start (lines_of text) lines others f g (reads_as text lines f r) (reads_as text others g s)
+    one_walk start _ lines others f g (reads_as text lines f r) (reads_as text others g s)
 
 -- ---- which fault is reported
 
@@ -139,32 +138,32 @@ no_fault_before text lines f r front back line piece kind e at =
     let h = r.are_lines front back line e in
     let here : slice_get (lines_of text) (length front) ≡ Some h.0 =
     rw (← pieces_lines text r.pieces r.are_pieces) h.1 in
-    not_both_at (is_open_after front) piece line kind
+    not_both_at _ piece line kind
     (rw (← (some_same h.0 piece (sym here ∙ at))) h.2)
 
 pub never_closed : (text : List ℕ) (lines : List (Line Word)) (number : ℕ)
     → IsReading text lines (Faulty number OpenBlock) → IsNeverClosed (lines_of text) lines number
 never_closed text lines number r =
     elim r.ends [
-      | inl s ↦ absurd (no_open_block_at (is_open_after lines) s.piece s.has_fault)
-      | inr s ↦ (rw (s.0.0, pieces_lines text r.pieces r.are_pieces) refl, s.0.1)
+      | inl s ↦ absurd (no_open_block_at _ s.piece s.has_fault)
+      | inr s ↦ (rw (s.0.0, pieces_lines text _ r.are_pieces) refl, s.0.1)
     ]
 
 -- ---- the results of reading bytes
 
 only_text : (text : List ℕ) (lines : List (Line Word)) (f : Finish) → IsReading text lines f → IsOnlyText text lines f
 only_text text lines f r =
-    record { reads = reads_as text lines f r; only = λ others g s. one_walk start (lines_of text) lines others f g (reads_as text lines f r) s }
+    record { reads = reads_as text lines f r; only = λ others g s. one_walk start _ lines others f g (reads_as text lines f r) s }
 
 pub parsed_reading : (bytes : List ℕ) (answer : Result (List (Line Placed)) SyntaxFault) → IsParsedAs bytes answer
     → IsReadingResult bytes answer
-parsed_reading bytes (Ok doc) h = (h.0, reading_of bytes (plain_lines doc) Whole h.1.reads)
+parsed_reading bytes (Ok doc) h = (h.0, reading_of bytes _ Whole h.1.reads)
 parsed_reading bytes (Err (faults.Syntax number kind)) h =
-    (h.0, h.1, reading_of bytes h.1 (Faulty number kind) h.2.reads)
+    (h.0, h.1, reading_of bytes h.1 _ h.2.reads)
 parsed_reading bytes answer h = h
 
 pub reading_parsed : (bytes : List ℕ) (answer : Result (List (Line Placed)) SyntaxFault)
     → IsReadingResult bytes answer → IsParsedAs bytes answer
-reading_parsed bytes (Ok doc) h = (h.0, only_text bytes (plain_lines doc) Whole h.1)
-reading_parsed bytes (Err (faults.Syntax number kind)) h = (h.0, h.1, only_text bytes h.1 (Faulty number kind) h.2)
+reading_parsed bytes (Ok doc) h = (h.0, only_text bytes _ Whole h.1)
+reading_parsed bytes (Err (faults.Syntax number kind)) h = (h.0, h.1, only_text bytes h.1 _ h.2)
 reading_parsed bytes answer h = h

@@ -32,17 +32,17 @@ part_closed (Single line) p = ((p.1, tt), inside_after-level false line p.0)
 part_closed (Block verb suffix inner last) p =
     let loose = loose_valid true inner p.1 in
     let closing : AreValidFrom (inside_after_all true inner) (Close last ∷ []) = (rw loose.1 p.2, tt) in
-    ((p.0, stand_together true inner (Close last ∷ []) loose.0 closing), inside_after_all-append true inner (Close last ∷ []))
+    ((p.0, stand_together true inner _ loose.0 closing), inside_after_all-append true inner _)
 
 parts_closed : (parts : List Part) → AllByRecursion IsPart parts → AreClosed (flat_map part_lines parts)
 parts_closed [] a = (tt, refl)
 parts_closed (p ∷ parts) a =
-    closed_together (part_lines p) (flat_map part_lines parts) (part_closed p a.0) (parts_closed parts a.1)
+    closed_together _ _ (part_closed p a.0) (parts_closed parts a.1)
 
 pub parts_document : (lines : List (Line Word)) → ConsistOfParts lines → IsDocument lines
 parts_document lines h =
     let all = parts_closed h.parts h.are_parts in
-    rw h.all_lines (standing_lines start (flat_map part_lines h.parts) all.0 all.1)
+    rw h.all_lines (standing_lines start _ all.0 all.1)
 
 -- ---- a document has parts
 
@@ -96,7 +96,7 @@ parts_from false [] v e = record { parts = []; are_parts = tt; all_lines = refl 
 parts_from true [] v e = absurd (true≢false e)
 parts_from false (Open verb suffix ∷ ls) v e = block verb suffix ls v.0 (parts_from true ls v.1 e)
 parts_from true (Open verb suffix ∷ ls) v e = absurd (true≢false (open_outside true verb suffix v.0))
-parts_from false (Close suffix ∷ ls) v e = absurd (true≢false (sym (line_fits false v.0.0 (Close suffix) v.0.2)))
+parts_from false (Close suffix ∷ ls) v e = absurd (true≢false (sym (line_fits false v.0.0 _ v.0.2)))
 parts_from true (Close suffix ∷ ls) v e =
     record { inner = []; last = suffix; others = ls; loose = tt; closing = v.0; split = refl; more = parts_from false ls v.1 e }
 parts_from inside (line ∷ ls) v e = loose_from inside line ls (refl, v.0) (parts_from inside ls v.1 e)

@@ -55,14 +55,14 @@ opening_after : (lines : List (Line Word)) (at : Place) (line : Line Word) → I
     → (after at line).inside ≡ true → IsLastOpening (lines ++ line ∷ []) (after at line).opened
 opening_after lines at (Open verb suffix) p e = new_opening lines at verb suffix p
 opening_after lines at (Close suffix) p e = absurd (true≢false (sym e))
-opening_after lines at line p e = opening_stays lines line at.opened refl (p.opened e)
+opening_after lines at line p e = opening_stays lines line _ refl (p.opened e)
 
 place_step : (lines : List (Line Word)) (at : Place) (line : Line Word) → IsPlaceAfter lines at
     → Fits at.inside line → IsPlaceAfter (lines ++ line ∷ []) (after at line)
 place_step lines at line p f = record {
   fit = fit_push false lines line p.fit (rw (← p.inside) f);
   number = omega (arith, number_after at line, p.number, length-append lines (line ∷ []));
-  inside = rw (after_inside at line, p.inside, inside_after_all-append false lines (line ∷ [])) refl;
+  inside = rw (after_inside at line, p.inside, inside_after_all-append false lines _) refl;
   opened = opening_after lines at line p;
 }
 
@@ -145,7 +145,7 @@ reading_of text lines f r =
       are_pieces = lines_pieces text;
       are_lines = λ front back line e. line_at start [] front back line (lines_of text) f place_start
           (rw (← e) r);
-      ends = ends_by lines (lines_of text) w.front w.rest w.end f w.place w.split w.as_many w.finishes;
+      ends = ends_by lines _ w.front w.rest w.end f w.place w.split w.as_many w.finishes;
     }
 
 -- ---- to the walk over the lines
@@ -179,10 +179,10 @@ one_last_opening : (front others inner more : List (Line Word)) (v w : Word) (s 
     → at_opening front v s inner ≡ at_opening others w t more → list_all is_level inner ≡ true
     → list_all is_level more ≡ true → length front ≡ length others
 one_last_opening [] [] inner more v w s t e a b = refl
-one_last_opening [] (m ∷ others) inner more v w s t e a b = absurd (no_later (Open v s) m inner others more w t e a)
-one_last_opening (l ∷ front) [] inner more v w s t e a b = absurd (no_later (Open w t) l more front inner v s (sym e) b)
+one_last_opening [] (m ∷ others) inner more v w s t e a b = absurd (no_later _ m inner others more w t e a)
+one_last_opening (l ∷ front) [] inner more v w s t e a b = absurd (no_later _ l more front inner v s (sym e) b)
 one_last_opening (l ∷ front) (m ∷ others) inner more v w s t e a b =
-    ap suc (one_last_opening front others inner more v w s t (tails l m (at_opening front v s inner) (at_opening others w t more) e) a b)
+    ap suc (one_last_opening front others inner more v w s t (tails l m _ _ e) a b)
 
 one_opening : (lines : List (Line Word)) (n m : ℕ) → IsLastOpening lines n → IsLastOpening lines m → n ≡ m
 one_opening lines n m o p =
@@ -190,13 +190,13 @@ one_opening lines n m o p =
       arith,
       o.numbered,
       p.numbered,
-      one_last_opening o.front p.front o.inner p.inner o.verb p.verb o.suffix
-          p.suffix (sym o.split ∙ p.split) o.never_closed p.never_closed,
+      one_last_opening o.front p.front o.inner p.inner o.verb p.verb _
+          _ (sym o.split ∙ p.split) o.never_closed p.never_closed,
     )
 
 opening_open : (lines : List (Line Word)) (n : ℕ) → IsLastOpening lines n → inside_after_all false lines ≡ true
 opening_open lines n o =
-    rw (o.split, inside_after_all-append false o.front (Open o.verb o.suffix ∷ o.inner)) (inside_after_all-level true o.inner o.never_closed)
+    rw (o.split, inside_after_all-append false o.front _) (inside_after_all-level true o.inner o.never_closed)
 
 -- the end of the reading, as seen from some lines on
 record EndsAtFault (all : List (Line Word)) (count : ℕ) (texts : List (List ℕ)) (number : ℕ) (kind : SyntaxKind) : Type 0 where
@@ -225,10 +225,10 @@ finish_by at all [] Whole p h = p.inside ∙ closed_by_counts all p.fit h.1
 finish_by at all (t ∷ ts) Whole p h = absurd (omega (arith, h.0))
 finish_by at all [] (Faulty number kind) p h =
     elim h [
-      | inl s ↦ absurd (none_not_some s.piece (slice_get [] 0) refl s.is_next)
+      | inl s ↦ absurd (none_not_some s.piece _ refl s.is_next)
       | inr s ↦
           let inside : at.inside ≡ true = p.inside ∙ opening_open all number s.1 in
-          (inside, one_opening all number at.opened s.1 (p.opened inside), s.2)
+          (inside, one_opening all number _ s.1 (p.opened inside), s.2)
     ]
 finish_by at all (t ∷ ts) (Faulty number kind) p h =
     elim h [
@@ -277,5 +277,5 @@ ends_start lines texts (Faulty number kind) h =
 pub reads_as : (text : List ℕ) (lines : List (Line Word)) (f : Finish) → IsReading text lines f
     → ReadsLines start (lines_of text) lines f
 reads_as text lines f h =
-    rw (← (pieces_lines text h.pieces h.are_pieces))
-    (walk_by start [] lines h.pieces f place_start h.are_lines (ends_start lines h.pieces f h.ends))
+    rw (← (pieces_lines text _ h.are_pieces))
+    (walk_by start [] lines h.pieces f place_start h.are_lines (ends_start lines _ f h.ends))

@@ -6,7 +6,7 @@ use Rattle.std.proofs.iter.FirstChar.{beside_ascii}
 use Rattle.std.proofs.lemmas.Bool.{true≢false}
 use Rattle.std.proofs.lemmas.List.{take_at, drop_at, drop-drop, append-nil, length-append}
 use Rattle.gm_syntax_words.specs.declared.scan.Piece.TheVariants as piece
-use Rattle.gm_syntax_words.specs.declared.word.Kind.TheVariants.{Bare, Mark}
+use Rattle.gm_syntax_words.specs.declared.word.Kind.TheVariants.{Bare}
 use Rattle.gm_syntax_words.specs.Bytes.{is_blank, is_bracket_or_comma, is_plain}
 use Rattle.gm_syntax_words.specs.Bare.{bare_len}
 use Rattle.gm_syntax_words.specs.Private.Scan.{piece_of, trim_end}

@@ -21,7 +21,7 @@ ended_lines [] rest p = refl
 ended_lines (t ∷ front) rest p =
     let whole : (with_line_feed t ++ joined front) ++ rest ≡ t ++ 10 ∷ (joined front ++ rest) =
     append_assoc (with_line_feed t) (joined front) rest ∙ append_assoc t (10 ∷ []) (joined front ++ rest) in
-    ap lines_of whole ∙ ended_line t (joined front ++ rest) p.0 ∙ ap (λ ts. t ∷ ts) (ended_lines front rest p.1)
+    ap lines_of whole ∙ ended_line t _ p.0 ∙ ap (λ ts. t ∷ ts) (ended_lines front rest p.1)
 
 last_line : (last : List ℕ) → last ≢ [] → HasNoLineFeed last → lines_of last ≡ last ∷ []
 last_line [] n p = absurd (n refl)
@@ -92,7 +92,7 @@ more_piece b text (piece ∷ pieces) n h = record {
           ap (λ t. b ∷ t) e,
         )
     by_front (t ∷ front) last parts filled e =
-        let same : piece ≡ t = firsts t pieces (front ++ last ∷ []) parts in
+        let same : piece ≡ t = firsts t pieces _ parts in
         let more : pieces ≡ front ++ last ∷ [] = others t pieces (front ++ last ∷ []) parts in (
           (b ∷ t) ∷ front,
           last,
@@ -109,8 +109,8 @@ lines_pieces (b ∷ bytes) =
     elim (cases_eq b 10) [
       | inl e ↦ rw (lines_cut b bytes e)
           (rw e
-          (cut_piece bytes (lines_of bytes) (lines_pieces bytes)))
-      | inr n ↦ rw (lines_more b bytes n) (more_piece b bytes (lines_of bytes) n (lines_pieces bytes))
+          (cut_piece bytes _ (lines_pieces bytes)))
+      | inr n ↦ rw (lines_more b bytes n) (more_piece b bytes _ n (lines_pieces bytes))
     ]
 
 pub pieces_are_lines : (text : List ℕ) (pieces : List (List ℕ)) → pieces ≡ lines_of text → ArePieces text pieces

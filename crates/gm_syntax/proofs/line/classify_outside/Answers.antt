@@ -6,7 +6,7 @@ use Rattle.gm_syntax.proofs.line.classify_outside.Goals as goal
 
 pub returns-then-opens_block-clause-class : goal.returns-then-opens_block-clause-class
 returns-then-opens_block-clause-class c =
-    class_open c.args.parts.words.items c.remove-verb.result _ c.remove-verb.ensures.value (cc)
+    class_open _ _ _ c.remove-verb.ensures.value (cc)
 
 pub returns-then-ends_open-clause-class : goal.returns-then-ends_open-clause-class
 returns-then-ends_open-clause-class c =

@@ -1,8 +1,7 @@
-use Rattle.std.proofs.Common.{◌+◌, length}
 use Rattle.std.proofs.lemmas.Result.{err_from_is_err_and}
 use Rattle.gm_syntax_words.specs.Tokens.{comment_of, words_of}
 use Rattle.gm_syntax_words.proofs.WordPlaces.{stand_take}
-use Rattle.gm_syntax.specs.LineViews.{line_of, plain, tokens_of}
+use Rattle.gm_syntax.specs.LineViews.{line_of, plain}
 use Rattle.gm_syntax.proofs.Filling.{line_filled}
 use Rattle.gm_syntax.proofs.OneLine.{one_line, one_misplaced, read_fault}
 use Rattle.gm_syntax.proofs.line_reader.read_line_at.Goals as goal
@@ -20,12 +19,12 @@ returns-in-Ok-clause-read c = one_line c.args.place.inside c.args.text.now (word
 pub returns-in-Ok-clause-placed : goal.returns-in-Ok-clause-placed
 returns-in-Ok-clause-placed c = λ source after whole.
     rw c.in-Ok.ensures.tokens
-    (stand_take source c.args.first (c.args.first + length c.args.text.now) (length (tokens_of (line_of c.in-Ok.line)))
-    c.in_ok-parts.parts.words.items (c.in_ok-parts.ensures.placed source after whole))
+    (stand_take source _ _ _
+    _ (c.in_ok-parts.ensures.placed source after whole))
 
 pub returns-in-Ok-clause-filled : goal.returns-in-Ok-clause-filled
-returns-in-Ok-clause-filled c = line_filled c.args.place.inside c.args.first c.args.text.now
-    c.in_ok-parts.parts.words.items (comment_of c.in_ok-parts.parts.comment) (line_of c.in-Ok.line)
+returns-in-Ok-clause-filled c = line_filled _ _ _
+    _ _ _
     (rw c.is_inside.ensures at c.in-Ok.ensures.class) c.in-Ok.ensures.tokens c.in_ok-parts.ensures.filled
 
 pub returns-in-Err-clause-read : goal.returns-in-Err-clause-read

@@ -14,7 +14,7 @@ len_is : (c : After-split_at) → c.line_len.result ≡ line_len c.args.text.now
 len_is c = c.line_len.ensures ∙ ap line_len c.as_bytes.ensures.value
 
 cut_is : (c : After-split_at) → CutLine c.args.text.now c.split_at.result.0.now c.split_at.result.1.now
-cut_is c = CutLine-line_len c.args.text.now c.split_at.result.0.now c.split_at.result.1.now c.requires
+cut_is c = CutLine-line_len _ _ _ c.requires
     (c.split_at.ensures.front ∙ ap (λ n. take n c.args.text.now) (len_is c))
     (c.split_at.ensures.back ∙ ap (λ n. drop n c.args.text.now) (len_is c))
 
@@ -37,7 +37,7 @@ split_at-requires-2 c =
     let len = len_is k in
     let boundary : IsCharBoundary c.args.text.now c.line_len.result =
     rw len (line_boundary c.args.text.now c.utf8.text) in
-    past_boundary c.split_at.result.1.now (rw c.split_at.ensures.back
+    past_boundary _ (rw c.split_at.ensures.back
     (cut c.args.text.now c.line_len.result c.utf8.text boundary).1)
     (omega (arith, eqb-false _ 0 (sym c.is_empty.ensures ∙ c.if-is_empty.false))) (cut_is k).ended
 
@@ -58,6 +58,6 @@ returns-clause-suffix c =
     let after =
     sym (take-append-drop 1 c.split_at.result.1.now) ∙ ap (λ l. take 1 c.split_at.result.1.now ++ l)
     (sym c.split_at-2.ensures.back) in
-    suffix_of c.args.text.now (c.split_at.result.0.now ++ take 1 c.split_at.result.1.now) next
+    suffix_of _ _ next
     (parts ∙ ap (λ l. c.split_at.result.0.now ++ l) after
     ∙ sym (append_assoc c.split_at.result.0.now (take 1 c.split_at.result.1.now) next))

@@ -5,13 +5,13 @@ use Rattle.gm_syntax.proofs.simple_line.after_blanks.Goals as goal
 pub split_at-requires : goal.split_at-requires
 split_at-requires c =
     let begins = rw c.as_bytes.ensures.value at c.begins_blank.ensures.0 c.loop-rest-test.true in
-    blank_first c.loop-rest.rest.now c.loop-rest.invariant.utf8 begins
+    blank_first _ c.loop-rest.invariant.utf8 begins
 
 pub loop-rest-preserved : goal.loop-rest-preserved
 loop-rest-preserved c =
     let begins : BeginsBlank c.loop-rest.rest.now = rw c.as_bytes.ensures.value at c.begins_blank.ensures.0 c.loop-rest-test.true in
     record {
       utf8 = rw c.split_at.ensures.back (cut c.loop-rest.rest.now 1 c.loop-rest.invariant.utf8
-          (blank_first c.loop-rest.rest.now c.loop-rest.invariant.utf8 begins)).1;
-      blanks = one_more_blank c.args.text.now c.loop-rest.rest.now c.split_at.result.1.now c.loop-rest.invariant.blanks begins c.split_at.ensures.back;
+          (blank_first _ c.loop-rest.invariant.utf8 begins)).1;
+      blanks = one_more_blank _ _ _ c.loop-rest.invariant.blanks begins c.split_at.ensures.back;
     }

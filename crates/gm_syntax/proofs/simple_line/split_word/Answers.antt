@@ -9,16 +9,16 @@ pub split_at-requires : goal.split_at-requires
 split_at-requires c =
     let begins = rw c.as_bytes-bytes.ensures.value at c.begins_plain.ensures.0 c.if-not-begins_plain.false in
     rw (c.bare_len.ensures ∙ ap bare_len c.as_bytes-bytes.ensures.value)
-    (plain_word_end c.args.text.now c.utf8.text begins)
+    (plain_word_end _ c.utf8.text begins)
 
 pub returns-clause-word : goal.returns-clause-word
 returns-clause-word c = λ after_bare.
     let begins = rw c.as_bytes-bytes.ensures.value at c.begins_plain.ensures.0 c.if-not-begins_plain.false in
-    plain_begins_word c.args.text.now after_bare begins ∙ ap (piece.Word Bare)
+    plain_begins_word _ _ begins ∙ ap (piece.Word Bare)
     (sym (c.split_at.ensures.front_len ∙ c.bare_len.ensures ∙ ap bare_len c.as_bytes-bytes.ensures.value))
 
 pub returns-clause-bare : goal.returns-clause-bare
 returns-clause-bare c =
     let begins = rw c.as_bytes-bytes.ensures.value at c.begins_plain.ensures.0 c.if-not-begins_plain.false in
     let len = c.bare_len.ensures ∙ ap bare_len c.as_bytes-bytes.ensures.value in
-    rw (c.split_at.ensures.front ∙ ap (λ (n : ℕ). take n c.args.text.now) len) (plain_word_bare c.args.text.now begins)
+    rw (c.split_at.ensures.front ∙ ap (λ (n : ℕ). take n c.args.text.now) len) (plain_word_bare _ begins)
