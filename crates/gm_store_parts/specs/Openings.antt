@@ -38,6 +38,11 @@ MayShow (opened None may_fail) seen =
     ((content : List ℕ) × (seen ≡ result_for_bytes content)) ⊎ ((may_fail ≡ true) × (seen ≡ failed))
 MayShow (refused kind) seen = IsRefusedLookup kind seen
 
+-- A lookup may run out of memory while it reads an opened file. If none was opened, the system has done so.
+abbrev pub MayLackMemory : Opening → Type 0
+MayLackMemory (opened known may_fail) = Unit {0}
+MayLackMemory (refused kind) = kind ≡ OutOfMemory
+
 -- one of them, given what may come of opening the file
 abbrev pub MayLookUp : (Opening → Type 0) → Seen → Type 0
 MayLookUp may_open seen = (opening : Opening) × may_open opening × MayShow opening seen

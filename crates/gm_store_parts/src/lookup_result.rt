@@ -5,7 +5,7 @@
 
 ghost use Rattle.std.specs.Prelude.{◌≡◌, IfOk, OnErr};
 ghost use Rattle.gm_store_parts.specs.Asked.{IsWithinLimit};
-ghost use Rattle.gm_store_parts.specs.Openings.{IsRefusedLookup, MayShow, opening_of};
+ghost use Rattle.gm_store_parts.specs.Openings.{IsRefusedLookup, MayLackMemory, MayShow, opening_of};
 ghost use Rattle.gm_store_parts.specs.Private.Reading.{IsReadLookup};
 ghost use Rattle.gm_store_parts.specs.Steps.{reply_in, result_of};
 
@@ -20,13 +20,15 @@ use std::io::ErrorKind;
 /// The result of a lookup, from what came of opening the file at its path. The file is read by pieces into `piece`, at
 /// most `LIMIT + 1` bytes of it.
 ///
-/// The only refusal is `NoMemory`, if the system or reading ran out of memory.
+/// The only refusal is `NoMemory`: always if the system ran out of memory while it opened the file, never for another
+/// error of it, and for an opened file if reading ran out of memory.
 pub fn opened_result<F: ByteReader + Drop>(
     alloc: Global,
     opened: io::Result<F>,
     piece: &mut Vec<u8>,
 ) -> Result<Looked, NoMemory>
     ensures shown { IfOk result (λ looked. MayShow (opening_of F.remaining F.may_fail opened) (result_of looked)) }
+    ensures no_memory { OnErr result (MayLackMemory (opening_of F.remaining F.may_fail opened)) }
     ensures within_limit { IfOk result (λ looked. IsWithinLimit (reply_in (result_of looked))) }
 {
     match opened {
