@@ -1,9 +1,9 @@
 //! What stores of modules' files are made of: names of files, answers and what is kept of them, lists of proxies, and
 //! how files and streams are read and written.
 //!
-//! These are below gm_store, whose users have their names from there. What only that crate calls is public as well: the
-//! rule by which a lookup that opened a file ends (`opened_result`), a lookup in a folder in memory, and what a store
-//! keeps and lends (`AllAnswers`, `History`).
+//! What stores of other crates are made of is public as well: the rule by which a lookup that opened a file ends
+//! (`opened_result`), a lookup in a folder in memory, and what a store keeps and lends (`AllAnswers`). `History` is a
+//! list of pairs for proofs alone.
 #![tactic(auto)]
 
 mod byte_reader;

@@ -3,7 +3,7 @@
 //! It serves commands that read no other file than the one given on standard input, and tests that need neither
 //! several folders nor device failures.
 
-ghost use Rattle.std.specs.Prelude.{◌≡◌, [], map, Some, None, OnOk, OnErr, IfOk, if◌then◌else◌};
+ghost use Rattle.std.specs.Prelude.{◌≡◌, [], Some, None, OnOk, OnErr, IfOk};
 ghost use Rattle.gm_store_parts.specs.Asked.{IsWithinLimit, Name, name_of, reply_of};
 
 use crate::files::all_answers::AllAnswers;
@@ -78,8 +78,7 @@ pub(crate) fn copy_bytes(content: &Vec<u8>) -> Result<Vec<u8>, NoMemory>
 }
 
 impl Asks for MemoryFiles {
-    ghost use Rattle.std.specs.Prelude.{◌≡◌};
-    ghost use Rattle.gm_store_parts.specs.Memory.{held_at, may_give, memory_files_state};
+    ghost use Rattle.gm_store_parts.specs.Memory.{may_give, memory_files_state};
 
     ghost state = { memory_files_state };
 
