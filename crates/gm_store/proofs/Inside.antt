@@ -23,14 +23,23 @@ use Rattle.gm_store.specs.Relative.{IsModuleFile, LeadsBelow, is_plain_element, 
 
 -- ---- bytes of escaped texts
 
+abbrev no_slash : ℕ → Bool
+no_slash b = not (is_slash b)
+
+abbrev no_at : ℕ → Bool
+no_at b = not (b == 64)
+
+abbrev small : ℕ → Bool
+small b = not (is_ascii_uppercase b)
+
 -- if a property holds for the escape of each byte, it holds for the bytes of the escaped text
 escaped-all : (p q : ℕ → Bool) → ((b : ℕ) → p b ≡ true → list_all q (escaped_byte b) ≡ true) → (text : List ℕ)
     → list_all p text ≡ true → list_all q (escaped_text text) ≡ true
 escaped-all p q each [] e = refl
 escaped-all p q each (b ∷ text) e =
     list_all-append q (escaped_byte b) (escaped_text text)
-    ∙ and_from _ _ (each b (first_so (p b) (list_all p text) e))
-    (escaped-all p q each text (second_so (p b) (list_all p text) e))
+    ∙ and_from _ _ (each b (first_so _ _ e))
+    (escaped-all p q each text (second_so _ _ e))
 
 byte_all : (q : ℕ → Bool) (b : ℕ) (upper : Bool) → is_ascii_uppercase b ≡ upper → q 33 ≡ true
     → (is_ascii_uppercase b ≡ true → q (b + 32) ≡ true) → (is_ascii_uppercase b ≡ false → q b ≡ true)
@@ -44,14 +53,14 @@ no_slash_byte b e = grind (arith, nat_tests)
 no_slash_small : (b : ℕ) → is_ascii_uppercase b ≡ true → not (is_slash (b + 32)) ≡ true
 no_slash_small b e = grind (arith, nat_tests)
 
-no_slash_of_path : (b : ℕ) → is_path_byte b ≡ true → list_all (λ b. not (is_slash b)) (escaped_byte b) ≡ true
-no_slash_of_path b e = byte_all (λ b. not (is_slash b)) b (is_ascii_uppercase b) refl refl (no_slash_small b) (λ _. no_slash_byte b e)
+no_slash_of_path : (b : ℕ) → is_path_byte b ≡ true → list_all no_slash (escaped_byte b) ≡ true
+no_slash_of_path b e = byte_all no_slash b (is_ascii_uppercase b) refl refl (no_slash_small b) (λ _. no_slash_byte b e)
 
 no_slash_version_byte : (b : ℕ) → is_byte_of_version b ≡ true → not (is_slash b) ≡ true
 no_slash_version_byte b e = grind (arith, nat_tests)
 
-no_slash_of_version : (b : ℕ) → is_byte_of_version b ≡ true → list_all (λ b. not (is_slash b)) (escaped_byte b) ≡ true
-no_slash_of_version b e = byte_all (λ b. not (is_slash b)) b (is_ascii_uppercase b) refl refl (no_slash_small b) (λ _. no_slash_version_byte b e)
+no_slash_of_version : (b : ℕ) → is_byte_of_version b ≡ true → list_all no_slash (escaped_byte b) ≡ true
+no_slash_of_version b e = byte_all no_slash b (is_ascii_uppercase b) refl refl (no_slash_small b) (λ _. no_slash_version_byte b e)
 
 no_at_byte : (b : ℕ) → is_byte_of_path b ≡ true → not (b == 64) ≡ true
 no_at_byte b e = grind (arith, nat_tests)
@@ -59,8 +68,8 @@ no_at_byte b e = grind (arith, nat_tests)
 no_at_small : (b : ℕ) → is_ascii_uppercase b ≡ true → not (b + 32 == 64) ≡ true
 no_at_small b e = grind (arith, nat_tests)
 
-no_at_of_path : (b : ℕ) → is_byte_of_path b ≡ true → list_all (λ b. not (b == 64)) (escaped_byte b) ≡ true
-no_at_of_path b e = byte_all (λ b. not (b == 64)) b (is_ascii_uppercase b) refl refl (no_at_small b) (λ _. no_at_byte b e)
+no_at_of_path : (b : ℕ) → is_byte_of_path b ≡ true → list_all no_at (escaped_byte b) ≡ true
+no_at_of_path b e = byte_all no_at b (is_ascii_uppercase b) refl refl (no_at_small b) (λ _. no_at_byte b e)
 
 -- ---- path elements
 
@@ -111,16 +120,16 @@ plain_element e h =
     plain_by_first (escaped_text e) escapes.0 escapes.1
 
 element_split : (e : List ℕ) → is_element e ≡ true → slice_split is_slash (escaped_text e) ≡ escaped_text e ∷ []
-element_split e h = split_plain is_slash (escaped_text e) (escaped-all is_path_byte (λ b. not (is_slash b)) no_slash_of_path e (element-bytes e h))
+element_split e h = split_plain is_slash (escaped_text e) (escaped-all is_path_byte no_slash no_slash_of_path e (element-bytes e h))
 
 plain_joined : (es : List (List ℕ)) → 0 < length es → list_all is_element es ≡ true → LeadsBelow (escaped_text (join_with_byte 47 es))
 plain_joined [] some each = absurd (omega arith)
 plain_joined (e ∷ []) some each =
-    let one = first_so (is_element e) true each in
+    let one = first_so _ _ each in
     rw (element_split e one) (and_from _ _ (plain_element e one) refl)
 plain_joined (e ∷ f ∷ es) some each =
-    let one = first_so (is_element e) (list_all is_element (f ∷ es)) each in
-    let rest = plain_joined (f ∷ es) (omega arith) (second_so (is_element e) (list_all is_element (f ∷ es)) each) in
+    let one = first_so _ _ each in
+    let rest = plain_joined (f ∷ es) (omega arith) (second_so _ _ each) in
     rw (
       flat_map-append escaped_byte e (47 ∷ join_with_byte 47 (f ∷ es)),
       split-append is_slash (escaped_text e) (47 ∷ escaped_text (join_with_byte 47 (f ∷ es))),
@@ -134,9 +143,9 @@ plain_path path is = rw is.joined (plain_joined is.elements is.some is.each)
 
 all_glued : (q : List ℕ → Bool) (f : List ℕ) (fs gs : List (List ℕ)) → list_all q (f ∷ fs) ≡ true → list_all q gs ≡ true
     → list_all q (glue_first f fs ([] ∷ gs)) ≡ true
-all_glued q f [] gs left right = rw (append-nil f) (and_from _ _ (first_so (q f) true left) right)
-all_glued q f (f2 ∷ fs) gs left right = and_from _ _ (first_so (q f) (list_all q (f2 ∷ fs)) left)
-    (all_glued q f2 fs gs (second_so (q f) (list_all q (f2 ∷ fs)) left) right)
+all_glued q f [] gs left right = rw (append-nil f) (and_from _ _ (first_so _ _ left) right)
+all_glued q f (f2 ∷ fs) gs left right = and_from _ _ (first_so _ _ left)
+    (all_glued q f2 fs gs (second_so _ _ left) right)
 
 leads_on : (text rest : List ℕ) (parts : List (List ℕ)) → slice_split is_slash rest ≡ [] ∷ parts → LeadsBelow text
     → list_all is_plain_element parts ≡ true → LeadsBelow (text ++ rest)
@@ -150,10 +159,10 @@ leads_on text rest parts cut left right =
 pub list_below : (path : List ℕ) → IsPath path → LeadsBelow (escaped_text path ++ codes "/@v/list")
 list_below path is = leads_on (escaped_text path) (codes "/@v/list") (codes "@v" ∷ codes "list" ∷ []) refl (plain_path path is) refl
 
-no_slash_version : (version : List ℕ) → IsVersion version → list_all (λ b. not (is_slash b)) (escaped_text version ++ codes ".mod") ≡ true
+no_slash_version : (version : List ℕ) → IsVersion version → list_all no_slash (escaped_text version ++ codes ".mod") ≡ true
 no_slash_version version is =
-    list_all-append (λ b. not (is_slash b)) (escaped_text version) (codes ".mod")
-    ∙ and_from _ _ (escaped-all is_byte_of_version (λ b. not (is_slash b)) no_slash_of_version version (version-bytes version is)) refl
+    list_all-append no_slash (escaped_text version) (codes ".mod")
+    ∙ and_from _ _ (escaped-all is_byte_of_version no_slash no_slash_of_version version (version-bytes version is)) refl
 
 -- the path of a .mod file, associated to the right
 regroup : (path version : List ℕ) → relative_text (mod_file path version) ≡ escaped_text path ++ (codes "/@v/" ++ (escaped_text version ++ codes ".mod"))
@@ -174,22 +183,20 @@ mod_below path version is_path is_version =
 never : (y : ℕ) → 64 ≡ y → not (y == 64) ≡ true → ⊥
 never y same apart = let hit : not (64 == 64) ≡ true = ap (λ y. not (y == 64)) same ∙ apart in cc hit
 
-cut_once : (xs ys a b : List ℕ) → list_all (λ b. not (b == 64)) xs ≡ true → list_all (λ b. not (b == 64)) ys ≡ true
+cut_once : (xs ys a b : List ℕ) → list_all no_at xs ≡ true → list_all no_at ys ≡ true
     → xs ++ 64 ∷ a ≡ ys ++ 64 ∷ b → (xs ≡ ys) × (a ≡ b)
 cut_once [] [] a b p q e = (refl, cc e)
-cut_once [] (y ∷ ys) a b p q e = let same : 64 ≡ y = cc e in let apart =
-    first_so (not (y == 64)) (list_all (λ b. not (b == 64)) ys) q in absurd (never y same apart)
-cut_once (x ∷ xs) [] a b p q e = let same : 64 ≡ x = cc e in let apart =
-    first_so (not (x == 64)) (list_all (λ b. not (b == 64)) xs) p in absurd (never x same apart)
+cut_once [] (y ∷ ys) a b p q e = absurd (never y (cc e) (first_so _ _ q))
+cut_once (x ∷ xs) [] a b p q e = absurd (never x (cc e) (first_so _ _ p))
 cut_once (x ∷ xs) (y ∷ ys) a b p q e =
     let same : x ≡ y = cc e in
-    let rest = cut_once xs ys a b (second_so (not (x == 64)) (list_all (λ b. not (b == 64)) xs) p)
-    (second_so (not (y == 64)) (list_all (λ b. not (b == 64)) ys) q) (cc e) in
+    let rest = cut_once xs ys a b (second_so _ _ p)
+    (second_so _ _ q) (cc e) in
     (cc (same, rest.0), rest.1)
 
-no_at_path : (path : List ℕ) → IsPath path → list_all (λ b. not (b == 64)) (escaped_text path ++ codes "/") ≡ true
-no_at_path path is = list_all-append (λ b. not (b == 64)) (escaped_text path) (codes "/")
-    ∙ and_from _ _ (escaped-all is_byte_of_path (λ b. not (b == 64)) no_at_of_path path (path-bytes path is)) refl
+no_at_path : (path : List ℕ) → IsPath path → list_all no_at (escaped_text path ++ codes "/") ≡ true
+no_at_path path is = list_all-append no_at (escaped_text path) (codes "/")
+    ∙ and_from _ _ (escaped-all is_byte_of_path no_at no_at_of_path path (path-bytes path is)) refl
 
 -- the whole text determines the module path and the part after it
 same_path : (p q a b : List ℕ) → IsPath p → IsPath q → escaped_text p ++ (codes "/@v/" ++ a) ≡ escaped_text q ++ (codes "/@v/" ++ b) → (p ≡ q) × (a ≡ b)
@@ -233,12 +240,12 @@ texts_differ (mod_file p v) (folder_file u) a b e = absurd b
 texts_differ (list_file p) (folder_file u) a b e = absurd b
 texts_differ (folder_file t) n a b e = absurd a
 
-small-append : (xs ys : List ℕ) → list_all (λ b. not (is_ascii_uppercase b)) xs ≡ true
-    → list_all (λ b. not (is_ascii_uppercase b)) ys ≡ true
-    → list_all (λ b. not (is_ascii_uppercase b)) (xs ++ ys) ≡ true
-small-append xs ys e f = list_all-append (λ b. not (is_ascii_uppercase b)) xs ys ∙ and_from _ _ e f
+small-append : (xs ys : List ℕ) → list_all small xs ≡ true
+    → list_all small ys ≡ true
+    → list_all small (xs ++ ys) ≡ true
+small-append xs ys e f = list_all-append small xs ys ∙ and_from _ _ e f
 
-pub texts_small : (name : Name) → IsModuleFile name → list_all (λ b. not (is_ascii_uppercase b)) (relative_text name) ≡ true
+pub texts_small : (name : Name) → IsModuleFile name → list_all small (relative_text name) ≡ true
 texts_small (mod_file p v) is = rw (regroup p v) (small-append (escaped_text p) _ (escaped-small p)
     (small-append (codes "/@v/") (escaped_text v ++ codes ".mod") refl
     (small-append (escaped_text v) (codes ".mod") (escaped-small v) refl)))

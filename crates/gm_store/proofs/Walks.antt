@@ -1,5 +1,5 @@
 -- The state of a walk through folders.
-use Rattle.std.proofs.Common.{◌≡◌, ◌+◌, ◌-◌, ◌≤◌, ◌<◌, ◌^◌, ◌⊎◌, inl, inr, min, ℕ, false, true, cond, zero, suc, List, [], ◌∷◌, ◌++◌, length, Option, Some, None, ap, ◌∙◌, sym, refl, subst, arith, IsSome, length-append, add_assoc}
+use Rattle.std.proofs.Common.{◌≡◌, ◌+◌, ◌-◌, ◌≤◌, ◌<◌, ◌^◌, ◌⊎◌, inl, inr, min, ℕ, false, true, cond, zero, suc, List, [], ◌∷◌, ◌++◌, length, Option, Some, None, ap, ◌∙◌, sym, refl, subst, arith, IsSome, length-append}
 use Rattle.std.specs.Prelude.{IfNone, slice_get}
 use Rattle.std.specs.Option.{option_map}
 use Rattle.gm_store_parts.specs.declared.files.Answer.{Answer}
@@ -22,11 +22,8 @@ pub record HasPassed (may_find : ℕ → Seen → Type 0) (marks : List Mark) (a
   pub goes : (k : ℕ) (look : Seen) → slice_get passed k ≡ Some look → step_of look (slice_get marks k) ≡ Go
   pub counted : AreCounted passed old new
 
-saturates : (x b m : ℕ) → min (min x m + b) m ≡ min (x + b) m
-saturates x b m = omega arith
-
 counted-more : (old a b : ℕ) → counted_up (counted_up old a) b ≡ counted_up old (a + b)
-counted-more old a b = saturates (old + a) b (2 ^ 64 - 1) ∙ ap (λ n. min n (2 ^ 64 - 1)) (add_assoc old a b)
+counted-more old a b = omega arith
 
 -- a property of the elements of a list with one more element
 get_more : (xs : List Seen) (y : Seen) (P : ℕ → Seen → Type 0) → ((k : ℕ) (x : Seen) → slice_get xs k ≡ Some x → P k x)
@@ -49,14 +46,11 @@ get_within [] k e = cc e
 get_within (m ∷ ms) zero e = omega arith
 get_within (m ∷ ms) (suc k) e = let rest = get_within ms k e in omega arith
 
-count-append : (xs ys : List Seen) → count_by has_failed (xs ++ ys) ≡ count_by has_failed xs + count_by has_failed ys
-count-append xs ys = sum_by-append (λ look. cond (has_failed look) 1 0) xs ys
-
 -- some lookups are counted, and then more
 counted_both : (xs ys : List Seen) (old mid new : Counts) → AreCounted xs old mid → AreCounted ys mid new → AreCounted (xs ++ ys) old new
 counted_both xs ys old mid new one two = (
   two.0 ∙ ap (λ n. counted_up n (length ys)) one.0 ∙ counted-more old.lookups _ _ ∙ ap (counted_up old.lookups) (sym (length-append xs ys)),
-  two.1 ∙ ap (λ n. counted_up n (count_by has_failed ys)) one.1 ∙ counted-more old.failures _ _ ∙ ap (counted_up old.failures) (sym (count-append xs ys)),
+  two.1 ∙ ap (λ n. counted_up n (count_by has_failed ys)) one.1 ∙ counted-more old.failures _ _ ∙ ap (counted_up old.failures) (sym (sum_by-append _ xs ys)),
 )
 
 -- the request falls back from one more folder
