@@ -1,11 +1,11 @@
 -- The greatest of a growing list of versions.
-use Rattle.std.proofs.Common.{MatchOption, Bor, option_map, ◌≡◌, ◌⊎◌, ℕ, ◌<◌, ◌≤◌, Bool, true, false, List, [], ◌∷◌, ◌++◌, Option, Some, None, take, length, slice_index_or, inl, inr, sym, subst, ap, ◌∙◌, arith, refl, ◌+◌, ◌&&◌, add-one}
-use Rattle.std.proofs.Math.Seq.{take-length, take-suc}
+use Rattle.std.proofs.Common.{MatchOption, Bor, option_map, ◌≡◌, ◌⊎◌, ℕ, ◌<◌, Bool, true, false, List, [], ◌∷◌, ◌++◌, Option, Some, None, take, length, slice_index_or, inl, inr, sym, subst, ap, ◌∙◌, arith, refl, ◌+◌, ◌&&◌}
 use Rattle.std.proofs.lemmas.Bool.{and_cases, and_parts}
 use Rattle.std.specs.Ordering.{is_gt, ordering_reverse}
 use Rattle.std.specs.declared.cmp.Ordering.{Ordering}
 use Rattle.std.specs.declared.cmp.Ordering.TheVariants.{Less, Equal, Greater}
 use Rattle.std.proofs.lemmas.Cmp.{upto, tied_itself}
+use Rattle.std.proofs.lemmas.List.{take_more}
 use Rattle.std.proofs.lemmas.List.Elements.{Contains-append_left, Contains-push, Contains-push_cases}
 use Rattle.gm_version.specs.Version.{version_cmp}
 use Rattle.gm_version.specs.VersionOrder.{version_total}
@@ -65,33 +65,23 @@ greatest_more only xs x (Some best) known counted more = record {
   ];
 }
 
--- the list of versions so far, with the next version
-taken_more : (xs : List (List ℕ)) (i : ℕ) (x : List ℕ) → i < length xs → x ≡ slice_index_or xs i x → take i xs ++ x ∷ [] ≡ take (i + 1) xs
-taken_more xs i x within item = sym (ap (λ n. take n xs) (add-one i) ∙ take-suc xs i x within ∙ ap (λ (y : List ℕ). take i xs ++ y ∷ []) (sym item))
-
 pub step_same : (only : Bool) (xs : List (List ℕ)) (i : ℕ) (x : List ℕ) (best : Option (List ℕ)) (better : Bool) → i < length xs
     → x ≡ slice_index_or xs i x → better ≡ (counts only x && is_greater x best) → better ≡ false → IsGreatestOrNone only (take i xs) best
     → IsGreatestOrNone only (take (i + 1) xs) best
 step_same only xs i x best better within item is not known =
-    subst (λ ys. IsGreatestOrNone only ys best) (taken_more xs i x within item)
-    (greatest_same only (take i xs) x best known (and_cases _ _ (sym is ∙ not)))
+    rw (take_more xs i x within, ← item) (greatest_same only (take i xs) x best known (and_cases _ _ (sym is ∙ not)))
 
 pub step_more : (only : Bool) (xs : List (List ℕ)) (i : ℕ) (x : List ℕ) (best : Option (List ℕ)) (better : Bool) → i < length xs
     → x ≡ slice_index_or xs i x → better ≡ (counts only x && is_greater x best) → better ≡ true → IsGreatestOrNone only (take i xs) best
     → IsGreatestOrNone only (take (i + 1) xs) (Some x)
 step_more only xs i x best better within item is taken known =
     let counted = and_parts _ _ (sym is ∙ taken) in
-    subst (λ ys. IsGreatestOrNone only ys (Some x)) (taken_more xs i x within item)
-    (greatest_more only (take i xs) x best known counted.0 counted.1)
+    rw (take_more xs i x within, ← item) (greatest_more only (take i xs) x best known counted.0 counted.1)
 
 -- if all versions are considered and none is found, there are no versions
 pub none_listed : (xs : List (List ℕ)) → NoneConsidered false xs → xs ≡ []
 none_listed [] none = refl
 none_listed (x ∷ xs) none = let e : true ≡ false = none x (0, omega arith, refl) in cc
-
--- the versions up to the last are all versions
-pub take-whole : (xs : List (List ℕ)) (i : ℕ) → i ≤ length xs → length xs ≤ i → take i xs ≡ xs
-take-whole xs i is_gt-turned above = let same : i ≡ length xs = omega arith in ap (λ n. take n xs) same ∙ take-length xs
 
 -- if there is no release, the greatest of all versions is the latest
 pub latest_of_all : (xs : List (List ℕ)) (result : Option (Bor (List ℕ))) → NoneConsidered true xs

@@ -1,12 +1,12 @@
 -- Collecting the versions that may be listed from a list of words.
-use Rattle.std.proofs.Common.{◌≡◌, zero, suc, ℕ, List, [], ◌∷◌, ◌++◌, map, nat_eq, sym, subst, ◌∙◌, ap, arith, Bor, Option, Some, None}
+use Rattle.std.proofs.Common.{◌≡◌, ℕ, List, [], ◌∷◌, ◌++◌, map, nat_eq, sym, subst, ◌∙◌, inl, inr, Bor, Option, Some, None}
 use Rattle.std.specs.Prelude.{Contains}
 use Rattle.std.specs.Cmp.Lexicographic.{nat_list_eq_equiv, pointwise, same_text}
 use Rattle.std.specs.List.{dedup}
 use Rattle.std.specs.Option.{IfNone, IfSome}
 use Rattle.std.specs.List.Sorted.{IsPermutation, IsSorted}
-use Rattle.std.proofs.lemmas.List.{map-append}
-use Rattle.std.proofs.lemmas.List.Elements.{Contains-append_cases, Contains-append_left, Contains-append_right}
+use Rattle.std.proofs.lemmas.List.{map_push}
+use Rattle.std.proofs.lemmas.List.Elements.{Contains-append_left, Contains-push, Contains-push_cases}
 use Rattle.std.proofs.lemmas.List.Kept.{Contains-dedup, Contains-from_dedup, IsStrictlySortedBy-dedup}
 use Rattle.std.proofs.lemmas.List.Sorted.{Contains-permutation, IsPermutation-sym}
 use Rattle.gm_version.specs.Version.{version_cmp}
@@ -14,22 +14,19 @@ use Rattle.gm_version.specs.VersionOrder.{version_ties, version_total}
 use Rattle.gm_name.specs.Lines.{first_word, lines}
 use Rattle.gm_store.specs.Listed.{AreListed, IsListable}
 use Rattle.gm_store.specs.Private.Versions.{HoldsListable}
-use Rattle.gm_name.proofs.Logic.{cases}
-
-Contains-only : (x y : List ℕ) → Contains (x ∷ []) y → x ≡ y
-Contains-only x y (zero, within, is) = is
-Contains-only x y (suc k, within, is) = absurd (omega arith)
 
 -- one more word, and it may be listed
 pub holds_more : (path : List ℕ) (words versions : List (List ℕ)) (word : List ℕ) → HoldsListable path words versions
     → IsListable path word → HoldsListable path (words ++ word ∷ []) (versions ++ word ∷ [])
 holds_more path words versions word holds listable = λ v. (
-  λ h. cases (Contains-append_cases versions (word ∷ []) v h)
-      (λ old. let both = (holds v).0 old in (Contains-append_left words (word ∷ []) v both.0, both.1))
-      (λ new. (Contains-append_right words (word ∷ []) v new, subst (IsListable path) (Contains-only word v new) listable)),
-  λ h. cases (Contains-append_cases words (word ∷ []) v h.0)
-      (λ old. Contains-append_left versions (word ∷ []) v ((holds v).1 (old, h.1)))
-      (λ new. Contains-append_right versions (word ∷ []) v new),
+  λ h. elim (Contains-push_cases versions word v h) [
+    | inl old ↦ let both = (holds v).0 old in (Contains-append_left words (word ∷ []) v both.0, both.1)
+    | inr same ↦ subst (λ v. Contains (words ++ word ∷ []) v × IsListable path v) same (Contains-push words word, listable)
+  ],
+  λ h. elim (Contains-push_cases words word v h.0) [
+    | inl old ↦ Contains-append_left versions (word ∷ []) v ((holds v).1 (old, h.1))
+    | inr same ↦ subst (Contains (versions ++ word ∷ [])) same (Contains-push versions word)
+  ],
 )
 
 -- one more word, and it may not be listed
@@ -37,9 +34,10 @@ pub holds_same : (path : List ℕ) (words versions : List (List ℕ)) (word : Li
     → ¬ (IsListable path word) → HoldsListable path (words ++ word ∷ []) versions
 holds_same path words versions word holds refused = λ v. (
   λ h. let both = (holds v).0 h in (Contains-append_left words (word ∷ []) v both.0, both.1),
-  λ h. cases (Contains-append_cases words (word ∷ []) v h.0)
-      (λ old. (holds v).1 (old, h.1))
-      (λ new. absurd (refused (subst (IsListable path) (sym (Contains-only word v new)) h.1))),
+  λ h. elim (Contains-push_cases words word v h.0) [
+    | inl old ↦ (holds v).1 (old, h.1)
+    | inr same ↦ absurd (refused (subst (IsListable path) (sym same) h.1))
+  ],
 )
 
 -- after sorting and removing duplicates, the list is that of the listed versions
@@ -55,26 +53,18 @@ listed_from path text found sorted holds moved ordered = record {
   );
 }
 
-first_words-push : (lines : List (Bor (List ℕ))) (line : Bor (List ℕ))
-    → map first_word (map (λ line. line.now) (lines ++ line ∷ [])) ≡ map first_word (map (λ line. line.now) lines)
-    ++ first_word line.now ∷ []
-first_words-push lines line = ap (map first_word) (map-append (λ (line : Bor (List ℕ)). line.now) lines (line ∷ []))
-    ∙ map-append first_word (map (λ line. line.now) lines) (line.now ∷ [])
-
 -- one more line
 pub line_more : (path : List ℕ) (lines : List (Bor (List ℕ))) (line : Bor (List ℕ)) (new : List (List ℕ))
     → HoldsListable path (map first_word (map (λ line. line.now) lines) ++ first_word line.now ∷ []) new
     → HoldsListable path (map first_word (map (λ line. line.now) (lines ++ line ∷ []))) new
-line_more path lines line new holds = subst (λ words. HoldsListable path words new) (sym (first_words-push lines line)) holds
+line_more path lines line new holds = rw (map_push, map_push) holds
 
 -- one more word that was read, and it may be listed
 pub pushes_word : (words old new : List (List ℕ)) (path : List ℕ) (read first version : List ℕ) → read ≡ first
     → (version ≡ read) × IsListable path read → new ≡ old ++ version ∷ [] → HoldsListable path words old
     → HoldsListable path (words ++ first ∷ []) new
 pushes_word words old new path read first version is listable grown holds =
-    let same : version ≡ first = listable.0 ∙ is in
-    let more = holds_more path words old first holds (subst (IsListable path) is listable.1) in
-    subst (λ versions. HoldsListable path (words ++ first ∷ []) versions) (ap (λ v. old ++ v ∷ []) (sym same) ∙ sym grown) more
+    rw (grown, listable.0, is) (holds_more path words old first holds (subst (IsListable path) is listable.1))
 
 -- one more word that was read, and it may not be listed
 pub passes_word : (words old : List (List ℕ)) (path read first : List ℕ) → read ≡ first → ¬ (IsListable path read)

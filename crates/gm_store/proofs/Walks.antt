@@ -1,5 +1,5 @@
 -- The state of a walk through folders.
-use Rattle.std.proofs.Common.{◌≡◌, ◌+◌, ◌-◌, ◌≤◌, ◌<◌, ◌^◌, ◌⊎◌, inl, inr, min, ℕ, false, true, cond, zero, suc, List, [], ◌∷◌, ◌++◌, length, Option, Some, None, ap, ◌∙◌, sym, refl, subst, arith, IsSome, length-append}
+use Rattle.std.proofs.Common.{◌≡◌, ◌+◌, ◌-◌, ◌≤◌, ◌<◌, ◌^◌, ◌⊎◌, inl, inr, min, ℕ, false, true, zero, suc, List, [], ◌∷◌, ◌++◌, length, Option, Some, None, ap, ◌∙◌, sym, refl, subst, arith, IsSome, length-append}
 use Rattle.std.specs.Prelude.{IfNone, slice_get}
 use Rattle.std.specs.Option.{option_map}
 use Rattle.gm_store_parts.specs.declared.files.Answer.{Answer}

@@ -1,6 +1,7 @@
 use Rattle.std.proofs.Common.{◌+◌, ℕ, Bor, List, Option, subst, sym, take, option_map}
 use Rattle.gm_store.specs.Private.Versions.{IsGreatestOrNone}
-use Rattle.gm_store.proofs.Greatest.{step_more, step_same, take-whole}
+use Rattle.gm_store.proofs.Greatest.{step_more, step_same}
+use Rattle.std.proofs.lemmas.List.{take_all}
 use Rattle.gm_store.proofs.versions.latest.greatest.Goals as goal
 use Rattle.gm_store.proofs.versions.latest.greatest.Goals.{then-is_better, else-is_better}
 
@@ -22,4 +23,4 @@ loop-version-preserved c =
 
 pub returns : goal.returns
 returns c = subst (λ xs. IsGreatestOrNone c.args.releases_only xs (option_map (λ best. best.now) c.loop-version.best))
-    (take-whole c.args.versions.now c.loop-version.version-index c.loop-version.auto.version-index-end c.loop-version-test.false) c.loop-version.invariant
+    (take_all _ _ c.loop-version-test.false) c.loop-version.invariant
