@@ -3,7 +3,7 @@ use Rattle.std.specs.Prelude.{ℕ, List}
 use Rattle.gm_store_parts.specs.declared.fallback.proxy_list.Mark.{Mark}
 use Rattle.gm_store_parts.specs.declared.files.keeping.Keeps.{Ghosts as Kept}
 use Rattle.gm_store_parts.specs.Asked.{Name, Reply}
-use Rattle.gm_store_parts.specs.History.{refused_in}
+use Rattle.gm_store_parts.specs.History.{refusals_in}
 use Rattle.gm_store_parts.specs.States.{StoreState}
 use Rattle.gm_store_parts.specs.Steps.{Counts}
 use Rattle.gm_store.specs.declared.fallback.store.FallbackStore.{FallbackStore}
@@ -24,7 +24,7 @@ asked_by {h = h} store = h.kept store.asked
 
 -- the names whose requests were refused because the device failed, in order
 abbrev pub refused_by : {F K : Type 0} {g : Ghosts F} {h : Kept K} → FallbackStore F K g h → List Name
-refused_by store = refused_in store.refusals
+refused_by store = refusals_in store.refusals
 
 -- how often folders were looked into, and how often the device failed in that
 abbrev pub counts_of : {F K : Type 0} {g : Ghosts F} {h : Kept K} → FallbackStore F K g h → Counts

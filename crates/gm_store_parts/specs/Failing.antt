@@ -3,7 +3,7 @@ use Rattle.std.specs.Prelude.{◌≡◌, ℕ, ◌-◌, List, Option, Some, None}
 use Rattle.gm_store_parts.specs.declared.files.failing.FailingFiles.{FailingFiles}
 use Rattle.gm_store_parts.specs.declared.files.memory.MemoryFiles.{MemoryFiles}
 use Rattle.gm_store_parts.specs.Asked.{Name, Reply}
-use Rattle.gm_store_parts.specs.History.{refused_in}
+use Rattle.gm_store_parts.specs.History.{refusals_in}
 use Rattle.gm_store_parts.specs.Memory.{may_give, pairs_of}
 use Rattle.gm_store_parts.specs.States.{StoreState}
 
@@ -17,7 +17,7 @@ asks_left store = store.left
 
 -- the names whose requests were refused because the device failed, in order
 abbrev pub refusals_of : FailingFiles → List Name
-refusals_of store = refused_in store.refusals
+refusals_of store = refusals_in store.refusals
 
 -- what may come of requesting a name: an answer of the store inside, or none if the device has not failed yet
 abbrev pub may_give_or_fail : FailingFiles → Name → Option Reply → Type 0

@@ -11,5 +11,5 @@ abbrev pub asked_in : History FileName Answer → List (Name × Reply)
 asked_in history = map (λ one. (name_of one.0, reply_of one.1)) history.items
 
 -- the names of the requests that were refused, in order
-abbrev pub refused_in : History FileName AskFault → List Name
-refused_in history = map (λ one. name_of one.0) history.items
+abbrev pub refusals_in : History FileName AskFault → List Name
+refusals_in history = map (λ one. name_of one.0) history.items
