@@ -54,7 +54,7 @@ ENDLESS = re.compile(r"\b(?:cycle|repeat\w*|from_fn|successors)\(|\.(?:extend|co
 WIDTH = re.compile(r"\b(?:format|write|writeln)!\((?:[^\"]*)\"[^\"]*\{\w*:[^}\"]*(?:\$|\*|\d\d)")
 LOOP = re.compile(rf"\b(?:while\b|loop\b|for [^{{;]*\.\.(?![^{{;]*len\(\)))"
                   rf".*?(?:\)\?|\.(?:{'|'.join(GROWS)})\()", re.S)
-TURNS = {"gm_graph_cache": re.compile(r"\bLent(?:::at\(| \{)|(?:(?<!names)\.|TurnHistory::)with\(|\blend_at\("),
+TURNS = {"gm_graph_cache": re.compile(r"\bLent(?:::at\(| \{)|(?:(?<!names)\.|History::)with\(|\blend_at\("),
          "gm_graph": re.compile(r"\b(?:known|lend)\(")}
 
 

@@ -19,6 +19,7 @@ use Rattle.gm_store_parts.specs.declared.files.FileName.{FileName}
 use Rattle.gm_graph_cache.proofs.NumberedModules.{number_below, number_stays}
 use Rattle.gm_graph_cache.specs.declared.cache.file_table.FileTable.{FileTable}
 use Rattle.gm_graph_files.specs.declared.summary.Kept.{Kept}
+use Rattle.gm_graph_cache.specs.FileNames.{places_named}
 use Rattle.gm_graph_cache.specs.FileTable.{place_of}
 use Rattle.gm_graph_cache.specs.Private.FileTable.{IsNewFile, IsPlacedAt, KeepsFiles, KeepsOthers, NotesFiles, NotesFor, PutsFile, place_noted, replacing_place}
 use Rattle.gm_graph_files.specs.Places.{place_among}
@@ -45,17 +46,17 @@ module _ (old new : FileTable) (number place : ℕ) (notes : NotesFor old new nu
 -- ---- a file gets its place
 
 pub place_put : (old new : FileTable) (name : Name) (place : ℕ) (put : OptionalPlace) → place_in put ≡ Some place
-    → new.names.items ≡ (name, put) ∷ old.names.items
+    → places_named new.names ≡ (name, put) ∷ places_named old.names
     → (other : Name) → place_of new other ≡ cond (same_name other name) (Some place) (place_of old other)
 place_put old new name place put at names other =
     rw names (by (same_name other name))
   where
-    by : (b : Bool) → option_and_then place_in (cond b (Some put) (lookup (same_name other) old.names.items)) ≡ cond b (Some place) (place_of old other)
+    by : (b : Bool) → option_and_then place_in (cond b (Some put) (lookup (same_name other) (places_named old.names))) ≡ cond b (Some place) (place_of old other)
     by true = at
     by false = refl
 
 pub place_itself : (old new : FileTable) (name : Name) (place : ℕ) (put : OptionalPlace) → place_in put ≡ Some place
-    → new.names.items ≡ (name, put) ∷ old.names.items → place_of new name ≡ Some place
+    → places_named new.names ≡ (name, put) ∷ places_named old.names → place_of new name ≡ Some place
 place_itself old new name place put at names = place_put old new name place put at names name ∙ rw (name_itself name) refl
 
 pub within_put : (count : ℕ) (entries : List (Name × OptionalPlace)) (name : Name) (place : ℕ) (put : OptionalPlace) → place_in put ≡ Some place
@@ -80,7 +81,7 @@ module _ {main : Main} {modules : List ModuleVersion} {old : FileTable} (new : F
     (is : IsNewFile main modules old number name) (notes : NotesFor old new number place)
     (puts : (other : Name) → replacing_place new other
     ≡ cond (same_name other name) (option_map (λ _. put) (replacing_place old other)) (replacing_place old other))
-    (at : place_in put ≡ Some place) (names : new.names.items ≡ (name, put) ∷ old.names.items) where
+    (at : place_in put ≡ Some place) (names : places_named new.names ≡ (name, put) ∷ places_named old.names) where
   placed : (other : Name) → place_of new other ≡ cond (same_name other name) (Some place) (place_of old other)
   placed = place_put old new name place put at names
 
@@ -182,7 +183,7 @@ files_kept old new kept more names = λ name. rw more (rw names (still_there old
 
 pub file_added : (old new : FileTable) (name : Name) (kept : Kept) (place : ℕ) (put : OptionalPlace)
     → new.files.items ≡ old.files.items ++ kept ∷ [] → place ≡ length old.files.items → place_in put ≡ Some place
-    → new.names.items ≡ (name, put) ∷ old.names.items → PutsFile old new name kept
+    → places_named new.names ≡ (name, put) ∷ places_named old.names → PutsFile old new name kept
 file_added old new name kept noted put more last at names = λ other.
     rw more (rw (place_put old new name noted put at names other) (by (same_name other name) (place_of old other) (old.within other)))
   where

@@ -1,5 +1,5 @@
 -- What a cache holds, what it finds of a vertex, and which requirements it returns.
-use Rattle.std.specs.Prelude.{◌≡◌, ◌<◌, ℕ, List, [], ◌∷◌, ◌++◌, Option, Some, None, MatchResult, Result, Ok, Err, length, IsSomeAnd}
+use Rattle.std.specs.Prelude.{◌≡◌, ◌<◌, ℕ, List, [], ◌∷◌, ◌++◌, Option, Some, None, MatchResult, Result, Ok, Err, length, map, IsSomeAnd}
 use Rattle.std.specs.Option.{option_and_then, option_copied}
 use Rattle.std.specs.Borrow.{Fml, MutBor}
 use Rattle.std.specs.Io.BufRead.{Rests}
@@ -7,10 +7,12 @@ use Rattle.gm_name.specs.ModuleVersion.{ModuleVersion, module_at}
 use Rattle.gm_name_table.specs.Listed.{BeginsWith}
 use Rattle.gm_file.specs.Fields.{Dependency}
 use Rattle.gm_store_parts.specs.Asked.{Name, Reply, name_of}
+use Rattle.gm_store_parts.specs.declared.files.history.History.{History}
 use Rattle.gm_store_sums.specs.Sums.{Sums}
 use Rattle.gm_graph_cache.specs.declared.cache.by_name.Known.{Known}
 use Rattle.gm_graph_cache.specs.declared.cache.by_name.Known.TheVariants as known
 use Rattle.gm_graph_files.specs.declared.class.Class.{Class}
+use Rattle.gm_graph_files.specs.declared.depth.Depth.{Depth}
 use Rattle.gm_graph_files.specs.declared.depth.Turn.{Turn}
 use Rattle.gm_graph_files.specs.declared.summary.Kept.{Kept}
 use Rattle.gm_graph_files.specs.declared.summary.ListSpan.{ListSpan}
@@ -19,6 +21,7 @@ use Rattle.gm_file.specs.Main.{Main, without_excluded}
 use Rattle.gm_graph_cache.specs.FileTable.{kept_at}
 use Rattle.gm_graph_cache.specs.Held.{HoldsAnswers, held_under}
 use Rattle.gm_graph_files.specs.Reading.{file_of}
+use Rattle.gm_graph_files.specs.Turns.{turn}
 use Rattle.gm_graph_cache.specs.Sayings.{Run, Says, run_of, KeepsSayings}
 use Rattle.gm_graph_files.specs.Summaries.{listed_span, own_span_at}
 use mir.Syntax.{named}
@@ -33,9 +36,13 @@ main_in cache = cache.main.now
 abbrev pub sums_in : Cache → Option Sums
 sums_in cache = option_copied cache.sums
 
+-- the turns of a history, in order
+abbrev pub asked_turns : History ModuleVersion Depth → List Turn
+asked_turns history = map (λ one. turn one.0 one.1) history.items
+
 -- the turns whose requirements were requested
 abbrev pub turns_in : Cache → List Turn
-turns_in cache = cache.turns.items
+turns_in cache = asked_turns cache.turns
 
 -- the modules that have numbers, each at the place that is its number
 abbrev pub table_in : Cache → List ModuleVersion

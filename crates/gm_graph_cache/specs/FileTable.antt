@@ -4,11 +4,12 @@ use Rattle.std.specs.Option.{option_and_then}
 use Rattle.gm_store_parts.specs.Asked.{Name}
 use Rattle.gm_graph_cache.specs.declared.cache.file_table.FileTable.{FileTable}
 use Rattle.gm_graph_files.specs.declared.summary.Kept.{Kept}
+use Rattle.gm_graph_cache.specs.FileNames.{places_named}
 use Rattle.gm_graph_files.specs.Places.{place_among}
 
 -- the place of the file of a name
 abbrev pub place_of : FileTable → Name → Option ℕ
-place_of files name = place_among files.names.items name
+place_of files name = place_among (places_named files.names) name
 
 -- what is kept of the file of a name
 abbrev pub kept_at : FileTable → Name → Option Kept

@@ -7,3 +7,4 @@ pub mod Held
 pub mod Visits
 pub mod Refusals
 pub mod FileTable
+pub mod FileNames

@@ -19,8 +19,6 @@ pub(crate) mod load_fault;
 pub(crate) mod naming;
 pub(crate) mod parts;
 pub(crate) mod paths;
-pub(crate) mod place_history;
-pub(crate) mod turn_history;
 pub(crate) mod visit;
 
 ghost use Rattle.std.specs.Prelude.{◌≡◌, ◌≤◌, ◌<◌, ◌+◌, ◌++◌, ◌∷◌, [], List, IfOk, IfSome, OnErr, OnOk, IsSome, MatchResult, None, Err, Ok, length, slice_get};
@@ -50,13 +48,13 @@ use crate::cache::load_fault::LoadFault;
 use crate::cache::naming::{file_name, is_askable};
 use crate::cache::parts::CacheParts;
 use crate::cache::paths::is_right_path;
-use crate::cache::turn_history::TurnHistory;
 use crate::cache::visit::{Verdict, Visit};
 use gm_file::MainModule;
 use gm_graph_files::{Class, Depth, Kept, ListIndex, ListSpan, kept_of, read_answer};
-use gm_name::NoMemory;
+use gm_name::{ModVer, NoMemory};
 use gm_name_table::{KnownNames, ModuleList};
 use gm_store::{Answer, AskFault, Asks, FileName};
+use gm_store_parts::History;
 use gm_store_sums::SumTable;
 use std::alloc::Global;
 
@@ -81,8 +79,9 @@ pub struct Cache<'a> {
     files: FileTable,
     /// The lists of these files, so that equal ones are kept once.
     lists: ListIndex,
-    /// The turns whose requirements were requested, in order.
-    turns: TurnHistory,
+    /// The vertices whose requirements were requested, each with the depth, in order. Only proofs read these turns: the
+    /// list of turns in memory is the worklist.
+    turns: History<ModVer, Depth>,
     /// The name of the file of the last request that was refused.
     failed: Option<FileName>,
     ghost consistent: { IsConsistent main.now (option_copied sums) first modules files } by { Prim.hlevel (props, order_is_fact) },
@@ -111,7 +110,7 @@ impl<'a> Cache<'a> {
     ghost use Rattle.std.specs.Borrow.{sem};
     ghost use Rattle.std.specs.List.{IsDistinct};
     ghost use Rattle.gm_name.specs.ModuleVersion.{pair_eq};
-    ghost use Rattle.gm_graph_cache.specs.Cached.{HasTurns, HoldsSame, Knows, LentSame, file_count, main_in, run_in, sums_in, table_in, turns_in, ArePartsOf, Follows, HasFailedOn, HoldsAfterBorrow, module_numbered};
+    ghost use Rattle.gm_graph_cache.specs.Cached.{HasTurns, HoldsSame, Knows, LentSame, file_count, main_in, run_in, sums_in, table_in, turns_in, asked_turns, ArePartsOf, Follows, HasFailedOn, HoldsAfterBorrow, module_numbered};
     ghost use Rattle.gm_graph_cache.specs.Private.Cached.{IsPlaceFor};
     ghost use Rattle.gm_graph_cache.specs.Lent.{lent_table};
     ghost use Rattle.gm_graph_cache.specs.declared.cache.Cache.{Cache};
@@ -147,7 +146,7 @@ impl<'a> Cache<'a> {
             first,
             files,
             lists: ListIndex::new(alloc),
-            turns: TurnHistory::new(),
+            turns: History::new(),
             failed: None,
         })
     }
@@ -280,12 +279,12 @@ impl<'a> Cache<'a> {
     ///
     /// All that is lent of a vertex is lent here, and no other call changes the list of turns. The call takes the number of
     /// a place, since a vertex itself may have none.
-    pub(crate) fn lend_at(&mut self, place: Option<u32>, turns: TurnHistory) -> Lent<'_>
+    pub(crate) fn lend_at(&mut self, place: Option<u32>, turns: History<ModVer, Depth>) -> Lent<'_>
         requires place { IfSome place (λ place. place < file_count self.old) }
         ensures modules { lent_modules result ≡ at_span (modules_of self.old.modules)
             (span_found (option_and_then (slice_get self.old.files.files.items) place)) }
         ensures table { lent_table result ≡ table_in self.old }
-        ensures* after { sem 𝓛 (HoldsAfterBorrow self.entry (λ end. HasTurns self.entry.now end turns.items)) }
+        ensures* after { sem 𝓛 (HoldsAfterBorrow self.entry (λ end. HasTurns self.entry.now end (asked_turns turns))) }
     {
         let span = self.files.span_of(place);
         self.turns = turns;

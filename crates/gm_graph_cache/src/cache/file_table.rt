@@ -4,16 +4,17 @@
 //! that a replacement names is found by its name: a folder is no module, and two modules may have one replacement.
 
 ghost use Rattle.std.specs.Prelude.{◌≡◌, ◌<◌, ◌≤◌, ℕ, Some, length};
+ghost use Rattle.gm_graph_cache.specs.FileNames.{places_named};
 ghost use Rattle.gm_graph_files.specs.Places.{place_among, place_limit};
 ghost use Rattle.gm_store_parts.specs.Asked.{Name};
 
 use crate::cache::naming::right_name;
-use crate::cache::place_history::PlaceHistory;
 use gm_file::MainModule;
 use gm_graph_files::{Kept, ListSpan};
 use gm_name::NoMemory;
 use gm_name_table::OptionalPlace;
 use gm_store::FileName;
+use gm_store_parts::History;
 use std::alloc::Global;
 use std::collections::BTreeMap;
 
@@ -22,14 +23,15 @@ use std::collections::BTreeMap;
 pub(crate) struct FileTable {
     /// What is kept of each file, in the order in which they were read.
     files: Vec<Kept>,
-    /// Their names, with their places in `files`.
-    names: PlaceHistory,
+    /// Their names, with their places in `files`. Only proofs read them: a file is found by the number of its module, or
+    /// as that of a replacement.
+    names: History<FileName, OptionalPlace>,
     /// For each module, by its number, the place of its file in `files`, if it is noted. The last ones may be left out.
     places: Vec<OptionalPlace>,
     /// The names of the files of all replacements, with their places in `files`, if any.
     replacing: BTreeMap<FileName, OptionalPlace>,
     ghost few: { length files.items ≤ place_limit },
-    ghost within: { (name : Name) (place : ℕ) → place_among names.items name ≡ Some place
+    ghost within: { (name : Name) (place : ℕ) → place_among (places_named names) name ≡ Some place
         → place < length files.items },
 }
 
@@ -58,7 +60,7 @@ impl FileTable {
         for replace in main.replaces() {
             replacing.insert(right_name(alloc, &replace.right)?, OptionalPlace::none())?;
         }
-        let names = PlaceHistory::new();
+        let names = History::new();
         let places = Vec::new(alloc);
         Ok(FileTable {
             files: Vec::new(alloc),
@@ -191,7 +193,7 @@ impl FileTable {
     fn put(&mut self, name: &FileName, number: u32, place: u32) -> Result<(), NoMemory>
         requires { place < length self.old.files.items }
         ensures names { OnOk result ((noted : OptionalPlace) × (place_in noted ≡ Some place)
-            × (self.new.names.items ≡ (name_of name.now, noted) ∷ self.old.names.items)) }
+            × (places_named self.new.names ≡ (name_of name.now, noted) ∷ places_named self.old.names)) }
         ensures notes { (main : Main) (modules : List ModuleVersion)
             → IsNewFile main modules self.old number (name_of name.now)
             → NotesFiles main modules self.old → NotesFiles main modules self.new }

@@ -1,4 +1,5 @@
 use Rattle.std.proofs.Common.{refl}
+use Rattle.std.proofs.lemmas.List.{map_push}
 use Rattle.gm_graph_cache.proofs.Lending.{lender_there, lent_kept}
 use Rattle.gm_graph_cache.proofs.cache.Cache.lend.Goals as goal
 
@@ -10,7 +11,7 @@ returns c = (
   (
     refl,
     λ _. tt,
-    rw c.with-turns.ensures at c.lend_at.follows.holds-at-none,
+    rw (c.with-turns.ensures, map_push) at c.lend_at.follows.holds-at-none,
   ),
   record {
     lent = λ pairs knows.

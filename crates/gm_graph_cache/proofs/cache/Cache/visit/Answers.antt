@@ -1,11 +1,10 @@
-use Rattle.std.proofs.Common.{◌∙◌, ◌++◌, ◌∷◌, [], ℕ, Option, ap, length, refl}
-use Rattle.gm_name.specs.ModuleVersion.{ModuleVersion}
+use Rattle.std.proofs.Common.{◌∙◌, ℕ, Option, ap, length, refl}
+use Rattle.std.proofs.lemmas.List.{map_push}
 use Rattle.gm_name_table.specs.Listed.{NumberedList, modules_of}
 use Rattle.gm_graph_cache.specs.declared.cache.file_table.FileTable.{FileTable}
 use Rattle.gm_graph_cache.specs.Cached.{HoldsSame, module_numbered, run_in}
 use Rattle.gm_graph_cache.specs.Visits.{IsVisit}
 use Rattle.gm_graph_files.specs.Summaries.{at_span}
-use Rattle.gm_graph_files.specs.Turns.{turn}
 use Rattle.gm_graph_cache.proofs.Caching.{has_visited}
 use Rattle.gm_graph_cache.proofs.Lending.{place_said, span_at, visit_got}
 use Rattle.gm_graph_cache.proofs.cache.Cache.visit.Goals as goal
@@ -49,7 +48,7 @@ returns g c =
         λ _. tt,
         has_visited old mid end before after made holds table number d c.of.result c.requires.vertex
             known.count (ap (λ (files : FileTable). length files.files.items) has.files) known.lent.turns
-            (has.turns ∙ c.with-turns.ensures ∙ ap (λ (x : ModuleVersion). mid.turns.items ++ turn x d ∷ []) c.module.ensures.module)
+            (has.turns ∙ rw (c.with-turns.ensures, map_push, c.module.ensures.module) refl)
             (rw table c.module.ensures.distinct) got,
       ),
       record {

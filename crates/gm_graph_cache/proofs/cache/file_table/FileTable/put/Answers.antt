@@ -1,5 +1,9 @@
-use Rattle.std.proofs.Common.{refl, ◌≡◌, ◌∙◌, ◌∷◌, List, ap, arith, length}
+use Rattle.std.proofs.Common.{refl, ◌≡◌, ◌∙◌, ◌∷◌, ◌++◌, [], List, ap, arith, length, map, reverse}
+use Rattle.std.proofs.lemmas.List.{reverse-append}
 use Rattle.gm_store_parts.specs.Asked.{Name, name_of}
+use Rattle.gm_store_parts.specs.declared.files.FileName.{FileName}
+use Rattle.gm_store_parts.specs.declared.files.history.History.{History}
+use Rattle.gm_graph_cache.specs.FileNames.{places_named}
 use Rattle.gm_graph_cache.proofs.Keeping.{any_err}
 use Rattle.gm_graph_cache.proofs.PuttingPlaces.{notes_kept, notes_put, within_put}
 use Rattle.gm_name_table.specs.declared.place.OptionalPlace.{OptionalPlace}
@@ -7,8 +11,9 @@ use Rattle.gm_graph_cache.proofs.cache.file_table.FileTable.put.Goals as goal
 
 -- ---- the place is noted
 
-names_are : (first : Name × OptionalPlace) {made mid old : List (Name × OptionalPlace)} → made ≡ first ∷ mid → mid ≡ old → made ≡ first ∷ old
-names_are first made same = made ∙ rw same refl
+names_are : (old : History FileName OptionalPlace) (one : FileName × OptionalPlace) {made mid : List (FileName × OptionalPlace)}
+    → made ≡ mid ++ one ∷ [] → mid ≡ old.items → map (λ of. (name_of of.0, of.1)) (reverse made) ≡ (name_of one.0, one.1) ∷ places_named old
+names_are old one made same = rw (made, same, reverse-append old.items (one ∷ [])) refl
 
 pub invariant_of-self-clause-within : goal.invariant_of-self-clause-within
 invariant_of-self-clause-within c =
@@ -16,15 +21,15 @@ invariant_of-self-clause-within c =
     let count = length c.put_replacing.new.self.files.items in
     let same : c.put_replacing.new.self.files.items ≡ old.files.items =
     rw c.put_replacing.ensures.files (rw c.note.ensures.others.files refl) in
-    rw (names_are _ c.with-self.ensures (c.put_replacing.ensures.names ∙ c.note.ensures.others.names))
-    (within_put count old.names.items (name_of c.args.name.now) c.args.place c.some-noted.result c.some-noted.ensures
+    rw (names_are _ _ c.with-self.ensures (c.put_replacing.ensures.names ∙ c.note.ensures.others.names))
+    (within_put count (places_named old.names) (name_of c.args.name.now) c.args.place c.some-noted.result c.some-noted.ensures
     (omega (arith, c.requires, ap length same)) (λ name place e. let below = old.within name place e in omega (arith, below, ap length same)))
 
 pub returns-clause-names : goal.returns-clause-names
 returns-clause-names c = (
   c.some-noted.result,
   c.some-noted.ensures,
-  names_are _ c.with-self.ensures (c.put_replacing.ensures.names ∙ c.note.ensures.others.names),
+  names_are _ _ c.with-self.ensures (c.put_replacing.ensures.names ∙ c.note.ensures.others.names),
 )
 
 pub returns-clause-notes : goal.returns-clause-notes
@@ -32,7 +37,7 @@ returns-clause-notes c = λ main modules is.
     notes_put _ c.args.place c.some-noted.result is
     (λ other. rw c.put_replacing.ensures.places (c.in_ok-note.ensures.notes other))
     (rw c.note.ensures.others.replacing at c.put_replacing.ensures.puts) c.some-noted.ensures
-    (names_are _ c.with-self.ensures (c.put_replacing.ensures.names ∙ c.note.ensures.others.names))
+    (names_are _ _ c.with-self.ensures (c.put_replacing.ensures.names ∙ c.note.ensures.others.names))
 
 -- ---- memory ran out
 
