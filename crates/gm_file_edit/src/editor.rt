@@ -14,7 +14,7 @@ use crate::fault::EditFault;
 use crate::keyed_lines::KeyedLines;
 use crate::op::Op;
 use gm_file::{FileFault, MainFile};
-use gm_syntax::{Doc, Line};
+use gm_syntax::Doc;
 use std::alloc::{AllocError, Global};
 use std::marker::Model;
 

@@ -4,11 +4,11 @@
 //! it, so that the blank lines before and after the block don't end up next to each other. Then each line that stays
 //! moves at most once. Nothing is allocated.
 
-ghost use Rattle.std.specs.Prelude.{◌≡◌, ◌+◌, ◌∷◌, ◌++◌, ◌<◌, ◌≤◌, [], false, length, take, drop, Some, None};
+ghost use Rattle.std.specs.Prelude.{◌≡◌, ◌+◌, ◌∷◌, ◌<◌, false, length, drop, Some, None};
 ghost use Rattle.std.specs.List.{list_any};
 ghost use Rattle.gm_syntax.specs.Layout.{is_blank_line};
 ghost use Rattle.gm_syntax.specs.LineViews.{line_of, plain};
-ghost use Rattle.gm_file_edit.specs.Fates.{empties, fate_by, kept_lines, remaining, widened_from};
+ghost use Rattle.gm_file_edit.specs.Fates.{empties, fate_by, remaining, widened_from};
 ghost use Rattle.gm_file_edit.specs.Private.Marks.{AreAtEntries, block_at, closes_bare, fates_of, is_behind_gone, line_at, opens_bare};
 
 use crate::keyed_lines::KeyedLines;

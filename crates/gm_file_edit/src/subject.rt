@@ -1,7 +1,6 @@
 //! What operations are about.
 
 ghost use Rattle.std.specs.Prelude.{◌≡◌, Some, None};
-ghost use Rattle.std.specs.Option.{option_map};
 ghost use Rattle.gm_file.specs.Views.{interval_view};
 ghost use Rattle.gm_file_edit.specs.Edits.{Add, Drop, Set};
 ghost use Rattle.gm_file_edit.specs.Private.Keys.{subject_view, takes_any_version, target_of_edit};
