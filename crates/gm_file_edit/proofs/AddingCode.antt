@@ -43,8 +43,7 @@ spot-block : {test : Directive → Bool} {lines : List (Line Placed)} {spot : Sp
     → block_after_lines None (take spot.before lines) ≡ block_after_lines None is.last.front
 spot-block {test} is =
     let last = is.last in
-    rw (is.before, last.parts, take-behind last.front last.back last.line, block-append None last.front (last.line ∷ []))
-    (passing-level test (block_after_lines None last.front) last.line last.hit)
+    rw (is.before, last.parts, take-behind _ _ _, block-append None _ _) (passing-level _ _ _ last.hit)
 
 -- it is where an entry of the verb is added
 place-is : {own : Verb} {lines : List (Line Placed)} {spot : Spot} → IsSpotOf (is_of_verb own) lines spot → IsAdditionSpot own lines spot
@@ -64,7 +63,7 @@ place-is {own} is =
             last.parts,
             is.before,
             is.inside,
-            insert-behind last.front last.back last.line (entry_at (is_some (block_after_lines None last.front)) verb arguments),
+            insert-behind last.front last.back last.line (entry_at (is_some _) verb arguments),
             added-after-last verb arguments last.front last.back last.line (rw own at last.hit) (rw own at last.later),
           );
     }
@@ -91,7 +90,7 @@ module _ {own : Verb} {lines : List (Line Placed)} {n : ℕ} (next : ℕ) {key :
   none-next = rw is so.none
 
   told-next : found ≡ passes (is_of_verb own) (directive_at (block_after_lines None (take next lines)) (line_at lines next))
-  told-next = tells ∙ ap (λ (k : Key). verb_eq own k.verb) key_is ∙ verb-tells own known _
+  told-next = tells ∙ rw key_is (verb-tells _ known _)
 
   -- one more line
   pub tail-more : found ≡ false → IsTail own lines next
@@ -99,7 +98,7 @@ module _ {own : Verb} {lines : List (Line Placed)} {n : ℕ} (next : ℕ) {key :
       let lt = lt-next in
       record {
         in_range = omega (arith, lt);
-        none = rw (line-here lines next lt, sym told-next ∙ fails, ← block-next lines next lt) none-next;
+        none = rw (line-here _ _ lt, sym told-next ∙ fails, ← block-next _ _ lt) none-next;
       }
 
   -- the entry before the tail is the last
@@ -117,7 +116,7 @@ module _ {own : Verb} {lines : List (Line Placed)} {n : ℕ} (next : ℕ) {key :
           later = rw (← take_more lines next Blank lt) none-next;
         };
         before = omega (arith, count, is);
-        inside = ap (λ (k : Key). k.inside) key_is;
+        inside = rw key_is;
       })
 
 pub entry-loose : (inside : Bool) (verb : List ℕ) (arguments : List Placed) → is_loose (entry_at inside verb arguments) ≡ true
@@ -139,11 +138,11 @@ module _ (whole : List (Line Placed)) {n : ℕ} {key : Key} {found : Bool} (lt :
     (is : key ≡ key_at (block_after_lines None (take n whole)) (line_at whole n)) (tells : found ≡ verb_eq ForModule key.verb)
     (so : IsUnmetTo whole n) where
   told-here : found ≡ passes is_module (directive_at (block_after_lines None (take n whole)) (line_at whole n))
-  told-here = tells ∙ ap (λ (k : Key). verb_eq ForModule k.verb) is ∙ verb-tells ForModule refl _
+  told-here = tells ∙ rw is (verb-tells ForModule refl _)
 
   -- the lines up to and including the next one
   taken-next : (rest : List (Line Placed)) → take (n + 1) whole ++ rest ≡ take n whole ++ line_at whole n ∷ rest
-  taken-next rest = rw (take_more whole n Blank lt) (append_assoc (take n whole) (line_at whole n ∷ []) rest)
+  taken-next rest = rw (take_more _ _ Blank lt) (append_assoc (take n whole) _ _)
 
   -- the lines from the next one on, with new ones after the first module directive
   here-on : (new : List (Line Placed)) → take n whole ++ after_first_of is_module new (block_after_lines None (take n whole))
@@ -162,8 +161,7 @@ module _ (whole : List (Line Placed)) {n : ℕ} {key : Key} {found : Bool} (lt :
   pub outside-found : found ≡ true → key.inside ≡ false → block_after_lines None (take (n + 1) whole) ≡ None
   outside-found holds outside =
       let block = block_after_lines None (take n whole) in
-      block-next whole n lt ∙ passing-level is_module block (line_at whole n) (sym told-here ∙ holds)
-      ∙ none-open block (sym (ap (λ (k : Key). k.inside) is) ∙ outside)
+      block-next _ _ lt ∙ passing-level _ _ _ (sym told-here ∙ holds) ∙ none-open _ (sym (rw is) ∙ outside)
 
 pub unmet-end : (whole : List (Line Placed)) {n count : ℕ} → length whole ≤ n → count ≡ length whole
     → IsUnmetTo whole n → (new : List (Line Placed)) → take count whole ++ (new ++ drop count whole)
@@ -183,4 +181,4 @@ IsOpenTo whole from n = (new : List (Line Placed)) → take n whole ++ after_clo
 -- no block is open after a closing
 pub outside-closing : (lines : List (Line Placed)) (n : ℕ) {suffix : Option (List ℕ)} → n < length lines → line_at lines n ≡ Close suffix
     → block_after_lines None (take (n + 1) lines) ≡ None
-outside-closing lines n lt is = block-next lines n lt ∙ rw is
+outside-closing lines n lt is = block-next _ _ lt ∙ rw is

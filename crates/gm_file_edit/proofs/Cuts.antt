@@ -3,7 +3,7 @@ use Rattle.std.specs.Borrow.{Bor}
 use Rattle.std.specs.Prelude.{MatchOption, slice_index}
 use Rattle.gm_file_edit.specs.Private.Sound.{split_view}
 use Rattle.gm_name.proofs.NameTests.{and_both, path-tested, version-tested}
-use Rattle.std.proofs.Common.{◌≡◌, ℕ, ◌-◌, ◌==◌, ◌&&◌, ◌<◌, nat_lt, true, false, List, [], ◌∷◌, length, get_or, Option, Some, None, inl, inr, refl, ◌∙◌, arith}
+use Rattle.std.proofs.Common.{◌≡◌, ℕ, ◌-◌, ◌==◌, ◌<◌, nat_lt, true, false, List, [], ◌∷◌, length, get_or, Option, Some, None, inl, inr, refl, ◌∙◌, arith}
 use Rattle.std.proofs.lemmas.Bool.{cases_Bool}
 use Rattle.std.proofs.lemmas.Bool.Decides.{nat_tests}
 use Rattle.std.proofs.lemmas.Str.{IsCharBoundary-after_ascii}
@@ -13,7 +13,6 @@ use Rattle.gm_file_edit.specs.Edits.{is_bracketed, path_in, version_in}
 use Rattle.gm_operation.specs.Operations.{has_byte, split_at_byte}
 use Rattle.gm_name.specs.Path.{IsPath}
 use Rattle.gm_version.specs.Version.{IsVersion}
-use Rattle.gm_name.specs.Names.{is_path, is_version}
 use Rattle.gm_file.proofs.PartKinds.{not-tested}
 
 -- a list contains an element if and only if the position of the first one is in range
@@ -41,29 +40,29 @@ pub cut-is : (b : ℕ) (text : List ℕ) (r : Option (Bor (List ℕ) × Bor (Lis
     (λ x. (position_or_len (λ c. c == b) text < length text) × (x.0.now ≡ before_first (λ c. c == b) text)
     × (x.1.now ≡ after_first (λ c. c == b) text))
     → split_view r ≡ split_at_byte b text
-cut-is b text None e = rw (cut-none b text e)
-cut-is b text (Some x) is = cut-some b text is.0 is.1 is.2
+cut-is b text None e = rw (cut-none _ _ e)
+cut-is b text (Some x) is = cut-some _ _ is.0 is.1 is.2
 
 -- in a text in brackets, the end of the first byte and the start of the last are character boundaries
 pub open-boundary : (text : List ℕ) → IsUtf8 text → is_bracketed text ≡ true → IsCharBoundary text 1
 open-boundary text utf8 e =
-    let outer = and_both (nat_lt 1 (length text) && (slice_index text 0 == 91)) (slice_index text (length text - 1) == 93) e in
+    let outer = and_both _ (slice_index text (length text - 1) == 93) e in
     let inner = and_both (nat_lt 1 (length text)) (slice_index text 0 == 91) outer.0 in
     let long : 1 < length text = grind (arith, nat_tests) in
     let at : slice_index text 0 ≡ 91 = grind (arith, nat_tests) in
     let small : get_or text 0 0 < 128 = grind arith in
-    IsCharBoundary-after_ascii text 0 utf8 (omega (arith, long)) small
+    IsCharBoundary-after_ascii _ 0 utf8 (omega (arith, long)) small
 
 -- ---- paths and versions, by the facts proved in gm_name
 
 pub path-there : {text : List ℕ} → IsPath text → path_in text ≡ Some text
-path-there {text} holds = rw ((path-tested text).1 holds)
+path-there {text} holds = rw ((path-tested _).1 holds)
 
 pub path-none : (text : List ℕ) → ¬ (IsPath text) → path_in text ≡ None
-path-none text fails = rw (not-tested (is_path text) (IsPath text) (path-tested text) fails)
+path-none text fails = rw (not-tested _ _ (path-tested _) fails)
 
 pub version-there : (text : List ℕ) → IsVersion text → version_in text ≡ Some text
-version-there text holds = rw ((version-tested text).1 holds)
+version-there text holds = rw ((version-tested _).1 holds)
 
 pub version-none : (text : List ℕ) → ¬ (IsVersion text) → version_in text ≡ None
-version-none text fails = rw (not-tested (is_version text) (IsVersion text) (version-tested text) fails)
+version-none text fails = rw (not-tested _ _ (version-tested _) fails)

@@ -25,7 +25,7 @@ gone-held test (Some d) rest e = filter-none (others test) d rest (ap not e)
 stay-held : (test : Directive → Bool) (held : Option Directive) (rest : List Directive) → passes test held ≡ false
     → filter (others test) (cons_option held rest) ≡ cons_option held (filter (others test) rest)
 stay-held test None rest e = refl
-stay-held test (Some d) rest e = filter-one (others test) d rest (ap not e)
+stay-held test (Some d) rest e = filter-one (others test) _ rest (ap not e)
 
 pub past-held : (test : Directive → Bool) (held : Option Directive) (rest : List Directive) → passes test held ≡ false
     → filter test (cons_option held rest) ≡ filter test rest
@@ -35,7 +35,7 @@ past-held test (Some d) rest e = filter-none test d rest e
 -- ---- the remaining lines say what the lines that stay say
 
 pub left-held : (fates : List Fate) → held_from None (remaining fates) ≡ held_from None (kept_lines fates)
-left-held fates = fewer-held (remaining-left fates).0
+left-held fates = fewer-held (remaining-left _).0
 
 -- ---- what is said after entries are removed
 
@@ -53,7 +53,7 @@ dropping-held test block (line ∷ lines) = elim (cases_Bool (passes test (direc
 -- a drop leaves exactly the other directives
 pub dropped-held : (test : Directive → Bool) (lines : List (Line Placed))
     → held_from None (without_targets test lines) ≡ filter (others test) (held_from None lines)
-dropped-held test lines = left-held (dropping_from test None lines) ∙ dropping-held test None lines
+dropped-held test lines = left-held _ ∙ dropping-held _ None _
 
 -- ---- what is said after an entry is rewritten
 
@@ -63,8 +63,7 @@ held-some test (Some d) e = (d, refl, e)
 
 made-held : {said : Directive} {block : Option Placed} {next : Line Placed} (back : List (Line Placed))
     → IsMadeNew said block next → held_from block (next ∷ back) ≡ said ∷ held_from block back
-made-held {block} back made =
-    ap (λ (l : Line Placed). held_from block (l ∷ back)) made.is_entry ∙ ap (λ (o : Option Directive). cons_option o (held_from block back)) made.holds
+made-held {block} back made = rw made.is_entry (rw made.holds)
 
 -- the first matching entry is rewritten, and the later ones are removed
 first-held : (test : Directive → Bool) (said : Directive) (make : Option Placed → Line Placed → Line Placed)
@@ -73,9 +72,8 @@ first-held : (test : Directive → Bool) (said : Directive) (make : Option Place
     → held_from block (make block line ∷ kept_lines (dropping_from test (block_after_line block line) lines)) ≡ said
     ∷ filter (others test) (held_from (block_after_line block line) lines)
 first-held test said make makes block line lines holds stands =
-    let h = held-some test (directive_at block line) holds in
-    rw (passing-level test block line holds)
-    (made-held (kept_lines (dropping_from test block lines)) (makes block line h.0 h.1 h.2 stands) ∙ rw (dropping-held test block lines))
+    let h = held-some _ _ holds in
+    rw (passing-level _ _ _ holds) (made-held _ (makes block line h.0 h.1 h.2 stands) ∙ rw (dropping-held test block lines))
 
 module _ (test : Directive → Bool) (said : Directive) (make : Option Placed → Line Placed → Line Placed)
     (own : test said ≡ true) (makes : Makes test said make) where
@@ -122,8 +120,8 @@ module _ (test : Directive → Bool) (said : Directive) (make : Option Placed �
 
   pub renewed-others : (lines : List (Line Placed)) → IsSound lines
       → filter (others test) (held_from None (with_renewal test make lines)) ≡ filter (others test) (held_from None lines)
-  renewed-others lines sound = rw (left-held (renewing_from test make None lines)) (renewing-others None lines sound.lines_are.right)
+  renewed-others lines sound = rw (left-held _) (renewing-others None _ sound.lines_are.right)
 
   pub renewed-alone : (lines : List (Line Placed)) → IsSound lines → is_there test None lines ≡ true
       → filter test (held_from None (with_renewal test make lines)) ≡ said ∷ []
-  renewed-alone lines sound there = rw (left-held (renewing_from test make None lines)) (renewing-alone None lines sound.lines_are.right there)
+  renewed-alone lines sound there = rw (left-held _) (renewing-alone None _ sound.lines_are.right there)

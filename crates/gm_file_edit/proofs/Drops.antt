@@ -14,7 +14,7 @@ use Rattle.gm_file_edit.specs.Fates.{Fate, without_targets, dropping_from, kept_
 use Rattle.gm_file_edit.specs.Holding.{directive_at, passes, is_there}
 use Rattle.gm_file_edit.proofs.Filters.{fewer-any, filter-any, none-any, none-filtered, others}
 use Rattle.gm_file_edit.proofs.Insertions.{passing-level}
-use Rattle.gm_file_edit.proofs.Pairs.{AreRightFrom, IsRightLine, IsSound, held_from}
+use Rattle.gm_file_edit.proofs.Pairs.{AreRightFrom, IsSound, held_from}
 use Rattle.gm_file_edit.proofs.Made.{IsRenewal, Makes}
 use Rattle.gm_file_edit.proofs.DirectivesAfter.{dropped-held, held-some, renewed-alone, renewed-others}
 use Rattle.gm_file_edit.proofs.KeptBlocks.{fewer-all, remaining-left}
@@ -51,7 +51,7 @@ renewing-right test said make makes block (line ∷ lines) right = elim (cases_B
 ]
 
 left-right : (fates : List Fate) → AreRightTo None (kept_lines fates) None → AreRightTo None (remaining fates) None
-left-right fates right = let left = remaining-left fates in (fewer-all IsRightLine left.0 right.0, left.1 right.1)
+left-right fates right = let left = remaining-left _ in (fewer-all _ left.0 right.0, left.1 right.1)
 
 -- ---- the directives
 
@@ -108,8 +108,7 @@ new-apart test new mild (d ∷ ds) alone apart = elim (cases_Bool (test d)) [
 -- if no targeted directive declares a module, one of the others does
 others-declared : (test : Directive → Bool) → ((d : Directive) → test d ≡ true → is_module d ≡ false)
     → (ds : List Directive) → list_any is_module ds ≡ true → list_any is_module (filter (others test) ds) ≡ true
-others-declared test other ds some =
-    rw (any-parts test is_module ds, none-filtered is_module test other ds) at some
+others-declared test other ds some = rw (any-parts test is_module ds, none-filtered _ _ other _) at some
 
 -- ---- both
 
@@ -122,7 +121,7 @@ module _ (test : Directive → Bool) (lines : List (Line Placed)) (sound : IsSou
   ds = held_from None lines
 
   rest-apart : AreApart (filter (others test) ds)
-  rest-apart = apart-filter (others test) ds sound.lines_are.apart
+  rest-apart = apart-filter _ _ sound.lines_are.apart
 
   pub dropped-sound : ((d : Directive) → test d ≡ true → is_module d ≡ false) → IsSound (without_targets test lines)
   dropped-sound other =

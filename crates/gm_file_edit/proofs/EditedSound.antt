@@ -1,6 +1,6 @@
 -- The lines after an operation are a document without a fault.
-use Rattle.std.proofs.Common.{◌≡◌, ℕ, true, false, List, ◌∷◌, Some, None, refl, ◌∙◌, arith, inl, inr}
-use Rattle.std.specs.Prelude.{IfSome, codes}
+use Rattle.std.proofs.Common.{◌≡◌, ℕ, true, false, List, Some, None, refl, ◌∙◌, arith, inl, inr}
+use Rattle.std.specs.Prelude.{IfSome}
 use Rattle.std.specs.Str.{bytes_eq}
 use Rattle.std.proofs.lemmas.Bool.{cases_Bool}
 use Rattle.std.proofs.lemmas.Slice.Eq.{bytes_eq-Decides}
@@ -18,7 +18,6 @@ use Rattle.gm_name.specs.ModuleVersion.{ModuleVersion}
 use Rattle.gm_file.specs.declared.verb.Verb.TheVariants.{Module as ForModule, Require as ForRequire, Exclude as ForExclude, Retract as ForRetract}
 use Rattle.gm_file.specs.Directives.{Strict, VersionInterval, Directive, DeclaresGo, Requires, Excludes, Replaces, Retracts, directive_of, main_verb, verb_eq}
 use Rattle.gm_file.specs.Faults.{fault_of}
-use Rattle.gm_file.specs.Pairwise.{do_clash}
 use Rattle.gm_file_edit.specs.Edits.{Edit, Target, Set, ModuleIs, GoIs, RequireAt, Drop, AnyRequire, Add, Exclude, ReplaceWith, Retract}
 use Rattle.gm_operation.specs.Operations.{has_byte}
 use Rattle.gm_file_edit.specs.About.{about}
@@ -42,7 +41,7 @@ use Rattle.gm_file_edit.proofs.Untouched.{by-edited}
 -- ---- new entries
 
 entry-inside : {arguments : List Placed} → AreArguments arguments → IsValidLine true (plain (Entry arguments None))
-entry-inside {arguments} are = entry_stands true (words_of arguments) None (record {
+entry-inside {arguments} are = entry_stands _ _ None (record {
   are_words = are.words;
   is_suffix = tt;
   filled = are.filled;
@@ -51,12 +50,12 @@ entry-inside {arguments} are = entry_stands true (words_of arguments) None (reco
 })
 
 entry-alone : (text : List ℕ) {arguments : List Placed} → HasNoLineFeed text → AreArguments arguments → IsValidLine false (plain (single text arguments))
-entry-alone text {arguments} plain_text are = entry_stands false (new_word text ∷ words_of arguments) None (record {
-  are_words = (made-stands text plain_text, are.words);
+entry-alone text {arguments} plain_text are = entry_stands _ _ None (record {
+  are_words = (made-stands _ plain_text, are.words);
   is_suffix = tt;
   filled = omega arith;
-  opens_nothing = open-behind (new_word text) (words_of arguments) are.filled ∙ are.opens_nothing;
-  closes_nothing = no_mark 41 text;
+  opens_nothing = open-behind (new_word text) _ are.filled ∙ are.opens_nothing;
+  closes_nothing = no_mark 41 _;
 })
 
 addition : (verb : List ℕ) {arguments : List Placed} {new : Directive} → has_byte 10 verb ≡ false
@@ -66,23 +65,23 @@ addition verb {arguments} feed written are says =
     record {
       inside = entry-inside are;
       alone =
-          entry-alone verb (byte-feed verb feed) are;
+          entry-alone _ (byte-feed _ feed) are;
       written = written;
       filled = are.no_block;
       says = says;
     }
 
 pair-are : (p : ModuleVersion) → IsPairOfNames p → AreArguments (pair_words p)
-pair-are p names = begins-path p.0 _ (path-feed p.0 names.0) (made-stands p.1 (version-feed p.1 names.1), tt)
-    (no_mark 40 p.1) (rw (no_mark 40 p.0) refl)
+pair-are p names = begins-path _ _ (path-feed _ names.0) (made-stands _ (version-feed _ names.1), tt)
+    (no_mark 40 _) (rw (no_mark 40 _) refl)
 
 require-says : (p : ModuleVersion) → IsPairOfNames p → directive_of ForRequire (words_of (pair_words p)) ≡ Some (Requires p)
 unfolding directive_of
-require-says p names = rw (made-value p.0 (path-feed p.0 names.0), made-value p.1 (version-feed p.1 names.1))
+require-says p names = rw (made-value _ (path-feed _ names.0), made-value _ (version-feed _ names.1))
 
 exclude-says : (p : ModuleVersion) → IsPairOfNames p → directive_of ForExclude (words_of (pair_words p)) ≡ Some (Excludes p)
 unfolding directive_of
-exclude-says p names = rw (made-value p.0 (path-feed p.0 names.0), made-value p.1 (version-feed p.1 names.1))
+exclude-says p names = rw (made-value _ (path-feed _ names.0), made-value _ (version-feed _ names.1))
 
 ends-are : (ends : VersionInterval) → AreVersions ends → AreArguments (interval_words ends)
 ends-are ends are =
@@ -102,10 +101,10 @@ ends-are ends are =
 ends-says : (ends : VersionInterval) → AreVersions ends → directive_of ForRetract (words_of (interval_words ends)) ≡ Some (Retracts ends)
 unfolding directive_of
 ends-says ends are =
-    let low = made-value ends.0 (version-feed ends.0 are.0) in
-    let high = made-value ends.1 (version-feed ends.1 are.1) in
-    elim (cases_Bool (bytes_eq ends.0 ends.1)) [
-      | inl same ↦ let is : ends.0 ≡ ends.1 = (bytes_eq-Decides ends.0 ends.1).0 same in rw (same, low, is)
+    let low = made-value _ (version-feed _ are.0) in
+    let high = made-value _ (version-feed _ are.1) in
+    elim (cases_Bool _) [
+      | inl same ↦ let is : ends.0 ≡ ends.1 = (bytes_eq-Decides _ _).0 same in rw (same, low, is)
       | inr apart ↦ rw (apart, low, high)
     ]
 
@@ -118,43 +117,38 @@ pub record Says (edit : Edit) (entry : List ℕ × List Placed) : Type 0 where
 entry-says : (edit : Edit) → IsSoundEdit edit → IfSome (entry_put edit) (Says edit)
 unfolding can_be_bare bare_len is_word_byte is_blank is_bracket_or_comma is_quote is_bad
 entry-says (Set (ModuleIs path)) good = tt
-entry-says (Set (GoIs text)) good = let plain = go-feed text good in
+entry-says (Set (GoIs text)) good = let plain = go-feed _ good in
     record {
       new = DeclaresGo text;
       put = refl;
-      is = addition (codes "go") refl refl
-          (one-are text plain) (go-says text plain);
+      is = addition _ refl refl (one-are _ plain) (go-says _ plain);
     }
 entry-says (Set (RequireAt p)) good = record {
   new = Requires p;
   put = refl;
-  is =
-      addition (codes "require") refl refl (pair-are p good) (require-says p good);
+  is = addition _ refl refl (pair-are _ good) (require-says _ good);
 }
 entry-says (Set (ReplaceWith r)) good =
     record {
       new = Replaces r;
       put = refl;
-      is = addition (codes "replace") refl refl
-          (replace-are r good.0 good.1) (replace-says r good.0 good.1);
+      is = addition _ refl refl (replace-are _ good.0 good.1) (replace-says _ good.0 good.1);
     }
 entry-says (Add (Exclude p)) good = record {
   new = Excludes p;
   put = refl;
-  is =
-      addition (codes "exclude") refl refl (pair-are p good) (exclude-says p good);
+  is = addition _ refl refl (pair-are _ good) (exclude-says _ good);
 }
 entry-says (Add (Retract ends)) good = record {
   new = Retracts ends;
   put = refl;
   is =
-      addition (codes "retract") refl refl (ends-are ends good)
-      (ends-says ends good);
+      addition _ refl refl (ends-are _ good) (ends-says _ good);
 }
 entry-says (Drop t) good = tt
 
 pub says : (edit : Edit) (entry : List ℕ × List Placed) → entry_put edit ≡ Some entry → IsSoundEdit edit → Says edit entry
-says edit entry e good = rw e at (entry-says edit good)
+says edit entry e good = rw e at (entry-says _ good)
 
 -- ---- the lines after an operation
 
@@ -174,16 +168,15 @@ put-new : (edit : Edit) (new : Directive) (lines : List (Line Placed)) → put_b
     → is_fit edit ≡ true → is_there (about edit) None lines ≡ false → IsNewTo (held_from None lines) new
 put-new edit new lines put good fit none =
     let by = wanted edit new put good fit in
-    (by.kinds, fewer-any (about edit) (do_clash new) by.mild (held_from None lines) (rw (there-is (about edit) None lines) at none))
+    (by.kinds, fewer-any _ _ by.mild _ (rw (there-is _ None _) at none))
 
 put-sound : (lines : List (Line Placed)) → IsSound lines → (edit : Edit) → IsSoundEdit edit → is_fit edit ≡ true
     → is_there (about edit) None lines ≡ false → IsSound (put_in edit lines)
 put-sound lines sound = by-put (λ edit after. IsSoundEdit edit → is_fit edit ≡ true
     → is_there (about edit) None lines ≡ false → IsSound after) lines (λ path good fit none. sound)
     (λ edit entry after is put good fit none.
-    let by = says edit entry is good in
-    into-sound by.is (put-new edit by.new lines by.put good fit none) sound put)
-    (λ t good fit none. sound)
+    let by = says _ _ is good in
+    into-sound by.is (put-new _ _ _ by.put good fit none) sound put) (λ t good fit none. sound)
 
 pub edited-sound : (edit : Edit) (lines : List (Line Placed)) → IsSoundEdit edit → is_fit edit ≡ true → IsSound lines → IsSound (lines_after edit lines)
 edited-sound edit lines good fit sound = by-edited IsSound edit lines

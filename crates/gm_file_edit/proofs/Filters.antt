@@ -31,8 +31,8 @@ pub fewer-any : {X : Type 0} (test fewer : X → Bool) → ((x : X) → test x �
     → list_any test xs ≡ false → list_any fewer xs ≡ false
 fewer-any test fewer less [] e = refl
 fewer-any test fewer less (x ∷ xs) e =
-    let parts = or_parts (test x) (list_any test xs) e in
-    or_from (fewer x) (list_any fewer xs) (less x parts.0) (fewer-any test fewer less xs parts.1)
+    let parts = or_parts _ _ e in
+    or_from _ _ (less x parts.0) (fewer-any test fewer less xs parts.1)
 
 -- if what passes one test fails the other, a filter by one leaves none for the other
 and-none : (a b : Bool) → (a ≡ true → b ≡ false) → (a && b) ≡ false
@@ -42,11 +42,10 @@ and-none false b f = refl
 pub none-filtered : {X : Type 0} (p q : X → Bool) → ((x : X) → q x ≡ true → p x ≡ false) → (xs : List X) → list_any p (filter q xs) ≡ false
 none-filtered p q other [] = refl
 none-filtered p q other (x ∷ xs) =
-    any-filter p q (x ∷ xs) ∙ or_from (q x && p x) (list_any (λ y. q y && p y) xs) (and-none (q x) (p x) (other x))
-    (sym (any-filter p q xs) ∙ none-filtered p q other xs)
+    any-filter p q (x ∷ xs) ∙ or_from _ _ (and-none _ _ (other x)) (sym (any-filter p q xs) ∙ none-filtered p q other xs)
 
 pub filter-any : {X : Type 0} (p q : X → Bool) (xs : List X) → list_any p xs ≡ false → list_any p (filter q xs) ≡ false
-filter-any p q xs none = any-filter p q xs ∙ fewer-any p (λ x. q x && p x) (λ x miss. and_right (q x) (p x) miss) xs none
+filter-any p q xs none = any-filter p q xs ∙ fewer-any _ _ (λ x miss. and_right (q x) (p x) miss) _ none
 
 -- ---- whether anything passes
 
@@ -66,7 +65,7 @@ not-filled [] e = refl
 not-filled (x ∷ xs) e = absurd cc
 
 pub no-filter : {X : Type 0} (test : X → Bool) (xs : List X) → list_any test xs ≡ false → filter test xs ≡ []
-no-filter test xs none = not-filled (filter test xs) (sym (any-filled test xs) ∙ none)
+no-filter test xs none = not-filled _ (sym (any-filled test xs) ∙ none)
 
 pub none-any : {X : Type 0} (test : X → Bool) (xs : List X) → filter test xs ≡ [] → list_any test xs ≡ false
 none-any test xs e = any-filled test xs ∙ ap is_filled e
@@ -77,12 +76,11 @@ abbrev pub others : {X : Type 0} → (X → Bool) → X → Bool
 others test x = not (test x)
 
 pub others-none : {X : Type 0} (test : X → Bool) (xs : List X) → list_any test (filter (others test) xs) ≡ false
-others-none test xs = none-filtered test (others test) (λ x e. not-true (test x) e) xs
+others-none test xs = none-filtered test (others test) (λ x e. not-true _ e) xs
 
 pub none-of-others : {X : Type 0} (test : X → Bool) (xs : List X) → filter test (filter (others test) xs) ≡ []
 none-of-others test xs = no-filter test (filter (others test) xs) (others-none test xs)
 
 -- filtering a second time changes nothing
 pub others-twice : {X : Type 0} (test : X → Bool) (xs : List X) → filter (others test) (filter (others test) xs) ≡ filter (others test) xs
-others-twice test xs = filter-filter (others test) (others test) xs
-    ∙ filter_agree (λ x. others test x && others test x) (others test) (λ x. and_self (others test x)) xs
+others-twice test xs = filter-filter (others test) (others test) xs ∙ filter_agree _ _ (λ x. and_self (others test x)) _

@@ -3,7 +3,7 @@ use Rattle.std.proofs.Common.{◌≡◌, ℕ, ◌==◌, ◌&&◌, not, nat_lt, B
 use Rattle.std.specs.Prelude.{◌<◌}
 use Rattle.std.specs.List.{join_with_byte, list_all}
 use Rattle.std.proofs.lemmas.Bool.Decides.{nat_tests}
-use Rattle.gm_name.specs.Element.{has_outer_dot, is_dotted_name, is_element, is_path_byte, is_reserved, is_shortened, stem}
+use Rattle.gm_name.specs.Element.{has_outer_dot, is_dotted_name, is_element, is_path_byte, is_reserved, stem}
 use Rattle.gm_name.specs.Names.{is_path}
 use Rattle.gm_name.specs.Path.{IsPath}
 use Rattle.gm_name.proofs.Logic.{or-left}
@@ -24,13 +24,13 @@ unfolding is_element is_dotted_name has_outer_dot
 element-begins [] h = absurd cc
 element-begins (b ∷ e) h =
     let named : Bool = is_dotted_name (b ∷ e) && not (is_reserved (stem (b ∷ e))) in
-    let outer = and_both named (not (is_shortened (stem (b ∷ e)))) h in
-    let inner = and_both (is_dotted_name (b ∷ e)) (not (is_reserved (stem (b ∷ e)))) outer.0 in
+    let outer = and_both _ _ h in
+    let inner = and_both _ _ outer.0 in
     let front : Bool = nat_lt 0 (length (b ∷ e)) && list_all is_path_byte (b ∷ e) in
-    let parts = and_both front (not (has_outer_dot (b ∷ e))) inner.0 in
-    let bytes = and_both (nat_lt 0 (length (b ∷ e))) (list_all is_path_byte (b ∷ e)) parts.0 in
-    let byte = and_both (is_path_byte b) (list_all is_path_byte e) bytes.1 in
-    record { byte = b; rest = e; is = refl; no_dot = or-left (b == 46) _ (not_true (has_outer_dot (b ∷ e)) parts.1); no_slash = path_byte-no_slash b byte.0 }
+    let parts = and_both _ _ inner.0 in
+    let bytes = and_both _ _ parts.0 in
+    let byte = and_both _ _ bytes.1 in
+    record { byte = b; rest = e; is = refl; no_dot = or-left _ _ (not_true (has_outer_dot (b ∷ e)) parts.1); no_slash = path_byte-no_slash _ byte.0 }
 
 more-begins : {text : List ℕ} (more : List ℕ) → BeginsAside text → BeginsAside (text ++ more)
 more-begins more b =
@@ -38,9 +38,8 @@ more-begins more b =
 
 joined-begins : (es : List (List ℕ)) → 0 < length es → list_all is_element es ≡ true → BeginsAside (join_with_byte 47 es)
 joined-begins [] some all = absurd (omega arith)
-joined-begins (e ∷ []) some all = element-begins e (and_both (is_element e) true all).0
-joined-begins (e ∷ f ∷ es) some all =
-    more-begins (47 ∷ join_with_byte 47 (f ∷ es)) (element-begins e (and_both (is_element e) (list_all is_element (f ∷ es)) all).0)
+joined-begins (e ∷ []) some all = element-begins _ (and_both _ _ all).0
+joined-begins (e ∷ f ∷ es) some all = more-begins _ (element-begins _ (and_both _ _ all).0)
 
 aside-no-folder : (b : ℕ) (rest : List ℕ) → (b == 46) ≡ false → (b == 47) ≡ false → is_folder_path (b ∷ rest) ≡ false
 unfolding is_folder_path
@@ -56,5 +55,4 @@ begins-no-folder path more is =
     rw b.is (aside-no-folder b.byte b.rest b.no_dot b.no_slash)
 
 pub path-no-folder : (text : List ℕ) → is_path text ≡ true → is_folder_path text ≡ false
-path-no-folder text h =
-    rw (append-nil text) at (begins-no-folder text [] ((path-tested text).0 h))
+path-no-folder text h = rw (append-nil text) at (begins-no-folder _ [] ((path-tested _).0 h))

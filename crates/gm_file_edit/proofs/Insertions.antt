@@ -7,12 +7,12 @@ use Rattle.std.specs.List.{cons_option, list_any}
 use Rattle.std.proofs.lemmas.Bool.{and_right, cases_Bool, or_right, true≢false}
 use Rattle.gm_syntax_words.specs.Tokens.{Placed, words_of}
 use Rattle.gm_syntax_words.specs.Bare.{new_word}
-use Rattle.gm_file.specs.Directives.{Strict, Directive, block_after_line, block_after_lines, item_at, main_verb, verb_in, verb_of_directive, Item, Silent, Opening, Saying, directive_in, directive_of, is_empty_block}
-use Rattle.gm_file.specs.Faults.{is_module, directive_kinds, entry_kinds, item_kinds}
+use Rattle.gm_file.specs.Directives.{Strict, Directive, block_after_line, block_after_lines, item_at, main_verb, verb_in, Item, Silent, Opening, Saying, directive_in, directive_of, is_empty_block}
+use Rattle.gm_file.specs.Faults.{directive_kinds, entry_kinds, item_kinds}
 use Rattle.gm_file.proofs.DirectiveVerbs.{directive-verb, same-verb}
 use Rattle.gm_file_edit.specs.Edited.{with_addition, after_closing, after_first_of, after_last_of, has_verb, new_entry, put_in}
 use Rattle.gm_file_edit.specs.Edits.{Edit, Target, Set, ModuleIs, GoIs, RequireAt, ReplaceWith, Add, Exclude, Retract, Drop}
-use Rattle.gm_file_edit.specs.Holding.{directive_at, passes, is_there, item_of}
+use Rattle.gm_file_edit.specs.Holding.{directive_at, passes, is_there}
 use Rattle.gm_file_edit.specs.NewWords.{entry_at, made_word, single}
 use Rattle.gm_file_edit.specs.Private.Marks.{IsOfVerb}
 use Rattle.gm_file_edit.proofs.Pairs.{block-append, held_from, IsSound, put-line}
@@ -63,8 +63,8 @@ passing-verb v (Some t) (Comment text) (Some d) is e = absurd cc
 passing-verb v (Some t) (Open opened suffix) (Some d) is e = absurd cc
 passing-verb v (Some t) (Close suffix) (Some d) is e = absurd cc
 passing-verb v (Some t) (Entry words suffix) (Some d) is e =
-    sym (directive-verb (verb_in Strict t.word.spelling) (words_of words) d is)
-    ∙ sym (same-verb (main_verb v) (verb_of_directive d) e)
+    sym (directive-verb _ _ _ is)
+    ∙ sym (same-verb _ _ e)
 
 -- ---- after the last line that holds a directive of a verb
 
@@ -91,7 +91,7 @@ last-one test block (line ∷ lines) e = elim (cases_Bool (is_there test (block_
         line = is.line;
         back = is.back;
         parts =
-            ap (λ (ls : List (Line Placed)). line ∷ ls) is.parts;
+            rw is.parts;
         hit = is.hit;
         later = is.later;
       }
@@ -111,7 +111,7 @@ last-one test block (line ∷ lines) e = elim (cases_Bool (is_there test (block_
 there-behind : (test : Directive → Bool) (block : Option Placed) (front back : List (Line Placed)) (line : Line Placed)
     → passes test (directive_at (block_after_lines block front) line) ≡ true
     → is_there test block (front ++ line ∷ back) ≡ true
-there-behind test block front back line hit = rw (there-append test block front (line ∷ back), hit) (or_right (is_there test block front) _ refl)
+there-behind test block front back line hit = rw (there-append _ _ _ _, hit) (or_right _ _ refl)
 
 after-last-behind : (test : Directive → Bool) (text : List ℕ) (arguments : List Placed) (block : Option Placed)
     (front back : List (Line Placed)) (line : Line Placed)
@@ -134,8 +134,8 @@ pub added-after-last : (verb : List ℕ) (arguments : List Placed) (front back :
     → with_addition verb arguments (front ++ line ∷ back) ≡ front ++ line ∷ entry_at (is_some (block_after_lines None front)) verb arguments ∷ back
 unfolding with_addition
 added-after-last verb arguments front back line hit none =
-    rw (there-behind (has_verb verb) None front back line hit)
-    (after-last-behind (has_verb verb) verb arguments None front back line hit none)
+    rw (there-behind _ None _ _ _ hit)
+    (after-last-behind _ _ _ None _ _ _ hit none)
 
 pub added-at-end : (verb : List ℕ) (arguments : List Placed) (lines : List (Line Placed))
     → is_there (has_verb verb) None lines ≡ false → with_addition verb arguments lines ≡ lines ++ Blank
@@ -162,22 +162,22 @@ pub record IsPutInto (v : List ℕ) (arguments : List Placed) (lines after : Lis
   pub fits : block_after_lines None lines ≡ None → (is_some (block_after_lines None front) ≡ inside) × IsOfVerb v (block_after_lines None front)
 
 pub added-into : (v : List ℕ) (arguments : List Placed) (lines : List (Line Placed)) → IsPutInto v arguments lines (with_addition v arguments lines)
-added-into v arguments lines = elim (cases_Bool (is_there (has_verb v) None lines)) [
+added-into v arguments lines = elim (cases_Bool _) [
   | inl there ↦
-      let at = last-one (has_verb v) None lines there in
+      let at = last-one _ None _ there in
       let block = block_after_lines None at.front in
       let behind : block_after_lines None (at.front ++ at.line ∷ []) ≡ block =
-      block-append None at.front (at.line ∷ []) ∙ passing-level (has_verb v) block at.line at.hit in
+      block-append None at.front (at.line ∷ []) ∙ passing-level _ _ _ at.hit in
       record {
         front = at.front ++ at.line ∷ [];
         back = at.back;
         gap = false;
-        inside = is_some block;
-        was = at.parts ∙ sym (append_assoc at.front (at.line ∷ []) at.back);
+        inside = is_some _;
+        was = at.parts ∙ sym (append_assoc at.front _ _);
         is =
-            ap (with_addition v arguments) at.parts ∙ added-after-last v arguments at.front at.back at.line at.hit at.later
-            ∙ sym (append_assoc at.front (at.line ∷ []) (entry_at (is_some block) v arguments ∷ at.back));
-        fits = λ closed. (ap is_some behind, rw behind (passing-verb v block at.line (directive_at block at.line) refl at.hit));
+            ap (with_addition v arguments) at.parts ∙ added-after-last _ _ _ _ _ at.hit at.later
+            ∙ sym (append_assoc at.front _ _);
+        fits = λ closed. (ap is_some behind, rw behind (passing-verb v _ _ _ refl at.hit));
       }
   | inr none ↦ record {
     front = lines;
@@ -185,7 +185,7 @@ added-into v arguments lines = elim (cases_Bool (is_there (has_verb v) None line
     gap = true;
     inside = false;
     was = sym (append-nil lines);
-    is = added-at-end v arguments lines none;
+    is = added-at-end _ _ _ none;
     fits = λ closed. (ap is_some closed, rw closed tt);
   }
 ]
@@ -206,15 +206,15 @@ behind-line block line put =
 
 behind-closing : (more : List (Line Placed)) (block : Option Placed) (lines : List (Line Placed)) → IsPutOutside more block lines (after_closing more lines)
 behind-closing more block [] = record { front = []; back = []; was = refl; is = sym (append-nil more); outside = λ closed. closed }
-behind-closing more block (Blank ∷ lines) = behind-line block Blank (behind-closing more block lines)
-behind-closing more block (Comment text ∷ lines) = behind-line block (Comment text) (behind-closing more block lines)
-behind-closing more block (Open verb suffix ∷ lines) = behind-line block (Open verb suffix) (behind-closing more (Some verb) lines)
+behind-closing more block (Blank ∷ lines) = behind-line _ _ (behind-closing _ _ _)
+behind-closing more block (Comment text ∷ lines) = behind-line _ _ (behind-closing _ _ _)
+behind-closing more block (Open verb suffix ∷ lines) = behind-line _ _ (behind-closing _ _ _)
 behind-closing more block (Close suffix ∷ lines) = record { front = Close suffix ∷ []; back = lines; was = refl; is = refl; outside = λ closed. refl }
-behind-closing more block (Entry words suffix ∷ lines) = behind-line block (Entry words suffix) (behind-closing more block lines)
+behind-closing more block (Entry words suffix ∷ lines) = behind-line _ _ (behind-closing _ _ _)
 
 behind-first : (test : Directive → Bool) (more : List (Line Placed)) (block : Option Placed)
     (lines : List (Line Placed)) → IsPutOutside more block lines (after_first_of test more block lines)
-behind-first test more block [] = behind-closing more block []
+behind-first test more block [] = behind-closing _ _ []
 behind-first test more block (line ∷ lines) = elim (cases_Bool (passes test (directive_at block line))) [
   | inl hit ↦ rw hit (elim (cases_Bool (is_some block)) [
     | inl inside ↦ rw inside (behind-line block line (behind-closing more (block_after_line block line) lines))
@@ -233,7 +233,7 @@ behind-first test more block (line ∷ lines) = elim (cases_Bool (passes test (d
 pub after-first-into : (test : Directive → Bool) (v : List ℕ) (arguments : List Placed) (lines : List (Line Placed))
     → IsPutInto v arguments lines (after_first_of test (Blank ∷ single v arguments ∷ []) None lines)
 after-first-into test v arguments lines =
-    let put = behind-first test (Blank ∷ single v arguments ∷ []) None lines in
+    let put = behind-first _ _ None _ in
     record {
       front = put.front;
       back = put.back;
@@ -258,11 +258,11 @@ pub by-put : (P : Edit → List (Line Placed) → Type 0) (lines : List (Line Pl
     → P edit (put_in edit lines)
 unfolding put_in
 by-put P lines module_is put drop (Set (ModuleIs path)) = module_is path
-by-put P lines module_is put drop (Set (GoIs text)) = put (Set (GoIs text)) _ _ refl (after-first-into is_module (codes "go") (made_word text ∷ []) lines)
-by-put P lines module_is put drop (Set (RequireAt p)) = put (Set (RequireAt p)) _ _ refl (added-into _ _ lines)
-by-put P lines module_is put drop (Set (ReplaceWith r)) = put (Set (ReplaceWith r)) _ _ refl (added-into _ _ lines)
-by-put P lines module_is put drop (Add (Exclude p)) = put (Add (Exclude p)) _ _ refl (added-into _ _ lines)
-by-put P lines module_is put drop (Add (Retract ends)) = put (Add (Retract ends)) _ _ refl (added-into _ _ lines)
+by-put P lines module_is put drop (Set (GoIs text)) = put (Set (GoIs text)) _ _ refl (after-first-into _ _ _ _)
+by-put P lines module_is put drop (Set (RequireAt p)) = put (Set (RequireAt p)) _ _ refl (added-into _ _ _)
+by-put P lines module_is put drop (Set (ReplaceWith r)) = put (Set (ReplaceWith r)) _ _ refl (added-into _ _ _)
+by-put P lines module_is put drop (Add (Exclude p)) = put (Add (Exclude p)) _ _ refl (added-into _ _ _)
+by-put P lines module_is put drop (Add (Retract ends)) = put (Add (Retract ends)) _ _ refl (added-into _ _ _)
 by-put P lines module_is put drop (Drop t) = drop t
 
 -- ---- they leave a valid file valid
@@ -289,12 +289,12 @@ put-in : (new : Directive) (front back : List (Line Placed)) (line : Line Placed
     → Fits (block_after_lines None front) new line → IsNewTo (held_from None (front ++ back)) new
     → IsSound (front ++ back) → IsSound (front ++ line ∷ back)
 put-in new front back line fits fresh sound =
-    put-line front back line (fits.stands, item-alone (item_of (block_after_lines None front) line) fits.holds fresh.0) fits.level (rw fits.holds fresh.1) sound
+    put-line _ _ _ (fits.stands, item-alone _ fits.holds fresh.0) fits.level (rw fits.holds fresh.1) sound
 
 -- a blank line holds no directive, so it changes nothing
 with-gap : (gap : Bool) (front back : List (Line Placed)) → IsSound (front ++ back) → IsSound (front ++ (gap_lines gap ++ back))
 unfolding item_at
-with-gap true front back sound = put-line front back Blank (blank_stands (is_some (block_after_lines None front)), refl) refl tt sound
+with-gap true front back sound = put-line _ _ _ (blank_stands _, refl) refl tt sound
 with-gap false front back sound = sound
 
 -- ---- added entries
@@ -319,20 +319,20 @@ unfolding item_at
 entry-fits {v} {arguments} {new} None is so = record {
   stands = so.alone;
   holds =
-      single-holds v arguments so.written so.filled so.says;
+      single-holds _ _ so.written so.filled so.says;
   level = refl;
 }
 entry-fits {arguments} (Some t) is so = record {
   stands = so.inside;
   holds =
-      ap (λ (x : Verb). directive_of x (words_of arguments)) is ∙ so.says;
+      rw is so.says;
   level = refl;
 }
 
 pub into-fits : (v : List ℕ) {arguments : List Placed} {new : Directive} (block : Option Placed) (inside : Bool)
     → IsAddition v arguments new → (is_some block ≡ inside) × IsOfVerb v block
     → Fits block new (entry_at inside v arguments)
-into-fits v block inside so fits = rw (← fits.0) (entry-fits block fits.1 so)
+into-fits v block inside so fits = rw (← fits.0) (entry-fits _ fits.1 so)
 
 -- an entry that is put in
 pub into-sound : {v : List ℕ} {arguments : List Placed} {new : Directive} {lines after : List (Line Placed)}
@@ -340,5 +340,5 @@ pub into-sound : {v : List ℕ} {arguments : List Placed} {new : Directive} {lin
     → IsSound lines → IsPutInto v arguments lines after → IsSound after
 into-sound {v} {arguments} {new} so fresh sound put =
     let entry = entry_at put.inside v arguments in
-    let fits : Fits (block_after_lines None put.front) new entry = into-fits v (block_after_lines None put.front) put.inside so (put.fits sound.closed) in
-    rw put.is (with-gap put.gap put.front (entry ∷ put.back) (put-in new put.front put.back entry fits (rw put.was at fresh) (rw put.was at sound)))
+    let fits : Fits (block_after_lines None put.front) new entry = into-fits _ _ _ so (put.fits sound.closed) in
+    rw put.is (with-gap put.gap put.front (entry ∷ put.back) (put-in _ put.front put.back _ fits (rw put.was at fresh) (rw put.was at sound)))

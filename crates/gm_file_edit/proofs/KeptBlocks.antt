@@ -1,12 +1,12 @@
 -- What widening takes away holds no directive, and the lines that are left are in the blocks that they were in.
-use Rattle.std.proofs.Common.{◌≡◌, ℕ, ◌&&◌, not, Bool, true, false, List, [], ◌∷◌, length, Option, Some, None, is_none, is_some, refl, sym, ap, ◌∙◌, arith, inl, inr}
+use Rattle.std.proofs.Common.{◌≡◌, ℕ, ◌&&◌, not, Bool, true, false, List, [], ◌∷◌, length, Option, Some, None, is_some, refl, sym, ap, ◌∙◌, arith, inl, inr}
 use Rattle.std.specs.Prelude.{⊤}
 use Rattle.std.specs.List.{AllByRecursion, cons_option}
 use Rattle.std.proofs.lemmas.Bool.{cases_Bool}
 use Rattle.gm_name.proofs.NameTests.{and_both}
 use Rattle.gm_syntax_words.specs.Tokens.{Placed}
 use Rattle.gm_syntax.specs.Document.{Line, Blank, Comment, Open, Close, Entry}
-use Rattle.gm_file.specs.Directives.{Directive, block_after_line, block_after_lines, item_at, with_blocks_from}
+use Rattle.gm_file.specs.Directives.{block_after_line, block_after_lines, item_at, with_blocks_from}
 use Rattle.gm_file_edit.specs.Fates.{Fate, empties, is_emptied, kept_lines, remaining, widened_from}
 use Rattle.gm_file_edit.specs.Private.Marks.{AreAtEntries, fates_of, unmarked}
 use Rattle.gm_file_edit.proofs.Pairs.{Seat, held_at, held_in}
@@ -21,12 +21,12 @@ pub data AreFewer : List Seat → List Seat → Type 0 where
 pub fewer-held : {left old : List Seat} → AreFewer left old → held_in left ≡ held_in old
 fewer-held nothing = refl
 fewer-held (stays seat rest) = ap (cons_option (held_at seat)) (fewer-held rest)
-fewer-held (goes {left} {old} seat silent rest) = fewer-held rest ∙ sym (ap (λ (o : Option Directive). cons_option o (held_in old)) silent)
+fewer-held (goes {left} {old} seat silent rest) = fewer-held rest ∙ sym (rw silent)
 
 pub fewer-all : {left old : List Seat} (P : Seat → Type 0) → AreFewer left old → AllByRecursion P old → AllByRecursion P left
 fewer-all P nothing all = tt
-fewer-all P (stays seat rest) all = (all.0, fewer-all P rest all.1)
-fewer-all P (goes seat silent rest) all = fewer-all P rest all.1
+fewer-all P (stays seat rest) all = (all.0, fewer-all _ rest all.1)
+fewer-all P (goes seat silent rest) all = fewer-all _ rest all.1
 
 -- such lines, which end outside blocks if the others do
 abbrev AreLeft : Option Placed → List (Line Placed) → Option Placed → List (Line Placed) → Type 0
@@ -36,12 +36,12 @@ AreLeft after left before old = AreFewer (with_blocks_from after left) (with_blo
 same-first : (block : Option Placed) (line : Line Placed) (left old : List (Line Placed))
     → AreLeft (block_after_line block line) left (block_after_line block line) old
     → AreLeft block (line ∷ left) block (line ∷ old)
-same-first block line left old is = (stays (block, line) is.0, is.1)
+same-first block line left old is = (stays _ is.0, is.1)
 
 gone-first : (after block : Option Placed) (line : Line Placed) (left old : List (Line Placed))
     → held_at (block, line) ≡ None → AreLeft after left (block_after_line block line) old
     → AreLeft after left block (line ∷ old)
-gone-first after block line left old silent is = (goes (block, line) silent is.0, is.1)
+gone-first after block line left old silent is = (goes _ silent is.0, is.1)
 
 -- a block that goes is emptied by the lines from here on
 abbrev Going : Bool → List Fate → Type 0
@@ -58,7 +58,7 @@ going-gone false fates is = tt
 going-gone true fates is = (true, is.1)
 
 going-opened : (suffix : Option (List ℕ)) (fates : List Fate) → is_emptied None suffix fates ≡ true → Going true fates
-going-opened suffix fates e = (false, (and_both (is_none suffix) (empties false fates) e).1)
+going-opened suffix fates e = (false, (and_both _ _ e).1)
 
 -- the open block, if any, goes or stays
 abbrev known_block : Option Placed → Bool → Option Bool
@@ -71,28 +71,28 @@ unfolding item_at
 left-lines None gone behind [] is = (nothing, λ e. e)
 left-lines (Some verb) false behind [] is = (nothing, λ e. e)
 left-lines (Some verb) true behind [] is = absurd cc
-left-lines block gone behind (None ∷ fates) is = left-lines block gone behind fates (going-gone (is_some block && gone) fates is)
-left-lines None gone false (Some Blank ∷ fates) is = same-first None Blank _ _ (left-lines None false false fates tt)
-left-lines None gone true (Some Blank ∷ fates) is = gone-first None None Blank _ _ refl (left-lines None false false fates tt)
-left-lines (Some verb) false false (Some Blank ∷ fates) is = same-first (Some verb) Blank _ _ (left-lines (Some verb) false false fates tt)
-left-lines (Some verb) false true (Some Blank ∷ fates) is = gone-first (Some verb) (Some verb) Blank _ _ refl (left-lines (Some verb) false false fates tt)
-left-lines (Some verb) true behind (Some Blank ∷ fates) is = gone-first None (Some verb) Blank _ _ refl (left-lines (Some verb) true false fates is)
-left-lines None gone behind (Some (Comment text) ∷ fates) is = same-first None (Comment text) _ _ (left-lines None false false fates tt)
-left-lines (Some verb) false behind (Some (Comment text) ∷ fates) is = same-first (Some verb) (Comment text) _ _ (left-lines (Some verb) false false fates tt)
+left-lines block gone behind (None ∷ fates) is = left-lines block gone behind fates (going-gone _ _ is)
+left-lines None gone false (Some Blank ∷ fates) is = same-first None _ _ _ (left-lines None false false fates tt)
+left-lines None gone true (Some Blank ∷ fates) is = gone-first None None _ _ _ refl (left-lines None false false fates tt)
+left-lines (Some verb) false false (Some Blank ∷ fates) is = same-first _ _ _ _ (left-lines (Some verb) false false fates tt)
+left-lines (Some verb) false true (Some Blank ∷ fates) is = gone-first _ _ _ _ _ refl (left-lines (Some verb) false false fates tt)
+left-lines (Some verb) true behind (Some Blank ∷ fates) is = gone-first None _ _ _ _ refl (left-lines (Some verb) true false fates is)
+left-lines None gone behind (Some (Comment text) ∷ fates) is = same-first None _ _ _ (left-lines None false false fates tt)
+left-lines (Some verb) false behind (Some (Comment text) ∷ fates) is = same-first _ _ _ _ (left-lines (Some verb) false false fates tt)
 left-lines (Some verb) true behind (Some (Comment text) ∷ fates) is = absurd cc
 left-lines None gone behind (Some (Open verb suffix) ∷ fates) is = elim (cases_Bool (is_emptied None suffix fates)) [
   | inl empty ↦ rw empty (gone-first None None (Open verb suffix) _ _ refl (left-lines (Some verb) true false fates (going-opened suffix fates empty)))
   | inr still ↦ rw still (same-first None (Open verb suffix) _ _ (left-lines (Some verb) false false fates tt))
 ]
 left-lines (Some outer) false behind (Some (Open verb suffix) ∷ fates) is =
-    same-first (Some outer) (Open verb suffix) _ _ (left-lines (Some verb) false false fates tt)
+    same-first _ _ _ _ (left-lines (Some verb) false false fates tt)
 left-lines (Some outer) true behind (Some (Open verb suffix) ∷ fates) is = absurd cc
-left-lines None gone behind (Some (Close suffix) ∷ fates) is = same-first None (Close suffix) _ _ (left-lines None false false fates tt)
-left-lines (Some verb) false behind (Some (Close suffix) ∷ fates) is = same-first (Some verb) (Close suffix) _ _ (left-lines None false false fates tt)
-left-lines (Some verb) true behind (Some (Close suffix) ∷ fates) is = gone-first None (Some verb) (Close suffix) _ _ refl (left-lines None false true fates tt)
-left-lines None gone behind (Some (Entry words suffix) ∷ fates) is = same-first None (Entry words suffix) _ _ (left-lines None false false fates tt)
+left-lines None gone behind (Some (Close suffix) ∷ fates) is = same-first None _ _ _ (left-lines None false false fates tt)
+left-lines (Some verb) false behind (Some (Close suffix) ∷ fates) is = same-first _ _ _ _ (left-lines None false false fates tt)
+left-lines (Some verb) true behind (Some (Close suffix) ∷ fates) is = gone-first None _ _ _ _ refl (left-lines None false true fates tt)
+left-lines None gone behind (Some (Entry words suffix) ∷ fates) is = same-first None _ _ _ (left-lines None false false fates tt)
 left-lines (Some verb) false behind (Some (Entry words suffix) ∷ fates) is =
-    same-first (Some verb) (Entry words suffix) _ _ (left-lines (Some verb) false false fates tt)
+    same-first _ _ _ _ (left-lines (Some verb) false false fates tt)
 left-lines (Some verb) true behind (Some (Entry words suffix) ∷ fates) is = absurd cc
 
 -- of the lines without a mark, widening leaves out some that hold no directive
@@ -135,7 +135,7 @@ left-seats block gone behind [] [] at is = refl
 left-seats block gone behind [] (line ∷ lines) at is = absurd at
 left-seats block gone behind (mark ∷ marks) [] at is = absurd at
 left-seats block gone behind (true ∷ marks) (line ∷ lines) at is =
-    rw (level-line block line (ap not at.0)) (left-seats block gone behind marks lines at.1 (going-gone (is_some block && gone) (fates_of marks lines) is))
+    rw (level-line _ _ (ap not at.0)) (left-seats block gone behind marks lines at.1 (going-gone _ _ is))
 left-seats None gone false (false ∷ marks) (Blank ∷ lines) at is = rw (left-seats None false false marks lines at tt)
 left-seats None gone true (false ∷ marks) (Blank ∷ lines) at is = left-seats None false false marks lines at tt
 left-seats (Some verb) false false (false ∷ marks) (Blank ∷ lines) at is = rw (left-seats (Some verb) false false marks lines at tt)
@@ -164,4 +164,4 @@ pub in-blocks : (marks widened : List Bool) (lines : List (Line Placed)) → Are
 in-blocks marks widened lines at even are =
     let seats = with_blocks_from None lines in
     ap (with_blocks_from None) (sym (kept-lines widened lines even) ∙ ap kept_lines are) ∙ left-seats None false false marks lines at tt
-    ∙ ap (λ (fates : List Fate). kept_by fates seats) (sym are) ∙ kept-unmarked widened lines seats even
+    ∙ rw (← are) (kept-unmarked widened lines seats even)

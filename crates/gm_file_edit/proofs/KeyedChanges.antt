@@ -28,7 +28,7 @@ keys-count block [] = refl
 keys-count block (line ∷ lines) = ap suc (keys-count (block_after_line block line) lines)
 
 long-keys : (lines : List declared.Line) {keys : List Key} → keys ≡ keys_from None (line_views lines) → length keys ≡ length lines
-long-keys lines are = ap length are ∙ keys-count None (line_views lines) ∙ length-map lines line_of
+long-keys lines are = ap length are ∙ keys-count None _ ∙ length-map lines line_of
 
 -- lines as they are seen, with their keys
 abbrev IsKeyed : List declared.Line → List Key → List (Line Placed) → Type 0
@@ -36,7 +36,7 @@ IsKeyed lines keys seen = (line_views lines ≡ seen) × (keys ≡ keys_from Non
 
 keyed : (lines : List declared.Line) {keys : List Key} {seen : List (Line Placed)} → line_views lines ≡ seen → keys ≡ keys_from None (line_views lines)
     → IsKeyed lines keys seen
-keyed lines view are = (view, are, long-keys lines are)
+keyed lines view are = (view, are, long-keys _ are)
 
 keys-get : (block : Option Placed) (lines : List (Line Placed)) (n : ℕ) (key : Key) → n < length lines
     → get_or (keys_from block lines) n key ≡ key_at (block_after_lines block (take n lines)) (line_at lines n)
@@ -48,7 +48,7 @@ keys-get block (line ∷ lines) (suc n) key lt = keys-get (block_after_line bloc
 pub key-here : (lines : List declared.Line) {keys : List Key} {seen : List (Line Placed)} (n : ℕ) {key : Key} → key ≡ get_or keys n key
     → keys ≡ keys_from None (line_views lines) → line_views lines ≡ seen → n < length seen
     → key ≡ key_at (block_after_lines None (take n seen)) (line_at seen n)
-key-here lines {seen} n {key} is are view lt = is ∙ rw (are, view) (keys-get None seen n key lt)
+key-here lines {seen} n {key} is are view lt = is ∙ rw (are, view) (keys-get None _ _ _ lt)
 
 -- ---- lines that get their keys
 
@@ -62,20 +62,20 @@ pub view-at : (lines : List declared.Line) (n : ℕ) {line : declared.Line} → 
     → line_of line ≡ line_at (line_views lines) n
 view-at lines n {line} lt is =
     let count = length-map lines line_of in
-    ap line_of is ∙ sym (get_or-map line_of lines n line) ∙ sym (get_or_default (line_views lines) n Blank (line_of line) (omega (arith, lt, count)))
+    ap line_of is ∙ sym (get_or-map line_of lines _ _) ∙ sym (get_or_default (line_views lines) n Blank (line_of line) (omega (arith, lt, count)))
 
 pub valid-at : {whole : List (Line Placed)} {n : ℕ} {block : Option Placed} {keys : List Key} {line : Line Placed} → IsSound whole
     → n < length whole → line ≡ line_at whole n → AreKeyedTo whole n block keys → item_kinds Strict [] (item_of block line) ≡ []
-valid-at {whole} {n} sound lt is so = rw (so.block_is, is) (right-at None whole n lt sound.lines_are.right).1
+valid-at {whole} {n} sound lt is so = rw (so.block_is, is) (right-at None _ _ lt sound.lines_are.right).1
 
 pub keyed-more : {whole : List (Line Placed)} {n : ℕ} {block next : Option Placed} {keys more : List Key} {line : Line Placed} {key : Key}
     → n < length whole → line ≡ line_at whole n → key ≡ key_at block line → more ≡ keys ++ key ∷ [] → next ≡ block_after_line block line
     → AreKeyedTo whole n block keys → AreKeyedTo whole (n + 1) next more
 keyed-more {whole} {n} lt is key_is pushed stepped so = record {
-  block_is = rw (block-next whole n lt, stepped, is, so.block_is);
-  keys_are = rw (pushed, so.keys_are, key_is, is, so.block_is, take_more whole n Blank lt)
-      (sym (ap (map seat_key) (with_blocks-snoc None (take n whole) (line_at whole n ∷ []))
-      ∙ map-append seat_key (with_blocks_from None (take n whole)) _));
+  block_is = rw (block-next _ _ lt, stepped, is, so.block_is);
+  keys_are = rw (pushed, so.keys_are, key_is, is, so.block_is, take_more _ _ Blank lt)
+      (sym (ap (map seat_key) (with_blocks-snoc None _ _)
+      ∙ map-append _ _ _));
 }
 
 pub keyed-end : {whole : List (Line Placed)} {n : ℕ} {block : Option Placed} {keys : List Key} → length whole ≤ n
@@ -84,13 +84,13 @@ keyed-end {whole} {n} over so = rw (take_all n whole over) at so.keys_are
 
 pub count-end : (lines : List declared.Line) {n : ℕ} {block : Option Placed} {keys : List Key} → length lines ≤ n
     → AreKeyedTo (line_views lines) n block keys → length keys ≡ length lines
-count-end lines over so = let count = length-map lines line_of in long-keys lines (keyed-end (omega (arith, over, count)) so)
+count-end lines over so = let count = length-map lines line_of in long-keys _ (keyed-end (omega (arith, over, count)) so)
 
 -- ---- a line more
 
 insert-keys : (block : Option Placed) (lines : List (Line Placed)) (at : ℕ) (line : Line Placed) → is_loose line ≡ true → at ≤ length lines
     → keys_from block (insert lines at line) ≡ insert (keys_from block lines) at (key_at (block_after_lines block (take at lines)) line)
-insert-keys block lines zero line loose le = rw (level-line block line (ap not loose))
+insert-keys block lines zero line loose le = rw (level-line _ _ (ap not loose))
 insert-keys block [] (suc at) line loose le = absurd (omega (arith, le))
 insert-keys block (first ∷ lines) (suc at) line loose le = rw (insert-keys (block_after_line block first) lines at line loose (omega (arith, le)))
 
@@ -99,9 +99,9 @@ pub inserted : (lines : List declared.Line) {new : List declared.Line} {keys cha
     → key ≡ key_at (block_after_lines None (take at seen)) (line_of line)
     → new ≡ insert lines at line → changed ≡ insert keys at key
     → IsKeyed new changed (insert seen at (line_of line))
-inserted lines {new} n line view are le loose key_is put keys_put = keyed new
-    (rw (put, ← view) (map-insert line_of lines n line))
-    (rw (keys_put, put, are, key_is, map-insert line_of lines n line, view) (sym (insert-keys None _ n (line_of line) loose le)))
+inserted lines {new} n line view are le loose key_is put keys_put = keyed _
+    (rw (put, ← view) (map-insert _ _ _ _))
+    (rw (keys_put, put, are, key_is, map-insert _ _ _ _, view) (sym (insert-keys None _ _ _ loose le)))
 
 insert-both : {X : Type 0} (xs : List X) (at : ℕ) (x y : X) → at ≤ length xs → insert (insert xs at y) at x ≡ take at xs ++ (x ∷ y ∷ drop at xs)
 insert-both xs zero x y le = refl
@@ -127,11 +127,11 @@ pub both-inserted : (lines : List declared.Line) {one new : List declared.Line} 
     → IsKeyed new changed (take at seen ++ (Blank ∷ line_of line ∷ drop at seen))
 unfolding item_at
 both-inserted lines {one} {new} {seen} n line view are le loose outside key_is put keys_put blank keys_blank =
-    let with_line = inserted lines n line view are le loose (rw outside key_is) put keys_put in
+    let with_line = inserted _ _ _ view are le loose (rw outside key_is) put keys_put in
     let front : block_after_lines None (take n (insert seen n (line_of line))) ≡ None =
-    ap (block_after_lines None) (insert-front seen n (line_of line) le) ∙ outside in
-    let both = inserted one n variants.Blank with_line.0 with_line.1 (insert-len seen n (line_of line) le) refl (rw front refl) blank keys_blank in
-    keyed new (both.0 ∙ insert-both seen n Blank (line_of line) le) both.1
+    ap (block_after_lines None) (insert-front _ _ _ le) ∙ outside in
+    let both = inserted _ _ _ with_line.0 with_line.1 (insert-len _ _ _ le) refl (rw front refl) blank keys_blank in
+    keyed _ (both.0 ∙ insert-both _ _ _ _ le) both.1
 
 -- ---- another line
 
@@ -139,7 +139,7 @@ set-keys : (block : Option Placed) (lines : List (Line Placed)) (at : ℕ) (line
     → is_loose line ≡ true
     → keys_from block (set lines at line) ≡ set (keys_from block lines) at (key_at (block_after_lines block (take at lines)) line)
 set-keys block [] at line lt was loose = absurd (omega (arith, lt))
-set-keys block (first ∷ lines) zero line lt was loose = rw (level-line block first (ap not was), level-line block line (ap not loose))
+set-keys block (first ∷ lines) zero line lt was loose = rw (level-line _ _ (ap not was), level-line _ _ (ap not loose))
 set-keys block (first ∷ lines) (suc at) line lt was loose = rw (set-keys (block_after_line block first) lines at line (omega (arith, lt)) was loose)
 
 pub replaced : (lines : List declared.Line) {new : List declared.Line} {keys changed : List Key} {seen : List (Line Placed)}
@@ -147,9 +147,9 @@ pub replaced : (lines : List declared.Line) {new : List declared.Line} {keys cha
     → at < length seen → is_loose (line_at seen at) ≡ true → is_loose (line_of line) ≡ true
     → key ≡ key_at (block_after_lines None (take at seen)) (line_of line) → new ≡ set lines at line → changed ≡ set keys at key
     → IsKeyed new changed (set seen at (line_of line))
-replaced lines {new} n line view are lt was loose key_is put keys_put = keyed new
-    (rw (put, ← view) (map-set line_of lines n line))
-    (rw (keys_put, put, are, key_is, map-set line_of lines n line, view) (sym (set-keys None _ n (line_of line) lt was loose)))
+replaced lines {new} n line view are lt was loose key_is put keys_put = keyed _
+    (rw (put, ← view) (map-set line_of _ _ _))
+    (rw (keys_put, put, are, key_is, map-set line_of _ _ _, view) (sym (set-keys None _ _ _ lt was loose)))
 
 -- ---- fewer lines
 
@@ -166,4 +166,4 @@ pub removed : (lines : List declared.Line) {new : List declared.Line} {keys chan
     → IsKeyed new changed (unmarked marks seen)
 removed lines {new} {seen} marks view are stay cut keys_cut =
     let left : line_views new ≡ unmarked marks seen = rw (cut, ← view) (unmarked-map line_of marks lines) in
-    keyed new left (rw (keys_cut, are, left, view) (sym (ap (map seat_key) stay ∙ unmarked-map seat_key marks (with_blocks_from None seen))))
+    keyed _ left (rw (keys_cut, are, left, view) (sym (ap (map seat_key) stay ∙ unmarked-map seat_key marks (with_blocks_from None seen))))

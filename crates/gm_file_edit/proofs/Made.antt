@@ -18,7 +18,7 @@ use Rattle.gm_syntax.specs.LineViews.{plain}
 use Rattle.gm_syntax.proofs.NewWords.{new_word_stands, value_is, no_mark}
 use Rattle.gm_syntax.proofs.Changes.{entry_stands, standing_entry}
 use Rattle.gm_file.specs.Values.{argument, argument_of_kind}
-use Rattle.gm_file.specs.Directives.{Strict, pair, Directive, Saying, directive_in, directive_of, is_empty_block, item_at, main_verb, one_of, pair_of}
+use Rattle.gm_file.specs.Directives.{Strict, Directive, Saying, directive_in, directive_of, is_empty_block, item_at, main_verb, one_of, pair_of}
 use Rattle.gm_file.specs.Faults.{directive_kinds, item_kinds, entry_kinds, is_module}
 use Rattle.gm_file_edit.specs.Holding.{directive_at, item_of}
 use Rattle.gm_file_edit.specs.NewWords.{made_word}
@@ -57,13 +57,13 @@ pub record IsRenewal (test : Directive → Bool) (said : Directive) (make : Opti
 -- ---- new words
 
 not-bare : (value : List ℕ) → ¬ IsBare value → can_be_bare value ≡ false
-not-bare value n = elim (cases_Bool (can_be_bare value)) [ inl e ↦ absurd (n (is_bare_word value e)) | inr e ↦ e ]
+not-bare value n = elim (cases_Bool _) [ inl e ↦ absurd (n (is_bare_word _ e)) | inr e ↦ e ]
 
 is-new : (value : List ℕ) → IsNewWord value (made_word value)
-is-new value = record { bare = λ h. rw (bare_word_is value h) refl; quoted = λ n. rw (not-bare value n) refl }
+is-new value = record { bare = λ h. rw (bare_word_is _ h) refl; quoted = λ n. rw (not-bare _ n) refl }
 
 pub made-stands : (value : List ℕ) → HasNoLineFeed value → IsWord (new_word value)
-made-stands value plain = (new_word_stands value (made_word value) plain (is-new value)).0
+made-stands value plain = (new_word_stands _ _ plain (is-new _)).0
 
 pub made-value : (value : List ℕ) → HasNoLineFeed value → argument (new_word value) ≡ Some value
 made-value value plain =
@@ -80,7 +80,7 @@ kind-no-mark b Mark text e = absurd cc
 
 -- a punctuation mark is not an argument
 pub no-mark : (b : ℕ) (w : Word) (value : List ℕ) → argument w ≡ Some value → is_mark b w ≡ false
-no-mark b w value e = kind-no-mark b w.kind w.spelling e
+no-mark b w value e = kind-no-mark _ _ _ e
 
 -- ---- arguments
 
@@ -147,7 +147,7 @@ new-entry None verb front old {arguments} at entry are =
       are_words = (before.are_words.0, are.words);
       is_suffix = before.is_suffix;
       filled = omega arith;
-      opens_nothing = open-behind at.0.word (words_of arguments) are.filled ∙ are.opens_nothing;
+      opens_nothing = open-behind at.0.word _ are.filled ∙ are.opens_nothing;
       closes_nothing = before.closes_nothing;
     })
 new-entry (Some v) verb front old at entry are =
@@ -166,14 +166,14 @@ pub entry-made : {new was : Directive} {block : Option Placed} {line next : Line
     → IsMadeNew new block next
 entry-made {block} h {arguments} is stands are says kinds =
     let item : item_of block (Entry (h.front ++ arguments) h.suffix) ≡ Saying h.verb (words_of arguments) =
-    new-item block h.verb h.front arguments h.suffix h.at are.no_block in
-    let old = standing_entry (is_some block) (words_of (h.front ++ h.arguments)) h.suffix (rw h.is at stands) in
-    let entry = new-entry block h.verb h.front h.arguments h.at old are in
+    new-item _ _ _ _ _ h.at are.no_block in
+    let old = standing_entry _ _ _ (rw h.is at stands) in
+    let entry = new-entry _ _ _ _ h.at old are in
     record {
       words = h.front ++ arguments;
       suffix = h.suffix;
       is_entry = is;
-      stands = entry_stands (is_some block) (words_of (h.front ++ arguments)) h.suffix entry;
+      stands = entry_stands _ _ _ entry;
       holds = ap (directive_in Strict) item ∙ says;
       alone = ap (item_kinds Strict []) item ∙ ap (entry_kinds Strict [] (main_verb h.verb)) says ∙ kinds;
     }
@@ -181,12 +181,12 @@ entry-made {block} h {arguments} is stands are says kinds =
 -- ---- replacing the last word
 
 without-last : (words : List Placed) (last : Placed) → take (length (words ++ last ∷ []) - 1) (words ++ last ∷ []) ≡ words
-without-last words last = take_at words (last ∷ []) (length (words ++ last ∷ []) - 1) (omega (arith, length-append words (last ∷ [])))
+without-last words last = take_at words _ (length (words ++ last ∷ []) - 1) (omega (arith, length-append words (last ∷ [])))
 
 pub last-replaced : (value : List ℕ) (block : Option Placed) (words : List Placed) (last : Placed)
     (suffix : Option (List ℕ)) → with_last value block (Entry (words ++ last ∷ []) suffix)
     ≡ Entry (words ++ made_word value ∷ []) suffix
-last-replaced value block words last suffix = rw (without-last words last)
+last-replaced value block words last suffix = rw (without-last _ _)
 
 pub all-arguments : (block : Option Placed) (verb : List ℕ) (front old : List Placed) {line : Line Placed}
     (suffix : Option (List ℕ)) (arguments : List Placed) → IsFront block verb front
@@ -206,27 +206,27 @@ pub two-arguments : (words : List Placed) (p : ModuleVersion) → pair_of (words
 two-arguments [] p e = absurd cc
 two-arguments (a ∷ []) p e = absurd cc
 two-arguments (a ∷ b ∷ []) p e =
-    let parts = both-are pair (argument a.word) (argument b.word) e in
+    let parts = both-are _ _ _ e in
     (a, b, refl, rw (← parts.4) parts.2)
 two-arguments (a ∷ b ∷ c ∷ words) p e = absurd cc
 
 pub one-are : (value : List ℕ) → HasNoLineFeed value → AreArguments (made_word value ∷ [])
 one-are value plain = record {
-  words = (made-stands value plain, tt);
+  words = (made-stands _ plain, tt);
   filled = omega arith;
-  opens_nothing = no_mark 40 value;
-  closes_nothing = no_mark 41 value;
+  opens_nothing = no_mark 40 _;
+  closes_nothing = no_mark 41 _;
   no_block = refl;
 }
 
 -- a word that stays and a new one
 pub two-are : (a : Placed) (path value : List ℕ) → IsWord a.word → argument a.word ≡ Some path → HasNoLineFeed value → AreArguments (a ∷ made_word value ∷ [])
 two-are a path value word is plain = record {
-  words = (word, (made-stands value plain, tt));
+  words = (word, (made-stands _ plain, tt));
   filled = omega arith;
-  opens_nothing = no_mark 40 value;
-  closes_nothing = no-mark 41 a.word path is;
-  no_block = rw (no-mark 40 a.word path is) refl;
+  opens_nothing = no_mark 40 _;
+  closes_nothing = no-mark 41 _ _ is;
+  no_block = rw (no-mark 40 _ _ is) refl;
 }
 
 -- a new path before other words
@@ -234,4 +234,4 @@ pub begins-path : (path : List ℕ) (more : List Placed) → HasNoLineFeed path 
     → ends_open (words_of (made_word path ∷ more)) ≡ false
     → is_empty_block (words_of (made_word path ∷ more)) ≡ false → AreArguments (made_word path ∷ more)
 begins-path path more plain words opens filled =
-    record { words = (made-stands path plain, words); filled = omega arith; opens_nothing = opens; closes_nothing = no_mark 41 path; no_block = filled }
+    record { words = (made-stands _ plain, words); filled = omega arith; opens_nothing = opens; closes_nothing = no_mark 41 _; no_block = filled }

@@ -7,7 +7,6 @@ use Rattle.std.proofs.lemmas.Bool.{cases_Bool}
 use Rattle.gm_syntax_words.specs.Tokens.{Placed, words_of}
 use Rattle.gm_syntax.specs.Document.{Line, Blank}
 use Rattle.gm_file.specs.Directives.{Directive, block_after_line, block_after_lines, main_verb, verb_eq}
-use Rattle.gm_file.specs.declared.verb.Verb.{Verb}
 use Rattle.gm_file.proofs.DirectiveVerbs.{same-verb}
 use Rattle.gm_name.proofs.NameTests.{and_both}
 use Rattle.gm_file_edit.specs.Fates.{without_targets, dropping_from, remaining, with_renewal, renewing_from}
@@ -18,7 +17,7 @@ use Rattle.gm_file_edit.specs.Edits.{Edit}
 use Rattle.gm_file_edit.specs.Renewing.{made_new}
 use Rattle.gm_file_edit.specs.Private.Marks.{line_at, fates_of, marks_from}
 use Rattle.gm_file_edit.specs.declared.keys.Key.{Key}
-use Rattle.gm_file_edit.specs.Private.Keys.{Subject, agrees, are_texts, have_texts, held_subject, hold_texts, key_at, key_with, keys_from, subject_of, takes_any_version, target_of_edit, texts_named}
+use Rattle.gm_file_edit.specs.Private.Keys.{Subject, agrees, are_texts, held_subject, hold_texts, key_at, key_with, keys_from, subject_of, takes_any_version, target_of_edit}
 use Rattle.gm_file_edit.proofs.Made.{IsFront, held-by}
 use Rattle.gm_file_edit.proofs.Packs.{first-is, first_of}
 use Rattle.gm_file_edit.proofs.Targets.{about-is, none-there, passed-over, target-known}
@@ -56,12 +55,10 @@ texts-tell edit block line (Some d) is same =
     let h = held-by block line is in
     let words = words_of h.arguments in
     let said = entry-texts (main_verb h.verb) words d h.says in
-    let own : target.0 ≡ main_verb h.verb = same-verb target.0 (subject_of d).0 same ∙ ap (λ (s : Subject). s.0) said in
+    let own : target.0 ≡ main_verb h.verb = same-verb target.0 (subject_of d).0 same ∙ rw said in
     ap (hold_texts target any (is_some block)) h.is
-    ∙ ap (λ (ws : List Placed). have_texts target any (words_of ws)) (arguments-are block h.verb h.front h.arguments h.at)
-    ∙ ap (λ (v : Verb). are_texts target.1 any (subject v (texts_named v words))) own
-    ∙ ap (are_texts target.1 any) (sym said)
-    ∙ rw same at (about-is edit d)
+    ∙ rw (arguments-are block h.verb h.front h.arguments h.at) (rw own (ap (are_texts target.1 any) (sym said)
+    ∙ rw same at (about-is edit d)))
 
 module _ (edit : Edit) (whole : List (Line Placed)) (n : ℕ) {key wanted : Key} {own : Subject} {any : Bool}
     (key_is : key ≡ key_at (block_after_lines None (take n whole)) (line_at whole n)) (own_is : own ≡ target_of_edit edit)
@@ -78,15 +75,15 @@ module _ (edit : Edit) (whole : List (Line Placed)) (n : ℕ) {key wanted : Key}
   told-at agree within is held =
       let block = block_after_lines None (take n whole) in
       let line = line_at whole n in
-      let same = (and_both (verb_eq (target_of_edit edit).0 (held_subject (directive_at block line)).0) _ (rw (wanted_is, own_is, any_is, key_is) at agree)).0 in
-      held ∙ rw (within, key_is, is, own_is, any_is) (texts-tell edit block line (directive_at block line) refl same)
+      let same = (and_both _ _ (rw (wanted_is, own_is, any_is, key_is) at agree)).0 in
+      held ∙ rw (within, key_is, is, own_is, any_is) (texts-tell _ _ _ _ refl same)
 
 -- one more line
 pub scan-more : (edit : Edit) (whole : List (Line Placed)) (n : ℕ) {marks next : List Bool} {mark : Bool} → n < length whole
     → mark ≡ passes (about edit) (directive_at (block_after_lines None (take n whole)) (line_at whole n)) → next ≡ marks ++ mark ∷ []
     → AreMarkedTo edit whole n marks → AreMarkedTo edit whole (n + 1) next
 scan-more edit whole n lt tested pushed so =
-    rw (pushed, so, tested, take_more whole n Blank lt, marks-append (about edit) None (take n whole) (line_at whole n ∷ []))
+    rw (pushed, so, tested, take_more _ _ Blank lt, marks-append (about edit) None (take n whole) (line_at _ _ ∷ []))
 
 pub scan-end : (edit : Edit) (whole : List (Line Placed)) (n : ℕ) {marks : List Bool} → length whole ≤ n → AreMarkedTo edit whole n marks
     → marks ≡ marks_from (about edit) None whole
@@ -119,7 +116,7 @@ dropping-marked test block (line ∷ lines) = rw (dropping-marked test (block_af
 
 pub dropped-marked : (test : Directive → Bool) (lines : List (Line Placed))
     → without_targets test lines ≡ remaining (fates_of (marks_from test None lines) lines)
-dropped-marked test lines = ap (remaining) (dropping-marked test None lines)
+dropped-marked test lines = ap (remaining) (dropping-marked _ None _)
 
 -- ---- lines of which the first with a mark is rewritten, and the others are removed
 
@@ -142,7 +139,7 @@ renewing-marked test new block (line ∷ lines) lt = elim (cases_Bool (passes te
 pub renewed-marked : (test : Directive → Bool) (new : Option Placed → Line Placed → Line Placed)
     (lines : List (Line Placed)) → first_of (marks_from test None lines) < length lines
     → with_renewal test new lines ≡ remaining (fates_of (after_first (marks_from test None lines)) (rewritten new None (marks_from test None lines) lines))
-renewed-marked test new lines lt = ap (remaining) (renewing-marked test new None lines lt)
+renewed-marked test new lines lt = ap (remaining) (renewing-marked _ _ None _ lt)
 
 -- ---- the lines after an operation
 
@@ -151,7 +148,7 @@ pub edited-there : (edit : Edit) (lines : List (Line Placed)) (marks : List Bool
     → first < length lines → lines_after edit lines ≡ with_change edit lines
 unfolding lines_after
 edited-there edit lines marks marks_are first_is lt =
-    let at = first_is ∙ first-is marks ∙ ap first_of marks_are in
+    let at = first_is ∙ first-is _ ∙ ap first_of marks_are in
     rw (some-mark (about edit) None lines (omega (arith, at, lt)))
 
 pub edited-new : (edit : Edit) (lines : List (Line Placed)) (marks : List Bool) {first : ℕ}
@@ -159,7 +156,7 @@ pub edited-new : (edit : Edit) (lines : List (Line Placed)) (marks : List Bool) 
     → length lines ≤ first → lines_after edit lines ≡ put_in edit lines
 unfolding lines_after
 edited-new edit lines marks marks_are first_is le =
-    let at = first_is ∙ first-is marks ∙ ap first_of marks_are in
+    let at = first_is ∙ first-is _ ∙ ap first_of marks_are in
     rw (no-mark (about edit) None lines (omega (arith, at, le)))
 
 pub edited-idle : (edit : Edit) (lines : List (Line Placed)) {subject : Subject} {target : Key} {any : Bool} {keys : List Key}
@@ -167,7 +164,7 @@ pub edited-idle : (edit : Edit) (lines : List (Line Placed)) {subject : Subject}
     → list_any (λ key. agrees target any key) keys ≡ false → lines_after edit lines ≡ put_in edit lines
 unfolding lines_after
 edited-idle edit lines target_is subject_is any_is keys_are none =
-    rw (none-there edit None lines (rw (target_is, subject_is, any_is, keys_are) at none))
+    rw (none-there _ None _ (rw (target_is, subject_is, any_is, keys_are) at none))
 
 -- what is left of lines of which the first with a mark is rewritten
 pub renew-is : (edit : Edit) (lines new : List (Line Placed)) {marks : List Bool} (others : List Bool) {first : ℕ} {line : Line Placed}
@@ -175,5 +172,5 @@ pub renew-is : (edit : Edit) (lines new : List (Line Placed)) {marks : List Bool
     → line ≡ made_new edit (block_after_lines None (take first lines)) (line_at lines first) → new ≡ set lines first line → others ≡ set marks first false
     → remaining (fates_of others new) ≡ with_renewal (about edit) (made_new edit) lines
 renew-is edit lines new {marks} others {first} marks_are first_is lt line_is new_is others_are =
-    let f : first ≡ first_of (marks_from (about edit) None lines) = first_is ∙ first-is marks ∙ ap first_of marks_are in
-    rw (others_are, new_is, line_is, marks_are, f) (sym (renewed-marked (about edit) (made_new edit) lines (omega (arith, lt, f))))
+    let f : first ≡ first_of (marks_from (about edit) None lines) = first_is ∙ first-is _ ∙ ap first_of marks_are in
+    rw (others_are, new_is, line_is, marks_are, f) (sym (renewed-marked _ _ _ (omega (arith, lt, f))))

@@ -3,7 +3,6 @@ use Rattle.std.proofs.Common.{◌≡◌, ◌≢◌, ℕ, suc, ◌+◌, ◌==◌,
 use Rattle.std.specs.Prelude.{if◌then◌else◌, option_and_then}
 use Rattle.std.specs.Char.{is_ascii_digit, is_ascii_lowercase}
 use Rattle.std.specs.List.{AllByRecursion, list_all, prefix_len}
-use Rattle.std.specs.Str.Parse.{digits_value}
 use Rattle.std.proofs.lemmas.Bool.{cases_Bool, or_cases, or_parts, true≢false}
 use Rattle.std.proofs.lemmas.Bool.Decides.{nat_tests}
 use Rattle.std.proofs.lemmas.List.{take-append-drop}
@@ -11,13 +10,13 @@ use Rattle.std.proofs.lemmas.List.Folds.{length-prefix_len}
 use Rattle.gm_syntax_words.specs.Lines.{HasNoLineFeed}
 use Rattle.gm_syntax.proofs.Stable.{plain_append}
 use Rattle.gm_name.specs.Names.{is_path, is_version}
-use Rattle.gm_version.specs.Number.{is_decimal, starts_as_no_number}
-use Rattle.gm_name.specs.Path.{IsPath, is_byte_of_path}
-use Rattle.gm_version.specs.Version.{IsVersion, is_byte_of_version}
+use Rattle.gm_version.specs.Number.{is_decimal}
+use Rattle.gm_name.specs.Path.{IsPath}
+use Rattle.gm_version.specs.Version.{IsVersion}
 use Rattle.gm_name.proofs.Bytes.{path-bytes, version-bytes}
 use Rattle.gm_name.proofs.NameTests.{and_both, path-tested, version-tested}
 use Rattle.gm_operation.specs.Operations.{has_byte}
-use Rattle.gm_file.specs.GoVersions.{after_dot, before_dot, first_number, has_dot, is_go_suffix, last_number, numbers, second_number, small_number, strict_go}
+use Rattle.gm_file.specs.GoVersions.{after_dot, before_dot, first_number, has_dot, is_go_suffix, last_number, second_number, small_number, strict_go}
 use Rattle.std.specs.Option.{option_map}
 use Rattle.gm_file.specs.Values.{both}
 
@@ -41,27 +40,27 @@ both-are f (Some x) (Some y) e = (x, y, refl, refl, cc)
 pub has-no : (byte : ℕ) (test : ℕ → Bool) → test byte ≡ false → (text : List ℕ) → list_all test text ≡ true → AllByRecursion (λ b. b ≢ byte) text
 has-no byte test fails [] all = tt
 has-no byte test fails (b ∷ text) all =
-    let parts = and_both (test b) (list_all test text) all in
+    let parts = and_both _ _ all in
     ((λ e. true≢false (sym parts.0 ∙ ap test e ∙ fails)), has-no byte test fails text parts.1)
 
 pub path-plain : (text : List ℕ) → IsPath text → HasNoLineFeed text
-path-plain text path = has-no 10 is_byte_of_path refl text (path-bytes text path)
+path-plain text path = has-no 10 _ refl _ (path-bytes _ path)
 
 pub path-feed : (text : List ℕ) → is_path text ≡ true → HasNoLineFeed text
-path-feed text h = path-plain text ((path-tested text).0 h)
+path-feed text h = path-plain _ ((path-tested _).0 h)
 
 pub version-plain : (text : List ℕ) → IsVersion text → HasNoLineFeed text
-version-plain text version = has-no 10 is_byte_of_version refl text (version-bytes text version)
+version-plain text version = has-no 10 _ refl _ (version-bytes _ version)
 
 pub version-feed : (text : List ℕ) → is_version text ≡ true → HasNoLineFeed text
-version-feed text h = version-plain text ((version-tested text).0 h)
+version-feed text h = version-plain _ ((version-tested _).0 h)
 
 -- a text that doesn't contain the byte has no line feed
 pub byte-feed : (text : List ℕ) → has_byte 10 text ≡ false → HasNoLineFeed text
 byte-feed [] e = tt
 byte-feed (b ∷ text) e =
     let parts = or_parts (b == 10) (has_byte 10 text) e in
-    ((λ is. true≢false (sym (ap (λ (x : ℕ). x == 10) is) ∙ parts.0)), byte-feed text parts.1)
+    ((λ is. true≢false (sym (rw is) ∙ parts.0)), byte-feed text parts.1)
 
 -- ---- go versions
 
@@ -74,20 +73,20 @@ if-other true o e = absurd cc
 if-other false o e = (refl, e)
 
 decimal-feed : (text : List ℕ) → is_decimal text ≡ true → HasNoLineFeed text
-decimal-feed text h = has-no 10 is_ascii_digit refl text (and_both (not (starts_as_no_number text)) (list_all is_ascii_digit text) h).1
+decimal-feed text h = has-no 10 _ refl _ (and_both _ _ h).1
 
 small-feed : (text : List ℕ) (n : ℕ) → small_number text ≡ Some n → HasNoLineFeed text
 unfolding small_number
 small-feed text n e =
-    let test = if-some (is_decimal text && nat_lt (digits_value 10 text) 1000000000) (Some (digits_value 10 text)) e in
-    decimal-feed text (and_both (is_decimal text) (nat_lt (digits_value 10 text) 1000000000) test.0).0
+    let test = if-some _ _ e in
+    decimal-feed _ (and_both _ _ test.0).0
 
 first-feed : (text : List ℕ) (n : ℕ) → first_number text ≡ Some n → HasNoLineFeed text
 unfolding first_number
-first-feed text n e = small-feed text n (if-other _ (small_number text) e).1
+first-feed text n e = small-feed _ _ (if-other _ _ e).1
 
 cut-feed : (n : ℕ) (text : List ℕ) → HasNoLineFeed (take n text) → HasNoLineFeed (drop n text) → HasNoLineFeed text
-cut-feed n text front back = rw (take-append-drop n text) at (plain_append (take n text) (drop n text) front back)
+cut-feed n text front back = rw (take-append-drop n _) at (plain_append _ _ front back)
 
 while-feed : (test : ℕ → Bool) → test 10 ≡ false → (text : List ℕ) → HasNoLineFeed (take_while test text)
 while-feed test fails [] = tt
@@ -102,8 +101,7 @@ empty-feed [] e = tt
 empty-feed (b ∷ text) e = absurd cc
 
 behind-feed : (test : ℕ → Bool) → test 10 ≡ false → (text : List ℕ) → HasNoLineFeed (drop (length (take_while test text)) text) → HasNoLineFeed text
-behind-feed test fails text back =
-    cut-feed (prefix_len test text) text (while-feed test fails text) (rw (length-prefix_len test text) at back)
+behind-feed test fails text back = cut-feed _ _ (while-feed test fails text) (rw (length-prefix_len _ _) at back)
 
 suffix-feed : (text : List ℕ) → is_go_suffix text ≡ true → HasNoLineFeed text
 unfolding is_go_suffix
@@ -120,8 +118,7 @@ last-feed : (text : List ℕ) {n : ℕ} → last_number text ≡ Some n → HasN
 unfolding last_number
 last-feed text e =
     let digits = take_while is_ascii_digit text in
-    behind-feed is_ascii_digit refl text (suffix-feed (drop (length digits) text)
-    (if-some (is_go_suffix (drop (length digits) text)) (small_number digits) e).0)
+    behind-feed _ refl _ (suffix-feed _ (if-some _ _ e).0)
 
 dot-feed : (text : List ℕ) → HasNoLineFeed (before_dot text) → HasNoLineFeed (after_dot text) → HasNoLineFeed text
 dot-feed [] before after = tt
@@ -130,7 +127,7 @@ dot-feed (b ∷ text) before after =
     elim (cases_Bool (b == 46)) [
       | inl dot ↦
           let none : prefix_len (λ (x : ℕ). not (x == 46)) (b ∷ text) ≡ 0 = rw dot refl in
-          ((λ is. true≢false (sym dot ∙ ap (λ (x : ℕ). x == 46) is)), rw none at after)
+          ((λ is. true≢false (sym dot ∙ rw is)), rw none at after)
       | inr other ↦
           let more : prefix_len (λ (x : ℕ). not (x == 46)) (b ∷ text) ≡ suc n = rw other (omega arith) in
           let next : suc n + 1 ≡ suc (n + 1) = omega arith in
@@ -147,7 +144,7 @@ unfolding second_number
 second-feed text n e = elim (cases_Bool (has_dot text)) [
   | inl dot ↦
       let inner = rw dot at e in
-      let test = if-some (is_some (last_number (after_dot text))) (small_number (before_dot text)) inner in
+      let test = if-some (is_some _) (small_number (before_dot text)) inner in
       let last = some-in (last_number (after_dot text)) test.0 in
       dot-feed text (small-feed (before_dot text) n test.1) (last-feed (after_dot text) last.1)
   | inr none ↦ last-feed text (rw none at e)
@@ -156,6 +153,6 @@ second-feed text n e = elim (cases_Bool (has_dot text)) [
 pub go-feed : (text : List ℕ) → is_some (strict_go text) ≡ true → HasNoLineFeed text
 unfolding strict_go
 go-feed text e =
-    let read = some-in (strict_go text) e in
-    let parts = both-are numbers (first_number (before_dot text)) (second_number (after_dot text)) read.1 in
-    dot-feed text (first-feed (before_dot text) parts.0 parts.2) (second-feed (after_dot text) parts.1 parts.3)
+    let read = some-in _ e in
+    let parts = both-are _ _ _ read.1 in
+    dot-feed _ (first-feed _ _ parts.2) (second-feed _ _ parts.3)

@@ -22,9 +22,8 @@ swap-front {X} (item ∷ rest) k n lt in_range =
     let items : List X = item ∷ rest in
     let low : k < length items = omega (arith, lt, in_range) in
     let there : X = get_or items n item in
-    let first : take 1 (drop n items) ≡ there ∷ [] = rw (drop-next items n there in_range (get_or_default items n item there in_range)) in
-    rw (first, ← swap_is items k n item low in_range)
-    (take-set-le (k + 1) (set items k there) n (get_or items k item) (omega (arith, lt)) ∙ take_more_set items k there low)
+    let first : take 1 (drop n items) ≡ there ∷ [] = rw (drop-next _ _ _ in_range (get_or_default items n item there in_range)) in
+    rw (first, ← swap_is items k n item low in_range) (take-set-le (k + 1) _ _ _ (omega (arith, lt)) ∙ take_more_set _ _ _ low)
 
 pub swap-rest : {X : Type 0} (items : List X) (k n : ℕ) → k < n → n < length items → drop (n + 1) (swap items k n) ≡ drop (n + 1) items
 swap-rest [] k n lt in_range = absurd (omega (arith, in_range))
@@ -32,23 +31,22 @@ swap-rest {X} (item ∷ rest) k n lt in_range =
     let items : List X = item ∷ rest in
     let there : X = get_or items n item in
     rw (← swap_is items k n item (omega (arith, lt, in_range)) in_range)
-    (drop-set-lt (n + 1) (set items k there) n (get_or items k item) (omega arith) ∙ drop-set-lt (n + 1) items k there (omega (arith, lt)))
+    (drop-set-lt (n + 1) _ _ _ (omega arith) ∙ drop-set-lt (n + 1) _ _ _ (omega (arith, lt)))
 
 -- ---- items at an index
 
 pub item-here : {X : Type 0} (items : List X) (n : ℕ) → n < length items → (item : X) × (drop n items ≡ item ∷ drop (n + 1) items)
 item-here [] n lt = absurd (omega (arith, lt))
 item-here (item ∷ items) n lt =
-    (get_or (item ∷ items) n item, drop-next (item ∷ items) n _ lt (get_or_default (item ∷ items) n item (get_or (item ∷ items) n item) lt))
+    (get_or (item ∷ items) n item, drop-next _ _ _ lt (get_or_default (item ∷ items) n item (get_or (item ∷ items) n item) lt))
 
 pub kept-here : {X : Type 0} (items : List X) (n : ℕ) → n < length items → take (n + 1) items ≡ take n items ++ take 1 (drop n items)
 kept-here [] n lt = absurd (omega (arith, lt))
 kept-here (item ∷ items) n lt =
-    rw (drop-next (item ∷ items) n (get_or (item ∷ items) n item) lt (get_or_default (item ∷ items) n item (get_or (item ∷ items) n item) lt))
-    (take_more (item ∷ items) n item lt)
+    rw (drop-next _ _ _ lt (get_or_default (item ∷ items) n item (get_or (item ∷ items) n item) lt)) (take_more _ _ item lt)
 
 next-rest : {X : Type 0} (xs ys : List X) (n : ℕ) → drop n xs ≡ drop n ys → drop (n + 1) xs ≡ drop (n + 1) ys
-next-rest xs ys n same = rw (← drop-drop 1 n xs, same) (drop-drop 1 n ys)
+next-rest xs ys n same = rw (← drop-drop 1 _ _, same) (drop-drop 1 n ys)
 
 -- ---- the loop that keeps items
 
@@ -65,7 +63,7 @@ left-more : {X : Type 0} (mark : Bool) (front new : List X) (item : X) (marks : 
     → (mark ≡ true → new ≡ front) → (mark ≡ false → new ≡ front ++ item ∷ [])
     → new ++ unmarked marks rest ≡ front ++ unmarked (mark ∷ marks) (item ∷ rest)
 left-more true front new item marks rest gone stays = rw (gone refl)
-left-more false front new item marks rest gone stays = rw (stays refl) (append_assoc front (item ∷ []) (unmarked marks rest))
+left-more false front new item marks rest gone stays = rw (stays refl) (append_assoc front _ _)
 
 pub keep-more : {X : Type 0} {marks : List Bool} {whole : List X} (n : ℕ) {count : ℕ} (next : ℕ) {items : List X}
     (new : List X) {mark : Bool}
@@ -82,8 +80,7 @@ keep-more {marks} {whole} n {count} next {items} new {mark} lt even is len bound
       bound = bound;
       rest = same ∙ next-rest items whole n so.rest;
       left =
-          left-more mark (take count items) (take next new) here.0 (drop (n + 1) marks) (drop (n + 1) whole) gone (λ e. rw one at (stays e))
-          ∙ rw (drop-next marks n mark lt is, here.1) at so.left;
+          left-more _ _ _ _ _ _ gone (λ e. rw one at (stays e)) ∙ rw (drop-next _ _ _ lt is, here.1) at so.left;
     }
 
 -- ---- the loop that widens marks
@@ -119,17 +116,17 @@ widen-more {whole} {old} n {block} next_block {behind} next_behind {mark} next_m
     let rest : drop (n + 1) marks ≡ drop (n + 1) old = next-rest marks old n so.rest in
     let mark_here = rw (so.rest, rest) at (drop-next marks n mark (omega (arith, size, even, lt)) is) in
     let taken : length (take n marks) ≡ length (take n whole) =
-    length-take-le n marks (omega (arith, size, even, lt)) ∙ sym (length-take-le n whole (omega (arith, lt))) in
+    length-take-le n _ (omega (arith, size, even, lt)) ∙ sym (length-take-le n _ (omega (arith, lt))) in
     record {
       size = same_size ∙ size;
       rest = same_rest ∙ rest;
       left =
           rw (
             put,
-            take_more whole n Blank lt,
-            marked-more (take n marks) (take n whole) next_mark (line_at whole n) taken,
-            append_assoc front (fate_by next_mark (line_at whole n) ∷ []) after,
-          ) (rw (mark_here, line-here whole n lt, step) at so.left);
+            take_more _ _ Blank lt,
+            marked-more _ _ _ _ taken,
+            append_assoc front _ _,
+          ) (rw (mark_here, line-here _ _ lt, step) at so.left);
     }
 
 -- a line without a mark
@@ -143,10 +140,8 @@ pub widen-line : {whole : List (Line Placed)} (old : List Bool) (n : ℕ) {block
 widen-line {whole} old n {block} next_block {behind} next_behind next_mark {marks} {slice} even lt seen_is unmarked same step so =
     let size = so.size in
     let rest : drop (n + 1) slice ≡ drop (n + 1) old = rw same (next-rest marks old n so.rest) in
-    widen-more n next_block next_behind next_mark (set marks n next_mark) even lt
-    (rw unmarked at seen_is) (length-set marks n next_mark)
-    (drop-set-lt (n + 1) marks n next_mark (omega arith)) (take_more_set marks n next_mark (omega (arith, size, even, lt)))
-    (rw rest at step) so
+    widen-more _ _ _ _ _ even lt (rw unmarked at seen_is) (length-set marks _ _)
+    (drop-set-lt (n + 1) _ _ _ (omega arith)) (take_more_set _ _ _ (omega (arith, size, even, lt))) (rw rest at step) so
 
 -- a line with a mark
 pub widen-marked : {whole : List (Line Placed)} (old : List Bool) (n : ℕ) {block : Option Bool} {behind seen : Bool} {marks : List Bool}
@@ -155,7 +150,7 @@ pub widen-marked : {whole : List (Line Placed)} (old : List Bool) (n : ℕ) {blo
 widen-marked old n {block} {behind} {marks} even lt seen_is has_mark so =
     let size = so.size in
     let mark_is = rw has_mark at seen_is in
-    widen-more n block behind true marks even lt mark_is refl refl (rw (← mark_is) at (take_more marks n true (omega (arith, size, even, lt)))) refl so
+    widen-more _ _ _ _ _ even lt mark_is refl refl (rw (← mark_is) at (take_more marks n true (omega (arith, size, even, lt)))) refl so
 
 -- ---- the loop that looks for the end of a block
 
@@ -173,18 +168,18 @@ fates-here : (marks : List Bool) (lines : List (Line Placed)) (n : ℕ) {mark : 
     → fates_of (drop n marks) (drop n lines) ≡ fate_by mark (line_at lines n) ∷ fates_of (drop (n + 1) marks) (drop (n + 1) lines)
 fates-here marks lines n {mark} even lt is =
     let in_marks : n < length marks = omega (arith, even, lt) in
-    rw (drop-next marks n mark in_marks (sym is ∙ get_or_default marks n false mark in_marks), line-here lines n lt)
+    rw (drop-next _ _ _ in_marks (sym is ∙ get_or_default marks n false mark in_marks), line-here _ _ lt)
 
 pub look-marked : (marks : List Bool) (lines : List (Line Placed)) (n : ℕ) (lost : Bool) → length marks ≡ length lines
     → n < length lines → get_or marks n false ≡ true
     → empties lost (fates_of (drop n marks) (drop n lines)) ≡ empties true (fates_of (drop (n + 1) marks) (drop (n + 1) lines))
-look-marked marks lines n lost even lt is = ap (empties lost) (fates-here marks lines n even lt is)
+look-marked marks lines n lost even lt is = ap (empties lost) (fates-here _ _ _ even lt is)
 
 pub look-blank : (marks : List Bool) (lines : List (Line Placed)) (n : ℕ) (lost : Bool) → length marks ≡ length lines
     → n < length lines → get_or marks n false ≡ false
     → is_blank_line (plain (line_at lines n)) ≡ true → empties lost (fates_of (drop n marks) (drop n lines))
     ≡ empties lost (fates_of (drop (n + 1) marks) (drop (n + 1) lines))
-look-blank marks lines n lost even lt is blank = rw (fates-here marks lines n even lt is) (empties-blank lost (line_at lines n) _ blank)
+look-blank marks lines n lost even lt is blank = rw (fates-here _ _ _ even lt is) (empties-blank _ _ _ blank)
 
 -- ---- no line with a mark
 
@@ -198,7 +193,7 @@ none-marked (false ∷ marks) (line ∷ lines) even none = rw (none-marked marks
 
 pub all-kept : (marks : List Bool) (lines : List (Line Placed)) → length marks ≡ length lines
     → list_any (λ mark. mark) marks ≡ false → lines ≡ remaining (fates_of marks lines)
-all-kept marks lines even none = rw (none-marked marks lines even none) (sym (all-lines-stay lines))
+all-kept marks lines even none = rw (none-marked _ _ even none) (sym (all-lines-stay _))
 
 -- ---- one line with a mark
 
@@ -229,4 +224,4 @@ pub pack-is : (marks : List Bool) {widened slice : List Bool} (lines : List (Lin
     → fates_of widened lines ≡ widened_from None false (fates_of marks lines)
     → unmarked slice lines ≡ remaining (fates_of marks lines)
 unfolding remaining
-pack-is marks {widened} lines same even are = rw (same, ← kept-lines widened lines even, are)
+pack-is marks {widened} lines same even are = rw (same, ← kept-lines _ _ even, are)

@@ -6,7 +6,7 @@ use Rattle.std.proofs.lemmas.Bool.{or_cases, or_left, or_right}
 use Rattle.std.proofs.lemmas.List.Elements.{filter_map-append}
 use Rattle.gm_syntax_words.specs.Words.{Word}
 use Rattle.gm_syntax_words.specs.Tokens.{Placed}
-use Rattle.gm_syntax.specs.Document.{Line, Blank, Comment, Open, Close, Entry, IsValidLine, IsDocument, inside_after, inside_after_all, start}
+use Rattle.gm_syntax.specs.Document.{Line, Blank, Comment, Open, Close, Entry, IsValidLine, IsDocument, inside_after, inside_after_all}
 use Rattle.gm_syntax.specs.LineViews.{plain, plain_lines}
 use Rattle.gm_syntax.proofs.Changes.{AreValidFrom, lines_stand, standing_lines}
 use Rattle.gm_file.specs.Directives.{Strict, Directive, LineInBlock, block_after_line, block_after_lines, directive_said, with_blocks, with_blocks_from}
@@ -79,12 +79,12 @@ pub plain-held : (block : Option Placed) (lines : List (Line Placed))
     → filter_map (directive_said Strict) (with_blocks_from (option_map word_of block) (plain_lines lines))
     ≡ held_in (with_blocks_from block lines)
 plain-held block [] = refl
-plain-held block (line ∷ lines) = rw (block-plain block line, plain-held (block_after_line block line) lines)
+plain-held block (line ∷ lines) = rw (block-plain _ _, plain-held (block_after_line block line) lines)
 
 right-lines : {inside : Bool} (block : Option Placed) (lines : List (Line Placed)) → inside ≡ is_some block
     → AreValidFrom inside (plain_lines lines) → inside_after_all inside (plain_lines lines) ≡ false
     → AreAlone (option_map word_of block) (plain_lines lines) → AreRightFrom block lines × (block_after_lines block lines ≡ None)
-right-lines block [] same stand ends alone = (tt, none-open block (sym same ∙ ends))
+right-lines block [] same stand ends alone = (tt, none-open _ (sym same ∙ ends))
 right-lines {inside} block (line ∷ lines) same stand ends alone =
     let rest = right-lines (block_after_line block line) lines (inside-plain block line same) stand.1 ends
     (rw (block-plain block line) at alone.1) in
@@ -103,14 +103,14 @@ lines-right {inside} block (line ∷ lines) same right closed =
 
 pub document-sound : (lines : List (Line Placed)) → IsDocument (plain_lines lines) → fault_of Strict (plain_lines lines) ≡ None → IsSound lines
 document-sound lines document none =
-    let are : AreRightApart (with_blocks (plain_lines lines)) = faultless-apart (plain_lines lines) none in
-    let stand = lines_stand start (plain_lines lines) document in
-    let right = right-lines None lines refl stand.0 stand.1 are.alone in
+    let are : AreRightApart (with_blocks (plain_lines lines)) = faultless-apart _ none in
+    let stand = lines_stand _ _ document in
+    let right = right-lines None _ refl stand.0 stand.1 are.alone in
     record {
       lines_are = record {
         right = right.0;
-        apart = rw (plain-held None lines) at are.apart;
-        declared = rw (plain-held None lines) at are.declared;
+        apart = rw (plain-held None _) at are.apart;
+        declared = rw (plain-held None _) at are.declared;
       };
       closed = right.1;
     }
@@ -118,12 +118,12 @@ document-sound lines document none =
 pub sound-document : {lines : List (Line Placed)} → IsSound lines → IsDocument (plain_lines lines) × (fault_of Strict (plain_lines lines) ≡ None)
 sound-document {lines} sound =
     let are = sound.lines_are in
-    let plain_right = lines-right None lines refl are.right sound.closed in (
-      standing_lines start (plain_lines lines) plain_right.0.0 plain_right.0.1,
-      apart-faultless (plain_lines lines) (record {
+    let plain_right = lines-right None _ refl are.right sound.closed in (
+      standing_lines _ _ plain_right.0.0 plain_right.0.1,
+      apart-faultless _ (record {
         alone = plain_right.1;
-        apart = rw (plain-held None lines) are.apart;
-        declared = rw (plain-held None lines) are.declared;
+        apart = rw (plain-held None _) are.apart;
+        declared = rw (plain-held None _) are.declared;
       }),
     )
 
@@ -137,25 +137,25 @@ right-with (x ∷ xs) seat ys right all = (all.0, right-with xs seat ys right al
 any-with : (p : Directive → Bool) (xs : List Directive) (o : Option Directive) (ys : List Directive)
     → list_any p (xs ++ ys) ≡ true → list_any p (xs ++ cons_option o ys) ≡ true
 any-with p xs None ys some = some
-any-with p [] (Some d) ys some = or_right (p d) (list_any p ys) some
-any-with p (x ∷ xs) (Some d) ys some = elim (or_cases (p x) (list_any p (xs ++ ys)) some) [
-  | inl here ↦ or_left (p x) (list_any p (xs ++ d ∷ ys)) here
-  | inr there ↦ or_right (p x) (list_any p (xs ++ d ∷ ys)) (any-with p xs (Some d) ys there)
+any-with p [] (Some d) ys some = or_right (p d) _ some
+any-with p (x ∷ xs) (Some d) ys some = elim (or_cases (p x) _ some) [
+  | inl here ↦ or_left _ (list_any p (xs ++ d ∷ ys)) here
+  | inr there ↦ or_right (p x) _ (any-with p xs (Some d) ys there)
 ]
 
 apart-put : (xs : List Directive) (o : Option Directive) (ys : List Directive) → IsClear o (xs ++ ys) → AreApart (xs ++ ys) → AreApart (xs ++ cons_option o ys)
 apart-put xs None ys clear apart = apart
-apart-put xs (Some d) ys clear apart = apart-with xs d ys clear apart
+apart-put xs (Some d) ys clear apart = apart-with _ _ _ clear apart
 
 -- the lines before and after a place, and one more there
 pub with-line : (xs : List Seat) (seat : Seat) (ys : List Seat) → IsRightLine seat
     → IsClear (held_at seat) (held_in xs ++ held_in ys) → AreSound (xs ++ ys) → AreSound (xs ++ seat ∷ ys)
 with-line xs seat ys right clear are =
-    let without : held_in (xs ++ ys) ≡ held_in xs ++ held_in ys = filter_map-append held_at xs ys in
-    let whole : held_in (xs ++ seat ∷ ys) ≡ held_in xs ++ cons_option (held_at seat) (held_in ys) = filter_map-append held_at xs (seat ∷ ys) in
+    let without : held_in (xs ++ ys) ≡ held_in xs ++ held_in ys = filter_map-append held_at _ _ in
+    let whole : held_in (xs ++ seat ∷ ys) ≡ held_in xs ++ cons_option (held_at seat) (held_in ys) = filter_map-append held_at _ _ in
     record {
-      right = right-with xs seat ys right are.right;
-      apart = rw whole (apart-put (held_in xs) (held_at seat) (held_in ys) clear (rw without at are.apart));
+      right = right-with _ _ _ right are.right;
+      apart = rw whole (apart-put _ _ _ clear (rw without at are.apart));
       declared = rw whole (any-with is_module (held_in xs) (held_at seat) (held_in ys) (rw without at are.declared));
     }
 

@@ -1,6 +1,6 @@
 -- The result of an operation doesn't depend on source positions: it commutes with removing the positions of words.
-use Rattle.std.proofs.Common.{◌≡◌, ℕ, ◌-◌, ◌&&◌, not, Bool, true, false, List, [], ◌∷◌, ◌++◌, length, map, take, Option, Some, None, is_some, refl, sym, ap, ◌∙◌, inl, inr}
-use Rattle.std.specs.Prelude.{◌||◌, if◌then◌else◌, codes}
+use Rattle.std.proofs.Common.{◌≡◌, ℕ, ◌-◌, ◌&&◌, not, Bool, true, false, List, [], ◌∷◌, ◌++◌, map, take, Option, Some, None, is_some, refl, sym, ap, ◌∙◌, inl, inr}
+use Rattle.std.specs.Prelude.{if◌then◌else◌, codes}
 use Rattle.std.specs.Option.{option_map}
 use Rattle.std.specs.Str.{bytes_eq}
 use Rattle.std.proofs.lemmas.Bool.{cases_Bool}
@@ -10,15 +10,15 @@ use Rattle.gm_syntax_words.specs.Words.{Word}
 use Rattle.gm_syntax_words.specs.Tokens.{Placed, words_of}
 use Rattle.gm_syntax.specs.Document.{Line, Blank, Comment, Open, Close, Entry, map_line}
 use Rattle.gm_syntax.specs.LineViews.{plain, plain_lines}
-use Rattle.gm_file.specs.Directives.{Strict, Directive, VersionInterval, Right, Folder, Module, Replacing, block_after_line, directive_in, item_at}
-use Rattle.gm_file.specs.Faults.{is_go, is_module}
+use Rattle.gm_file.specs.Directives.{Directive, VersionInterval, Right, Folder, Module, Replacing, block_after_line}
+use Rattle.gm_file.specs.Faults.{is_module}
 use Rattle.gm_file_edit.specs.Edits.{Edit, Set, ModuleIs, GoIs, RequireAt, Drop, Add, Exclude, ReplaceWith, Retract}
-use Rattle.gm_file_edit.specs.NewWords.{entry_at, interval_words, left_words, made_mark, made_word, pair_words, replace_words, right_words, single, unplaced_word}
+use Rattle.gm_file_edit.specs.NewWords.{entry_at, interval_words, left_words, made_mark, replace_words, right_words, single, unplaced_word}
 use Rattle.gm_file_edit.specs.Fates.{Fate, without_targets, dropping_from, empties, fate_by, is_emptied, is_in_gone, kept_lines, remaining, with_renewal, renewing_from, widened_from}
 use Rattle.gm_file_edit.specs.Holding.{directive_at, passes, is_there}
 use Rattle.gm_file_edit.proofs.Pairs.{word_of}
 use Rattle.gm_file_edit.specs.Renewing.{with_arguments, with_last}
-use Rattle.gm_file_edit.specs.About.{about, is_replaced_by, requires_path}
+use Rattle.gm_file_edit.specs.About.{about}
 use Rattle.gm_file_edit.specs.Edited.{with_addition, after_closing, after_first_of, after_last_of, with_change, lines_after, has_verb, new_go, put_in}
 
 -- ---- lines without source positions
@@ -51,14 +51,14 @@ line-plain Blank = refl
 line-plain (Comment text) = refl
 line-plain (Open verb suffix) = refl
 line-plain (Close suffix) = refl
-line-plain (Entry words suffix) = rw (words-plain words)
+line-plain (Entry words suffix) = rw (words-plain _)
 
 lines-plain : (lines : List (Line Word)) → plain_lines (map placed lines) ≡ lines
 lines-plain [] = refl
-lines-plain (line ∷ lines) = rw (line-plain line, lines-plain lines)
+lines-plain (line ∷ lines) = rw (line-plain _, lines-plain lines)
 
 lines-append : (xs ys : List (Line Placed)) → loose_lines (xs ++ ys) ≡ loose_lines xs ++ loose_lines ys
-lines-append xs ys = rw (map-append plain xs ys, map-append placed (plain_lines xs) (plain_lines ys))
+lines-append xs ys = rw (map-append _ _ _, map-append _ _ _)
 
 -- ---- what a line holds
 
@@ -96,20 +96,17 @@ fate-loose false line xs ys e = rw e
 module _ (test : Directive → Bool) where
   passes-loose : (block : Option Placed) (line : Line Placed)
       → passes test (directive_at (loose_block block) (loose_line line)) ≡ passes test (directive_at block line)
-  passes-loose block line =
-      ap (λ (b : Option Word). passes test (directive_in Strict (item_at (b, plain (loose_line line))))) (block-word block)
-      ∙ ap (λ (l : Line Word). passes test (directive_in Strict (item_at (option_map word_of block, l)))) (line-plain (plain line))
+  passes-loose block line = rw (block-word _) (rw (line-plain _))
 
   there-loose : (block : Option Placed) (lines : List (Line Placed)) → is_there test (loose_block block) (loose_lines lines) ≡ is_there test block lines
   there-loose block [] = refl
-  there-loose block (line ∷ lines) = rw (passes-loose block line, behind-loose block line, there-loose (block_after_line block line) lines)
+  there-loose block (line ∷ lines) = rw (passes-loose _ _, behind-loose _ _, there-loose (block_after_line block line) lines)
 
   dropping-loose : (block : Option Placed) (lines : List (Line Placed))
       → dropping_from test (loose_block block) (loose_lines lines) ≡ loose_fates (dropping_from test block lines)
   dropping-loose block [] = refl
   dropping-loose block (line ∷ lines) =
-      rw (passes-loose block line, behind-loose block line)
-      (fate-loose (passes test (directive_at block line)) line _ _ (dropping-loose (block_after_line block line) lines))
+      rw (passes-loose _ _, behind-loose _ _) (fate-loose _ _ _ _ (dropping-loose (block_after_line block line) lines))
 
   renewing-loose : (new : Option Placed → Line Placed → Line Placed) → IsBlind new → (block : Option Placed) (lines : List (Line Placed))
       → renewing_from test new (loose_block block) (loose_lines lines) ≡ loose_fates (renewing_from test new block lines)
@@ -133,13 +130,12 @@ widened-loose : (block : Option Bool) (behind : Bool) (fates : List Fate)
     → widened_from block behind (loose_fates fates) ≡ loose_fates (widened_from block behind fates)
 widened-loose block behind [] = refl
 widened-loose block behind (None ∷ fates) = rw (widened-loose block behind fates)
-widened-loose block behind (Some Blank ∷ fates) = fate-loose (is_in_gone block || behind) Blank _ _ (widened-loose block false fates)
+widened-loose block behind (Some Blank ∷ fates) = fate-loose _ _ _ _ (widened-loose block false fates)
 widened-loose block behind (Some (Comment text) ∷ fates) = rw (widened-loose block false fates)
 widened-loose block behind (Some (Open verb suffix) ∷ fates) =
     let emptied : Bool = is_emptied block suffix fates in
-    rw (empties-loose false fates) (fate-loose emptied (Open verb suffix) _ _ (widened-loose (Some emptied) false fates))
-widened-loose block behind (Some (Close suffix) ∷ fates) =
-    fate-loose (is_in_gone block) (Close suffix) _ _ (widened-loose None (is_in_gone block) fates)
+    rw (empties-loose false fates) (fate-loose _ _ _ _ (widened-loose (Some emptied) false fates))
+widened-loose block behind (Some (Close suffix) ∷ fates) = fate-loose _ _ _ _ (widened-loose None (is_in_gone block) fates)
 widened-loose block behind (Some (Entry words suffix) ∷ fates) = rw (widened-loose block false fates)
 
 kept-loose : (fates : List Fate) → kept_lines (loose_fates fates) ≡ loose_lines (kept_lines fates)
@@ -149,14 +145,14 @@ kept-loose (Some line ∷ fates) = rw (kept-loose fates)
 
 remaining-loose : (fates : List Fate) → remaining (loose_fates fates) ≡ loose_lines (remaining fates)
 unfolding remaining
-remaining-loose fates = rw (widened-loose None false fates) (kept-loose (widened_from None false fates))
+remaining-loose fates = rw (widened-loose None _ _) (kept-loose (widened_from None false fates))
 
 dropped-loose : (test : Directive → Bool) (lines : List (Line Placed)) → without_targets test (loose_lines lines) ≡ loose_lines (without_targets test lines)
-dropped-loose test lines = rw (dropping-loose test None lines) (remaining-loose (dropping_from test None lines))
+dropped-loose test lines = rw (dropping-loose _ None _) (remaining-loose _)
 
 renewed-loose : (test : Directive → Bool) (new : Option Placed → Line Placed → Line Placed) → IsBlind new
     → (lines : List (Line Placed)) → with_renewal test new (loose_lines lines) ≡ loose_lines (with_renewal test new lines)
-renewed-loose test new blind lines = rw (renewing-loose test new blind None lines) (remaining-loose (renewing_from test new None lines))
+renewed-loose test new blind lines = rw (renewing-loose _ _ blind None _) (remaining-loose _)
 
 -- ---- rewritten entries
 
@@ -165,11 +161,10 @@ abbrev AreLoose : List Placed → Type 0
 AreLoose words = loose_words words ≡ words
 
 words-append : (xs ys : List Placed) → loose_words (xs ++ ys) ≡ loose_words xs ++ loose_words ys
-words-append xs ys = rw (map-append word_of xs ys, map-append unplaced_word (words_of xs) (words_of ys))
+words-append xs ys = rw (map-append _ _ _, map-append _ _ _)
 
 front-loose : (n : ℕ) (words arguments : List Placed) → AreLoose arguments → take n (loose_words words) ++ arguments ≡ loose_words (take n words ++ arguments)
-front-loose n words arguments are =
-    rw (words-append (take n words) arguments, are, take-map unplaced_word n (words_of words), take-map word_of n words)
+front-loose n words arguments are = rw (words-append _ _, are, take-map _ _ _, take-map _ _ _)
 
 last-blind : (value : List ℕ) → IsBlind (with_last value)
 last-blind value block Blank = refl
@@ -177,14 +172,14 @@ last-blind value block (Comment text) = refl
 last-blind value block (Open verb suffix) = refl
 last-blind value block (Close suffix) = refl
 last-blind value block (Entry words suffix) =
-    rw (length-map (words_of words) unplaced_word, length-map words word_of, front-loose (length words - 1) words (made_word value ∷ []) refl)
+    rw (length-map (words_of words) unplaced_word, length-map words word_of, front-loose _ _ _ refl)
 
 arguments-blind : (arguments : List Placed) → AreLoose arguments → IsBlind (with_arguments arguments)
 arguments-blind arguments are block Blank = refl
 arguments-blind arguments are block (Comment text) = refl
 arguments-blind arguments are block (Open verb suffix) = refl
 arguments-blind arguments are block (Close suffix) = refl
-arguments-blind arguments are block (Entry words suffix) = rw (inside-loose block, front-loose (if is_some block then 0 else 1) words arguments are)
+arguments-blind arguments are block (Entry words suffix) = rw (inside-loose _, front-loose _ _ _ are)
 
 left-are : (path : List ℕ) (version : Option (List ℕ)) → AreLoose (left_words path version)
 left-are path None = refl
@@ -220,7 +215,7 @@ module _ (verb : List ℕ) (arguments : List Placed) (are : AreLoose arguments) 
         there-loose test behind lines,
         inside-loose block,
         after-last-loose test behind lines,
-      ) (rw (entry-loose (is_some block)) at (pushed loose_lines (passes test (directive_at block line) && not (is_there test behind lines))
+      ) (rw (entry-loose (is_some _)) at (pushed loose_lines (passes test (directive_at block line) && not (is_there test behind lines))
       (line ∷ entry ∷ lines) (line ∷ after_last_of test verb arguments behind lines)))
 
   added-loose : (lines : List (Line Placed)) → with_addition verb arguments (loose_lines lines) ≡ loose_lines (with_addition verb arguments lines)
@@ -233,7 +228,7 @@ module _ (verb : List ℕ) (arguments : List Placed) (are : AreLoose arguments) 
 
 module _ (new : List (Line Placed)) (are : loose_lines new ≡ new) where
   new-loose : (lines : List (Line Placed)) → new ++ loose_lines lines ≡ loose_lines (new ++ lines)
-  new-loose lines = rw (lines-append new lines, are)
+  new-loose lines = rw (lines-append _ _, are)
 
   closing-loose : (lines : List (Line Placed)) → after_closing new (loose_lines lines) ≡ loose_lines (after_closing new lines)
   closing-loose [] = sym are
@@ -256,7 +251,7 @@ module _ (new : List (Line Placed)) (are : loose_lines new ≡ new) where
         closing-loose lines,
         new-loose lines,
         first-of-loose test behind lines,
-        pushed loose_lines (is_some block) (after_closing new lines) (new ++ lines),
+        pushed loose_lines (is_some _) (after_closing new lines) (new ++ lines),
         pushed loose_lines (passes test (directive_at block line)) here (after_first_of test new behind lines),
       )
 
@@ -264,33 +259,32 @@ module _ (new : List (Line Placed)) (are : loose_lines new ≡ new) where
 
 changed-loose : (edit : Edit) (lines : List (Line Placed)) → with_change edit (loose_lines lines) ≡ loose_lines (with_change edit lines)
 unfolding with_change
-changed-loose (Set (ModuleIs path)) lines = renewed-loose is_module (with_last path) (last-blind path) lines
-changed-loose (Set (GoIs text)) lines = renewed-loose is_go (with_last text) (last-blind text) lines
-changed-loose (Set (RequireAt p)) lines = renewed-loose (requires_path p.0) (with_last p.1) (last-blind p.1) lines
-changed-loose (Drop t) lines = dropped-loose (about (Drop t)) lines
+changed-loose (Set (ModuleIs path)) lines = renewed-loose _ _ (last-blind _) _
+changed-loose (Set (GoIs text)) lines = renewed-loose _ _ (last-blind _) _
+changed-loose (Set (RequireAt p)) lines = renewed-loose _ _ (last-blind _) _
+changed-loose (Drop t) lines = dropped-loose _ _
 changed-loose (Add a) lines = refl
-changed-loose (Set (ReplaceWith r)) lines = renewed-loose (is_replaced_by r.0) (with_arguments (replace_words r))
-    (arguments-blind (replace_words r) (replace-are r)) lines
+changed-loose (Set (ReplaceWith r)) lines = renewed-loose _ _ (arguments-blind _ (replace-are _)) _
 
 put-in-loose : (edit : Edit) (lines : List (Line Placed)) → put_in edit (loose_lines lines) ≡ loose_lines (put_in edit lines)
 unfolding put_in
 put-in-loose (Set (ModuleIs path)) lines = refl
 put-in-loose (Set (GoIs text)) lines = first-of-loose (new_go text) refl is_module None lines
-put-in-loose (Set (RequireAt p)) lines = added-loose (codes "require") (pair_words p) refl lines
-put-in-loose (Set (ReplaceWith r)) lines = added-loose (codes "replace") (replace_words r) (replace-are r) lines
-put-in-loose (Add (Exclude p)) lines = added-loose (codes "exclude") (pair_words p) refl lines
+put-in-loose (Set (RequireAt p)) lines = added-loose _ _ refl _
+put-in-loose (Set (ReplaceWith r)) lines = added-loose _ _ (replace-are _) _
+put-in-loose (Add (Exclude p)) lines = added-loose _ _ refl _
 put-in-loose (Add (Retract ends)) lines = added-loose (codes "retract") (interval_words ends) (interval-are ends) lines
 put-in-loose (Drop t) lines = refl
 
 pass-loose : (edit : Edit) (lines : List (Line Placed)) → lines_after edit (loose_lines lines) ≡ loose_lines (lines_after edit lines)
 unfolding lines_after
-pass-loose edit lines = rw (there-loose (about edit) None lines, changed-loose edit lines, put-in-loose edit lines)
-    (pushed loose_lines (is_there (about edit) None lines) (with_change edit lines) (put_in edit lines))
+pass-loose edit lines = rw (there-loose _ None _, changed-loose _ _, put-in-loose _ _)
+    (pushed loose_lines (is_there (about edit) None lines) (with_change edit lines) (put_in _ _))
 
 -- an operation gives the same result for lines that differ only in source positions
 pub edited-same : (edit : Edit) (lines others : List (Line Placed)) → plain_lines lines ≡ plain_lines others
     → plain_lines (lines_after edit lines) ≡ plain_lines (lines_after edit others)
 edited-same edit lines others e =
     let loose : (ls : List (Line Placed)) → plain_lines (lines_after edit ls) ≡ plain_lines (lines_after edit (loose_lines ls)) =
-    λ ls. sym (ap plain_lines (pass-loose edit ls) ∙ lines-plain (plain_lines (lines_after edit ls))) in
-    loose lines ∙ ap (λ (ls : List (Line Word)). plain_lines (lines_after edit (map placed ls))) e ∙ sym (loose others)
+    λ ls. sym (ap plain_lines (pass-loose _ _) ∙ lines-plain _) in
+    loose lines ∙ rw e (sym (loose others))

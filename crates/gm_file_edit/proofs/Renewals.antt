@@ -24,13 +24,13 @@ use Rattle.gm_file.specs.Values.{argument}
 use Rattle.gm_file.specs.GoVersions.{strict_go}
 use Rattle.gm_file.specs.declared.verb.Verb.{Verb}
 use Rattle.gm_file.specs.declared.verb.Verb.TheVariants.{Go as ForGo, Require as ForRequire, Replace as ForReplace}
-use Rattle.gm_file.specs.Directives.{Strict, VersionInterval, Left, Right, Folder, Module, Replacing, Directive, DeclaresModule, DeclaresGo, Requires, Excludes, Replaces, Retracts, directive_of, is_arrow, left_of, main_verb, one_of, pair_of, right_of, verb_of_directive}
+use Rattle.gm_file.specs.Directives.{Strict, Left, Right, Folder, Module, Replacing, Directive, DeclaresModule, DeclaresGo, Requires, Replaces, directive_of, is_arrow, left_of, main_verb, one_of, pair_of, right_of, verb_of_directive}
 use Rattle.gm_file.specs.Faults.{directive_kinds, does_left_fit, is_go, is_module, is_same_left, is_same_right, is_same_version, left_version_kinds, path_kinds, pair_kinds, right_path_kinds, right_version_kinds, sides_kinds}
 use Rattle.gm_file_edit.specs.About.{about, is_covered_by, is_replaced_by, requires_path}
 use Rattle.gm_file_edit.specs.Holding.{directive_at}
 use Rattle.gm_file_edit.specs.NewWords.{left_words, made_mark, made_word, replace_words, right_words}
 use Rattle.gm_file_edit.specs.Renewing.{made_new, with_arguments, with_last}
-use Rattle.gm_file_edit.specs.Sound.{AreVersions, IsPairOfNames, IsSoundEdit, IsSoundLeft, IsSoundRight, IsSoundVersion}
+use Rattle.gm_file_edit.specs.Sound.{IsPairOfNames, IsSoundEdit, IsSoundLeft, IsSoundRight, IsSoundVersion}
 use Rattle.gm_file_edit.proofs.NoLineFeeds.{byte-feed, go-feed, path-feed, version-feed, map-some}
 use Rattle.gm_file_edit.proofs.Folders.{path-no-folder}
 use Rattle.gm_file_edit.proofs.Made.{AreArguments, IsFront, all-arguments, begins-path, entry-made, held-by, made-stands, made-value, one-are, one-argument, last-replaced, two-are, two-arguments, IsMadeNew, IsRenewal, IsWanted, Makes}
@@ -44,17 +44,9 @@ use Rattle.gm_file.proofs.Indexed.{left-self}
 
 -- ---- the module and the go version
 
-module-kinds : (path : List ℕ) → is_path path ≡ true → directive_kinds Strict [] (DeclaresModule path) ≡ []
-unfolding directive_kinds
-module-kinds path h = rw h
-
-go-kinds : (text : List ℕ) → is_some (strict_go text) ≡ true → directive_kinds Strict [] (DeclaresGo text) ≡ []
-unfolding directive_kinds
-go-kinds text h = rw h
-
 pub go-says : (text : List ℕ) → HasNoLineFeed text → directive_of ForGo (words_of (made_word text ∷ [])) ≡ Some (DeclaresGo text)
 unfolding directive_of
-go-says text plain = rw (made-value text plain)
+go-says text plain = rw (made-value _ plain)
 
 -- a directive of one argument
 one-made : {v : Verb} (make : List ℕ → Directive) → ((words : List Word)
@@ -74,48 +66,44 @@ one-made {v} make reads text plain kinds block line d held named stands =
     (ap (with_last text block) is ∙ last-replaced text block by.front a.0 by.suffix) stands (one-are text plain)
     (rw verb (reads (words_of (made_word text ∷ [])) ∙ rw (made-value text plain))) kinds
 
-module-made : (path : List ℕ) → is_path path ≡ true → Makes is_module (DeclaresModule path) (with_last path)
+module-made : (path : List ℕ) → is_path path ≡ true → directive_kinds Strict [] (DeclaresModule path) ≡ []
+    → Makes is_module (DeclaresModule path) (with_last path)
 unfolding directive_of
-module-made path h = λ block line d held e stands. one-made DeclaresModule (λ words. refl) path
-    (path-feed path h) (module-kinds path h) block line d held (about-verb (Set (ModuleIs path)) d e) stands
+module-made path h kinds = λ block line d held e stands. one-made DeclaresModule (λ words. refl) path (path-feed _ h) kinds
+    _ _ _ held (about-verb (Set (ModuleIs path)) _ e) stands
 
-go-made : (text : List ℕ) → is_some (strict_go text) ≡ true → Makes is_go (DeclaresGo text) (with_last text)
+go-made : (text : List ℕ) → is_some (strict_go text) ≡ true → directive_kinds Strict [] (DeclaresGo text) ≡ []
+    → Makes is_go (DeclaresGo text) (with_last text)
 unfolding directive_of
-go-made text h = λ block line d held e stands. one-made DeclaresGo (λ words. refl) text (go-feed text h)
-    (go-kinds text h) block line d held (about-verb (Set (GoIs text)) d e) stands
+go-made text h kinds = λ block line d held e stands. one-made DeclaresGo (λ words. refl) text (go-feed _ h) kinds
+    _ _ _ held (about-verb (Set (GoIs text)) _ e) stands
 
 -- ---- a requirement
 
 pair-kinds : (p : ModuleVersion) → IsPairOfNames p → does_fit p.0 p.1 ≡ true → pair_kinds p ≡ []
 pair-kinds p names fit = rw (names.0, names.1, fit)
 
-require-kinds : (p : ModuleVersion) → IsPairOfNames p → does_fit p.0 p.1 ≡ true → directive_kinds Strict [] (Requires p) ≡ []
-unfolding directive_kinds
-require-kinds p names fit = pair-kinds p names fit
-
 require-says : (a : Placed) (p : ModuleVersion) → argument a.word ≡ Some p.0 → HasNoLineFeed p.1
     → directive_of ForRequire (words_of (a ∷ made_word p.1 ∷ [])) ≡ Some (Requires p)
 unfolding directive_of
-require-says a p is plain = rw (is, made-value p.1 plain)
+require-says a p is plain = rw (is, made-value _ plain)
 
 held-pair : (words : List Word) (p : ModuleVersion) → directive_of ForRequire words ≡ Some (Requires p) → pair_of words ≡ Some p
 unfolding directive_of
-held-pair words p e = let m = map-some Requires (pair_of words) e in let same : m.0 ≡ p = cc in m.1 ∙ ap Some same
+held-pair words p e = let m = map-some _ _ e in let same : m.0 ≡ p = cc in m.1 ∙ ap Some same
 
 -- the words of an existing line are valid words
 kept-word : (block : Option Placed) (verb : List ℕ) (front others : List Placed) (suffix : Option (List ℕ)) (a : Placed)
     (line : Line Placed) → IsFront block verb front → line ≡ Entry (front ++ a ∷ others) suffix
     → IsValidLine (is_some block) (plain line) → IsWord a.word
-kept-word None verb front others suffix a line at is stands =
-    (standing_entry false (words_of (at.0 ∷ a ∷ others)) suffix (rw (is, at.1) at stands)).are_words.1.0
-kept-word (Some v) verb front others suffix a line at is stands =
-    (standing_entry true (words_of (a ∷ others)) suffix (rw (is, at.0) at stands)).are_words.0
+kept-word None verb front others suffix a line at is stands = (standing_entry _ _ _ (rw (is, at.1) at stands)).are_words.1.0
+kept-word (Some v) verb front others suffix a line at is stands = (standing_entry _ _ _ (rw (is, at.0) at stands)).are_words.0
 
-require-made : (p : ModuleVersion) → IsPairOfNames p → does_fit p.0 p.1 ≡ true
+require-made : (p : ModuleVersion) → IsPairOfNames p → directive_kinds Strict [] (Requires p) ≡ []
     → (block : Option Placed) (line : Line Placed) (d : Directive) → directive_at block line ≡ Some d
     → requires_path p.0 d ≡ true → IsValidLine (is_some block) (plain line)
     → IsMadeNew (Requires p) block (with_last p.1 block line)
-require-made p names fit block line (Requires q) held e stands =
+require-made p names kinds block line (Requires q) held e stands =
     let plain_version = version-feed p.1 names.1 in
     let by = held-by block line held in
     let verb : main_verb by.verb ≡ ForRequire = sym (directive-verb (main_verb by.verb) (words_of by.arguments) (Requires q) by.says) in
@@ -131,8 +119,8 @@ require-made p names fit block line (Requires q) held e stands =
       append_assoc by.front (two.0 ∷ []) (made_word p.1 ∷ []),
     )) stands (two-are two.0 p.0 p.1 word path plain_version)
     (subst (λ (v : Verb). directive_of v (words_of (two.0 ∷ made_word p.1 ∷ [])) ≡ Some (Requires p)) (sym verb)
-    (require-says two.0 p path plain_version)) (require-kinds p names fit)
-require-made p names fit block line d held e stands = absurd cc
+    (require-says two.0 p path plain_version)) kinds
+require-made p names kinds block line d held e stands = absurd cc
 
 -- ---- a replace
 
@@ -159,11 +147,7 @@ left-version-right (Some version) s = rw s
 sides-right : (left : Left) (right : Right) → IsSoundLeft left → IsSoundRight right → does_left_fit left.path left.version ≡ true → sides_kinds left right ≡ []
 sides-right left right l r fit =
     let path : path_kinds left.path ≡ [] = rw l.0 refl in
-    rw (path, right-path-right right r, left-version-right left.version l.1, right-version-right right r, fit)
-
-replace-kinds : (r : Replacing) → IsSoundLeft r.0 → IsSoundRight r.1 → does_left_fit r.0.path r.0.version ≡ true → directive_kinds Strict [] (Replaces r) ≡ []
-unfolding directive_kinds
-replace-kinds r left right fit = both-nil (sides_kinds r.0 r.1) [] (sides-right r.0 r.1 left right fit) refl
+    rw (path, right-path-right _ r, left-version-right _ l.1, right-version-right _ r, fit)
 
 no-arrow : (value : List ℕ) → is_arrow (new_word value) ≡ false
 no-arrow value = elim (cases_Bool (can_be_bare value)) [ inl e ↦ rw e refl | inr e ↦ rw e refl ]
@@ -173,17 +157,17 @@ arrow-splits : (path : List ℕ) (version : Option (List ℕ)) (rest : List Plac
     → (before_first is_arrow (words_of (left_words path version ++ made_mark Arrow ∷ rest))
     ≡ words_of (left_words path version))
     × (after_first is_arrow (words_of (left_words path version ++ made_mark Arrow ∷ rest)) ≡ words_of rest)
-arrow-splits path None rest = rw (no-arrow path) (refl, refl)
-arrow-splits path (Some version) rest = rw (no-arrow path, no-arrow version) (refl, refl)
+arrow-splits path None rest = rw (no-arrow _) (refl, refl)
+arrow-splits path (Some version) rest = rw (no-arrow _, no-arrow _) (refl, refl)
 
 left-says : (path : List ℕ) (version : Option (List ℕ)) → is_path path ≡ true → IsSoundVersion version
     → left_of (words_of (left_words path version)) ≡ Some (record { path = path; version = version })
-left-says path None p v = rw (made-value path (path-feed path p))
-left-says path (Some version) p v = rw (made-value path (path-feed path p), made-value version (version-feed version v))
+left-says path None p v = rw (made-value _ (path-feed _ p))
+left-says path (Some version) p v = rw (made-value _ (path-feed _ p), made-value _ (version-feed _ v))
 
 right-says : (right : Right) → IsSoundRight right → right_of (words_of (right_words right)) ≡ Some right
-right-says (Folder text) r = rw (made-value text (byte-feed text r.1), r.0)
-right-says (Module q w) r = rw (made-value q (path-feed q r.0), made-value w (version-feed w r.1), path-no-folder q r.0)
+right-says (Folder text) r = rw (made-value _ (byte-feed _ r.1), r.0)
+right-says (Module q w) r = rw (made-value _ (path-feed _ r.0), made-value _ (version-feed _ r.1), path-no-folder _ r.0)
 
 replace-says-of : (path : List ℕ) (version : Option (List ℕ)) (right : Right) → is_path path ≡ true → IsSoundVersion version → IsSoundRight right
     → directive_of ForReplace (words_of (left_words path version ++ made_mark Arrow ∷ right_words right))
@@ -194,44 +178,41 @@ replace-says-of path version right p v r =
     rw (parts.0, parts.1, left-says path version p v, right-says right r)
 
 pub replace-says : (r : Replacing) → IsSoundLeft r.0 → IsSoundRight r.1 → directive_of ForReplace (words_of (replace_words r)) ≡ Some (Replaces r)
-replace-says r left right = replace-says-of r.0.path r.0.version r.1 left.0 left.1 right
+replace-says r left right = replace-says-of _ _ _ left.0 left.1 right
 
 replace-are-of : (path : List ℕ) (version : Option (List ℕ)) (right : Right) → is_path path ≡ true → IsSoundVersion version → IsSoundRight right
     → AreArguments (left_words path version ++ made_mark Arrow ∷ right_words right)
-replace-are-of path None (Folder text) p v r = begins-path path _ (path-feed path p)
-    (mark_stands Arrow, (made-stands text (byte-feed text r.1), tt)) (no_mark 40 text) refl
+replace-are-of path None (Folder text) p v r = begins-path _ _ (path-feed _ p)
+    (mark_stands Arrow, (made-stands _ (byte-feed _ r.1), tt)) (no_mark 40 _) refl
 replace-are-of path None (Module q w) p v r =
-    begins-path path _ (path-feed path p) (
+    begins-path _ _ (path-feed _ p) (
       mark_stands Arrow,
-      (made-stands q (path-feed q r.0), (made-stands w (version-feed w r.1), tt)),
-    ) (no_mark 40 w) refl
+      (made-stands _ (path-feed _ r.0), (made-stands _ (version-feed _ r.1), tt)),
+    ) (no_mark 40 _) refl
 replace-are-of path (Some version) (Folder text) p v r =
-    begins-path path _ (path-feed path p) (
-      made-stands version (version-feed version v),
-      (mark_stands Arrow, (made-stands text (byte-feed text r.1), tt)),
-    ) (no_mark 40 text) refl
+    begins-path _ _ (path-feed _ p) (
+      made-stands _ (version-feed _ v),
+      (mark_stands Arrow, (made-stands _ (byte-feed _ r.1), tt)),
+    ) (no_mark 40 _) refl
 replace-are-of path (Some version) (Module q w) p v r =
-    begins-path path _ (path-feed path p) (
-      made-stands version (version-feed version v),
-      (mark_stands Arrow, (made-stands q (path-feed q r.0), (made-stands w (version-feed w r.1), tt))),
-    )
-    (no_mark 40 w) refl
+    begins-path _ _ (path-feed _ p) (
+      made-stands _ (version-feed _ v),
+      (mark_stands Arrow, (made-stands _ (path-feed _ r.0), (made-stands _ (version-feed _ r.1), tt))),
+    ) (no_mark 40 _) refl
 
 pub replace-are : (r : Replacing) → IsSoundLeft r.0 → IsSoundRight r.1 → AreArguments (replace_words r)
-replace-are r left right = replace-are-of r.0.path r.0.version r.1 left.0 left.1 right
+replace-are r left right = replace-are-of _ _ _ left.0 left.1 right
 
-replace-made : (r : Replacing) → IsSoundLeft r.0 → IsSoundRight r.1 → does_left_fit r.0.path r.0.version ≡ true
+replace-made : (r : Replacing) → IsSoundLeft r.0 → IsSoundRight r.1 → directive_kinds Strict [] (Replaces r) ≡ []
     → (block : Option Placed) (line : Line Placed) (d : Directive)
     → directive_at block line ≡ Some d → is_replaced_by r.0 d ≡ true → IsValidLine (is_some block) (plain line)
     → IsMadeNew (Replaces r) block (with_arguments (replace_words r) block line)
-replace-made r left right fit block line (Replaces q) held e stands =
-    let by = held-by block line held in
-    let verb : main_verb by.verb ≡ ForReplace = sym (directive-verb (main_verb by.verb) (words_of by.arguments) (Replaces q) by.says) in
-    entry-made by
-    (all-arguments block by.verb by.front by.arguments by.suffix (replace_words r) by.at by.is) stands
-    (replace-are r left right) (rw verb (replace-says r left right))
-    (replace-kinds r left right fit)
-replace-made r left right fit block line d held e stands = absurd cc
+replace-made r left right kinds block line (Replaces q) held e stands =
+    let by = held-by _ _ held in
+    let verb : main_verb by.verb ≡ ForReplace = sym (directive-verb _ _ _ by.says) in
+    entry-made by (all-arguments _ _ _ _ _ _ by.at by.is) stands (replace-are _ left right) (rw verb (replace-says _ left right))
+    kinds
+replace-made r left right kinds block line d held e stands = absurd cc
 
 -- ---- what an operation puts in
 
@@ -241,51 +222,43 @@ put_by (Set s) = Some (directive_set s)
 put_by (Add a) = Some (directive_added a)
 put_by (Drop t) = None
 
-exclude-kinds : (p : ModuleVersion) → IsPairOfNames p → does_fit p.0 p.1 ≡ true → directive_kinds Strict [] (Excludes p) ≡ []
-unfolding directive_kinds
-exclude-kinds p names fit = pair-kinds p names fit
-
-ends-kinds : (ends : VersionInterval) → AreVersions ends → directive_kinds Strict [] (Retracts ends) ≡ []
-unfolding directive_kinds
-ends-kinds ends are = rw (are.0, are.1)
-
 pub pair-itself : (p : List ℕ × List ℕ) → (bytes_eq p.0 p.0 && bytes_eq p.1 p.1) ≡ true
-pair-itself p = and_from (bytes_eq p.0 p.0) (bytes_eq p.1 p.1) (bytes_eq-self p.0) (bytes_eq-self p.1)
+pair-itself p = and_from _ _ (bytes_eq-self p.0) (bytes_eq-self p.1)
 
 left-covered : (left : Left) (version : Option (List ℕ)) → is_covered_by left version left ≡ true
 left-covered left None = bytes_eq-self left.path
 left-covered left (Some version) = left-self left
 
 puts-wanted : (edit : Edit) → IsSoundEdit edit → is_fit edit ≡ true → IfSome (put_by edit) (IsWanted (about edit))
-puts-wanted (Set (ModuleIs path)) good fit = record { kinds = module-kinds path good; mild = λ d f. f; own = refl }
-puts-wanted (Set (GoIs text)) good fit = record { kinds = go-kinds text good; mild = λ d f. f; own = refl }
-puts-wanted (Set (RequireAt p)) good fit = record { kinds = require-kinds p good fit; mild = λ d f. refl; own = bytes_eq-self p.0 }
-puts-wanted (Set (ReplaceWith r)) good fit = record { kinds = replace-kinds r good.0 good.1 fit; mild = replace-mild r; own = left-covered r.0 r.0.version }
-puts-wanted (Add (Exclude p)) good fit = record { kinds = exclude-kinds p good fit; mild = λ d f. refl; own = pair-itself p }
-puts-wanted (Add (Retract ends)) good fit = record { kinds = ends-kinds ends good; mild = λ d f. refl; own = pair-itself ends }
+unfolding directive_kinds
+puts-wanted (Set (ModuleIs path)) good fit = record { kinds = rw good; mild = λ d f. f; own = refl }
+puts-wanted (Set (GoIs text)) good fit = record { kinds = rw good; mild = λ d f. f; own = refl }
+puts-wanted (Set (RequireAt p)) good fit = record { kinds = pair-kinds p good fit; mild = λ d f. refl; own = bytes_eq-self p.0 }
+puts-wanted (Set (ReplaceWith r)) good fit =
+    let kinds = both-nil (sides_kinds r.0 r.1) [] (sides-right r.0 r.1 good.0 good.1 fit) refl in
+    record { kinds = kinds; mild = replace-mild r; own = left-covered r.0 r.0.version }
+puts-wanted (Add (Exclude p)) good fit = record { kinds = pair-kinds p good fit; mild = λ d f. refl; own = pair-itself p }
+puts-wanted (Add (Retract ends)) good fit = record { kinds = rw (good.0, good.1); mild = λ d f. refl; own = pair-itself ends }
 puts-wanted (Drop t) good fit = tt
 
 pub wanted : (edit : Edit) (new : Directive) → put_by edit ≡ Some new → IsSoundEdit edit → is_fit edit ≡ true → IsWanted (about edit) new
-wanted edit new e good fit = rw e at (puts-wanted edit good fit)
+wanted edit new e good fit = rw e at (puts-wanted _ good fit)
 
 -- how a setting rewrites an entry
+makes : (s : Setting) → IsSoundEdit (Set s) → directive_kinds Strict [] (directive_set s) ≡ []
+    → Makes (about (Set s)) (directive_set s) (made_new (Set s))
+makes (ModuleIs path) good kinds = module-made path good kinds
+makes (GoIs text) good kinds = go-made text good kinds
+makes (RequireAt p) good kinds = require-made p good kinds
+makes (ReplaceWith r) good kinds = replace-made r good.0 good.1 kinds
+
+about-set : (s : Setting) (d : Directive) → about (Set s) d ≡ true → is_module d ≡ is_module (directive_set s)
+about-set (ModuleIs path) = about-module (Set (ModuleIs path))
+about-set (GoIs text) = about-module (Set (GoIs text))
+about-set (RequireAt p) = about-module (Set (RequireAt p))
+about-set (ReplaceWith r) = about-module (Set (ReplaceWith r))
+
 pub renewal : (s : Setting) → IsSoundEdit (Set s) → is_fit (Set s) ≡ true → IsRenewal (about (Set s)) (directive_set s) (made_new (Set s))
-renewal (ModuleIs path) good fit = record {
-  wanted = wanted (Set (ModuleIs path)) _ refl good fit;
-  made =
-      module-made path good;
-  other = about-module (Set (ModuleIs path));
-}
-renewal (GoIs text) good fit = record { wanted = wanted (Set (GoIs text)) _ refl good fit; made = go-made text good; other = about-module (Set (GoIs text)) }
-renewal (RequireAt p) good fit = record {
-  wanted = wanted (Set (RequireAt p)) _ refl good fit;
-  made =
-      require-made p good fit;
-  other = about-module (Set (RequireAt p));
-}
-renewal (ReplaceWith r) good fit = record {
-  wanted = wanted (Set (ReplaceWith r)) _ refl good fit;
-  made =
-      replace-made r good.0 good.1 fit;
-  other = about-module (Set (ReplaceWith r));
-}
+renewal s good fit =
+    let by = wanted (Set s) (directive_set s) refl good fit in
+    record { wanted = by; made = makes s good by.kinds; other = about-set s }

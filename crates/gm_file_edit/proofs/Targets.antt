@@ -26,14 +26,14 @@ is_targeted edit subject = is_about (target_of_edit edit) (takes_any_version edi
 
 covered : (left : Left) (version : Option (List ℕ)) (other : Left) → left.version ≡ version
     → (bytes_eq other.path left.path && (is_none version || is_same_version other.version version)) ≡ is_covered_by left version other
-covered left None other is = and-true (bytes_eq other.path left.path)
+covered left None other is = and-true _
 covered left (Some version) other is = rw is
 
 pub about-is : (edit : Edit) (d : Directive) → is_targeted edit (subject_of d) ≡ about edit d
 about-is (Set (ModuleIs path)) (Requires q) = refl
 about-is (Set (GoIs text)) (Requires q) = refl
-about-is (Set (RequireAt p)) (Requires q) = and-true (bytes_eq q.0 p.0)
-about-is (Drop (AnyRequire path)) (Requires q) = and-true (bytes_eq q.0 path)
+about-is (Set (RequireAt p)) (Requires q) = and-true _
+about-is (Drop (AnyRequire path)) (Requires q) = and-true _
 about-is (Add (Exclude p)) (Excludes q) = refl
 about-is (Drop (AnyExclude p)) (Excludes q) = refl
 about-is (Set (ReplaceWith r)) (Replaces q) = covered r.0 r.0.version q.0 refl
@@ -51,17 +51,17 @@ subject-verb d = refl
 pub about-verb : (edit : Edit) (d : Directive) → about edit d ≡ true → verb_of_directive d ≡ (target_of_edit edit).0
 about-verb edit d holds =
     let subject = subject_of d in
-    let parts = and_both (verb_eq (target_of_edit edit).0 subject.0) (are_texts (target_of_edit edit).1 (takes_any_version edit) subject) (about-is edit d ∙ holds) in
-    sym (subject-verb d) ∙ sym (same-verb (target_of_edit edit).0 subject.0 parts.0)
+    let parts = and_both _ (are_texts (target_of_edit edit).1 (takes_any_version edit) subject) (about-is edit d ∙ holds) in
+    sym (subject-verb _) ∙ sym (same-verb (target_of_edit edit).0 subject.0 parts.0)
 
 -- only an operation on the module targets a directive that declares one
 pub about-module : (edit : Edit) (d : Directive) → about edit d ≡ true → is_module d ≡ verb_eq ForModule (target_of_edit edit).0
-about-module edit d holds = ap (verb_eq ForModule) (about-verb edit d holds)
+about-module edit d holds = ap (verb_eq ForModule) (about-verb _ _ holds)
 
 -- ---- operations by keys
 
 same-number : (one other : Option (List ℕ)) → is_same_version one other ≡ true → nat_eq (text_number other) (text_number one) ≡ true
-same-number one other same = rw (same-version one other same) (eq-eqb (text_number other) (text_number other) refl)
+same-number one other same = rw (same-version one other same) (eq-eqb _ _ refl)
 
 -- whether a key agrees with an operation's
 abbrev pub may_hold : Edit → Bool → Subject → Bool
@@ -69,7 +69,7 @@ may_hold edit inside subject = agrees (key_with (target_of_edit edit) false) (ta
 
 same-second : (any : Bool) (one other : Option (List ℕ)) → (any || is_same_version one other) ≡ true → (any || nat_eq (text_number other) (text_number one)) ≡ true
 same-second true one other same = refl
-same-second false one other same = same-number one other same
+same-second false one other same = same-number _ _ same
 
 agreeing : (edit : Edit) (subject : Subject) (inside : Bool) → is_targeted edit subject ≡ true → may_hold edit inside subject ≡ true
 agreeing edit subject inside is =
@@ -111,4 +111,4 @@ IsKnown own = verb_eq own Unknown ≡ false
 -- a key's verb says whether the line holds a directive of a verb
 pub verb-tells : (own : Verb) → IsKnown own → (held : Option Directive) → verb_eq own (held_subject held).0 ≡ passes (is_of_verb own) held
 verb-tells own known None = known
-verb-tells own known (Some d) = ap (verb_eq own) (subject-verb d)
+verb-tells own known (Some d) = ap (verb_eq own) (subject-verb _)

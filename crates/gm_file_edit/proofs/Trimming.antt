@@ -1,5 +1,5 @@
 -- Cutting the spaces and tabs off the ends of a text.
-use Rattle.std.proofs.Common.{◌≡◌, ◌∙◌, ◌+◌, ◌-◌, ◌<◌, ◌⊎◌, ℕ, Bool, true, false, cond, List, [], ◌∷◌, ◌++◌, length, take, drop, get_or, Option, Some, None, inl, inr, ap, sym, subst, refl, arith, one-add}
+use Rattle.std.proofs.Common.{◌≡◌, ◌∙◌, ◌+◌, ◌-◌, ◌<◌, ◌⊎◌, ℕ, Bool, true, false, List, [], ◌∷◌, ◌++◌, length, take, drop, get_or, Option, Some, None, inl, inr, ap, sym, refl, arith, one-add}
 use Rattle.std.specs.Prelude.{IfSome}
 use Rattle.std.specs.Char.{char_set_contains}
 use Rattle.std.specs.List.{prefix_len, suffix_len}
@@ -28,28 +28,27 @@ front-blank : (text : List ℕ) (n : ℕ) → HasPassingCharAt is_space_or_tab t
     → (b : ℕ) × (is_space_or_tab b ≡ true) × (n ≡ 1) × (text ≡ b ∷ drop n text)
 unfolding lib.Utf8.encode
 front-blank text n (c, passes, at) = elim (either-blank c passes) [
-  | inl is ↦ let there : HasCharAt 32 text 0 n = subst (λ d. HasCharAt d text 0 n) is at in (32, refl, there.ends, there.split)
-  | inr is ↦ let there : HasCharAt 9 text 0 n = subst (λ d. HasCharAt d text 0 n) is at in (9, refl, there.ends, there.split)
+  | inl is ↦ let there : HasCharAt 32 text 0 n = rw is at at in (32, refl, there.ends, there.split)
+  | inr is ↦ let there : HasCharAt 9 text 0 n = rw is at at in (9, refl, there.ends, there.split)
 ]
 
 leading-more : (b : ℕ) (rest : List ℕ) → is_space_or_tab b ≡ true → without_leading (b ∷ rest) ≡ without_leading rest
 leading-more b rest e = rw (
-  length-prefix_len is_space_or_tab (b ∷ rest),
-  length-prefix_len is_space_or_tab rest,
+  length-prefix_len _ _,
+  length-prefix_len _ _,
   e,
-  one-add (prefix_len is_space_or_tab rest),
+  one-add _,
 )
 
 leading-none : (text : List ℕ) → (0 < length text → is_space_or_tab (get_or text 0 0) ≡ false) → without_leading text ≡ text
 leading-none [] stops = refl
-leading-none (b ∷ rest) stops =
-    rw (length-prefix_len is_space_or_tab (b ∷ rest), stops (omega arith))
+leading-none (b ∷ rest) stops = rw (length-prefix_len _ _, stops (omega arith))
 
 front-cut : (text : List ℕ) (ns : List ℕ) (rest : List ℕ) → CutsPrefixes (Finds FindsPrefixBy) text ns rest
     → without_leading rest ≡ without_leading text
 front-cut text [] rest same = rw same
 front-cut text (n ∷ ns) rest (more, cuts, found, same) =
-    let blank = front-blank more n (found is_space_or_tab same-test) in
+    let blank = front-blank _ _ (found is_space_or_tab same-test) in
     ap without_leading same ∙ sym (ap without_leading blank.3 ∙ leading-more blank.0 (drop n more) blank.1) ∙ front-cut text ns more cuts
 
 front-stops : (text : List ℕ) (found : Option ℕ) → Finds FindsPrefixBy text found → IfSome found (λ n. n ≡ 0)
@@ -59,16 +58,16 @@ front-stops [] found finds empty some = absurd (omega (arith, some))
 front-stops (b ∷ rest) None finds empty some = elim (cases_Bool (is_space_or_tab b)) [
   | inr other ↦ other
   | inl blank ↦ elim (either-blank b blank) [
-    | inl is ↦ cc (finds is_space_or_tab same-test 32 rest refl (ap (λ c. c ∷ rest) is))
-    | inr is ↦ cc (finds is_space_or_tab same-test 9 rest refl (ap (λ c. c ∷ rest) is))
+    | inl is ↦ cc (finds is_space_or_tab same-test 32 rest refl (rw is))
+    | inr is ↦ cc (finds is_space_or_tab same-test 9 rest refl (rw is))
   ]
 ]
 front-stops (b ∷ rest) (Some n) finds empty some =
-    let blank = front-blank (b ∷ rest) n (finds is_space_or_tab same-test) in absurd (omega (arith, empty, blank.2))
+    let blank = front-blank _ _ (finds is_space_or_tab same-test) in absurd (omega (arith, empty, blank.2))
 
 pub leading-cut : (text rest : List ℕ) → IsTrimStartMatches (Finds FindsPrefixBy) text rest → rest ≡ without_leading text
 leading-cut text rest ((ns, cuts), (found, finds, empty)) =
-    sym (leading-none rest (front-stops rest found finds empty)) ∙ front-cut text ns rest cuts
+    sym (leading-none _ (front-stops _ _ finds empty)) ∙ front-cut _ _ _ cuts
 
 -- ---- at the end
 
@@ -80,36 +79,34 @@ end-blank text n (c, passes, at) =
     let parts = sym (take-append-drop (length text - n) text) in
     elim (either-blank c passes) [
       | inl is ↦
-          let there : HasCharAt 32 text (length text - n) (length text) = subst (λ d. HasCharAt d text (length text - n) (length text)) is at in (
+          let there : HasCharAt 32 text (length text - n) (length text) = rw is at at in (
             32,
             refl,
             omega (arith, there.ends),
-            parts ∙ ap (λ t. take (length text - n) text ++ t)
-                (there.split ∙ ap (λ t. 32 ∷ t) (drop_all (length text) text (omega arith))),
+            parts ∙ rw (there.split ∙ ap (λ t. 32 ∷ t) (drop_all (length text) text (omega arith))),
           )
       | inr is ↦
-          let there : HasCharAt 9 text (length text - n) (length text) = subst (λ d. HasCharAt d text (length text - n) (length text)) is at in (
+          let there : HasCharAt 9 text (length text - n) (length text) = rw is at at in (
             9,
             refl,
             omega (arith, there.ends),
-            parts ∙ ap (λ t. take (length text - n) text ++ t)
-                (there.split ∙ ap (λ t. 9 ∷ t) (drop_all (length text) text (omega arith))),
+            parts ∙ rw (there.split ∙ ap (λ t. 9 ∷ t) (drop_all (length text) text (omega arith))),
           )
     ]
 
 trailing-more : (front : List ℕ) (b : ℕ) → is_space_or_tab b ≡ true → without_trailing (front ++ b ∷ []) ≡ without_trailing front
 trailing-more front b e =
     let count : suffix_len is_space_or_tab (front ++ b ∷ []) ≡ 1 + suffix_len is_space_or_tab front =
-    ap (prefix_len is_space_or_tab) (reverse-append front (b ∷ [])) ∙ ap (λ t. cond t (1 + suffix_len is_space_or_tab front) 0) e in
+    ap (prefix_len is_space_or_tab) (reverse-append front _) ∙ rw e in
     let long : length (front ++ b ∷ []) - suffix_len is_space_or_tab (front ++ b ∷ []) ≡ length front - suffix_len is_space_or_tab front =
     omega (arith, count, length-append front (b ∷ [])) in
-    rw long (take-append-le (length front - suffix_len is_space_or_tab front) front (b ∷ []) (omega arith))
+    rw long (take-append-le (length front - suffix_len is_space_or_tab front) _ _ (omega arith))
 
 trailing-none : (text : List ℕ) → (0 < length text → is_space_or_tab (get_or text (length text - 1) 0) ≡ false)
     → without_trailing text ≡ text
 trailing-none text stops =
     let none : suffix_len is_space_or_tab text ≡ length text - length text =
-    suffix_len_is is_space_or_tab text (length text) 0 (omega arith) (λ k from to. absurd (omega (arith, from, to))) stops in
+    suffix_len_is _ _ _ 0 (omega arith) (λ k from to. absurd (omega (arith, from, to))) stops in
     let all : length text - suffix_len is_space_or_tab text ≡ length text = omega (arith, none) in
     rw all (take_all (length text) text (omega arith))
 
@@ -117,8 +114,8 @@ end-cut : (text : List ℕ) (ns : List ℕ) (front : List ℕ) → CutsSuffixes 
     → without_trailing front ≡ without_trailing text
 end-cut text [] front same = rw same
 end-cut text (n ∷ ns) front (more, cuts, found, same) =
-    let blank = end-blank more n (found is_space_or_tab same-test) in
-    ap without_trailing same ∙ sym (ap without_trailing blank.3 ∙ trailing-more (take (length more - n) more) blank.0 blank.1) ∙ end-cut text ns more cuts
+    let blank = end-blank _ _ (found is_space_or_tab same-test) in
+    ap without_trailing same ∙ sym (ap without_trailing blank.3 ∙ trailing-more _ _ blank.1) ∙ end-cut text ns more cuts
 
 end-stops : (text : List ℕ) (found : Option ℕ) → Finds FindsSuffixBy text found → IfSome found (λ n. n ≡ 0)
     → 0 < length text → is_space_or_tab (get_or text (length text - 1) 0) ≡ false
@@ -128,17 +125,17 @@ end-stops text None finds empty some =
     let front = take (length text - 1) text in
     let all : length text - 1 + 1 ≡ length text = omega (arith, some) in
     let parts : text ≡ front ++ b ∷ [] =
-    sym (ap (λ n. take n text) all ∙ take_all (length text) text (omega arith)) ∙ take_more text (length text - 1) 0 (omega (arith, some)) in
+    sym (rw all (take_all (length text) text (omega arith))) ∙ take_more text (length text - 1) 0 (omega (arith, some)) in
     elim (cases_Bool (is_space_or_tab b)) [
       | inr other ↦ other
       | inl blank ↦ elim (either-blank b blank) [
-        | inl is ↦ cc (finds is_space_or_tab same-test 32 front refl (parts ∙ ap (λ c. front ++ c ∷ []) is))
-        | inr is ↦ cc (finds is_space_or_tab same-test 9 front refl (parts ∙ ap (λ c. front ++ c ∷ []) is))
+        | inl is ↦ cc (finds is_space_or_tab same-test 32 front refl (parts ∙ rw is))
+        | inr is ↦ cc (finds is_space_or_tab same-test 9 front refl (parts ∙ rw is))
       ]
     ]
 end-stops text (Some n) finds empty some =
-    let blank = end-blank text n (finds is_space_or_tab same-test) in absurd (omega (arith, empty, blank.2))
+    let blank = end-blank _ _ (finds is_space_or_tab same-test) in absurd (omega (arith, empty, blank.2))
 
 pub trailing-cut : (text front : List ℕ) → IsTrimEndMatches (Finds FindsSuffixBy) text front → front ≡ without_trailing text
 trailing-cut text front ((ns, cuts), (found, finds, empty)) =
-    sym (trailing-none front (end-stops front found finds empty)) ∙ end-cut text ns front cuts
+    sym (trailing-none _ (end-stops _ _ finds empty)) ∙ end-cut _ _ _ cuts

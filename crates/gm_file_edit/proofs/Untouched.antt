@@ -1,5 +1,5 @@
 -- Lines of which nothing is removed stay as they are.
-use Rattle.std.proofs.Common.{◌≡◌, ◌&&◌, Bool, true, false, List, [], ◌∷◌, ◌++◌, map, Option, Some, None, is_none, refl, sym, ap, ◌∙◌, append-nil, inl, inr}
+use Rattle.std.proofs.Common.{◌≡◌, ◌&&◌, Bool, true, false, List, [], ◌∷◌, ◌++◌, map, Option, Some, None, is_none, refl, ◌∙◌, append-nil, inl, inr}
 use Rattle.gm_syntax_words.specs.Tokens.{Placed}
 use Rattle.gm_syntax.specs.Document.{Line, Blank, Comment, Open, Close, Entry}
 use Rattle.gm_file_edit.specs.About.{about}
@@ -36,8 +36,7 @@ stay-before fates rest none is true (Blank ∷ lines) = rw (stay-before fates re
 stay-before fates rest none is inside (Comment text ∷ lines) = rw (stay-before fates rest none is inside lines)
 stay-before fates rest none is inside (Open verb suffix ∷ lines) =
     let stays : is_emptied (staying inside) suffix (all_stay lines ++ fates) ≡ false =
-    and_right (is_none (staying inside) && is_none suffix) (empties false (all_stay lines ++ fates))
-    (empties-none fates none lines) in
+    and_right (is_none _ && is_none _) (empties false (all_stay lines ++ fates)) (empties-none fates none lines) in
     rw (stays, stay-before fates rest none is true lines)
 stay-before fates rest none is false (Close suffix ∷ lines) = rw (stay-before fates rest none is false lines)
 stay-before fates rest none is true (Close suffix ∷ lines) = rw (stay-before fates rest none is false lines)
@@ -45,12 +44,11 @@ stay-before fates rest none is inside (Entry words suffix ∷ lines) = rw (stay-
 
 pub all-lines-left : (inside : Bool) (lines : List (Line Placed)) → kept_lines (widened_from (staying inside) false (all_stay lines)) ≡ lines
 all-lines-left inside lines =
-    ap (λ (fs : List Fate). kept_lines (widened_from (staying inside) false fs)) (sym (append-nil (all_stay lines)))
-    ∙ stay-before [] [] refl (λ within. refl) inside lines ∙ append-nil lines
+    rw (← (append-nil (all_stay lines))) (stay-before [] [] refl (λ within. refl) _ _ ∙ append-nil lines)
 
 pub all-lines-stay : (lines : List (Line Placed)) → remaining (all_stay lines) ≡ lines
 unfolding remaining
-all-lines-stay lines = all-lines-left false lines
+all-lines-stay lines = all-lines-left false _
 
 -- ---- the lines after an operation
 

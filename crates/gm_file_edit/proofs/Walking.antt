@@ -15,7 +15,7 @@ drop-next xs n x lt is =
 
 -- the line at an index, before the others
 pub line-here : (whole : List (Line Placed)) (n : ℕ) → n < length whole → drop n whole ≡ line_at whole n ∷ drop (n + 1) whole
-line-here whole n lt = drop-next whole n (line_at whole n) lt (get_or_default whole n Blank (line_at whole n) lt)
+line-here whole n lt = drop-next _ _ _ lt (get_or_default whole n Blank (line_at whole n) lt)
 
 -- a line of a file is right in its block
 pub right-at : (block : Option Placed) (lines : List (Line Placed)) (n : ℕ) → n < length lines
@@ -38,4 +38,4 @@ level-line block (Entry words suffix) level = refl
 pub block-next : (lines : List (Line Placed)) (n : ℕ) → n < length lines
     → block_after_lines None (take (n + 1) lines) ≡ block_after_line (block_after_lines None (take n lines))
     (line_at lines n)
-block-next lines n lt = rw (take_more lines n Blank lt) (block-append None (take n lines) (line_at lines n ∷ []))
+block-next lines n lt = rw (take_more _ _ Blank lt) (block-append None (take n lines) (line_at lines n ∷ []))

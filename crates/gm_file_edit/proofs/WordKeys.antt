@@ -1,5 +1,5 @@
 -- What an entry is about, by its words.
-use Rattle.std.proofs.Common.{◌≡◌, ℕ, suc, ◌+◌, ◌-◌, ◌&&◌, Bool, true, false, List, [], ◌∷◌, take, drop, Option, Some, None, is_some, refl, sym, ap, ◌∙◌, arith, inl, inr}
+use Rattle.std.proofs.Common.{◌≡◌, ℕ, suc, ◌+◌, ◌-◌, ◌&&◌, Bool, true, false, List, [], ◌∷◌, Option, Some, None, is_some, refl, ap, arith, inl, inr}
 use Rattle.std.specs.List.{after_first, before_first, position_or_len}
 use Rattle.std.proofs.lemmas.Bool.{cases_Bool}
 use Rattle.gm_name.specs.ModuleVersion.{ModuleVersion}
@@ -9,7 +9,7 @@ use Rattle.gm_syntax_words.specs.Words.{Word, HasValue, is_mark}
 use Rattle.gm_syntax.proofs.NewWords.{value_is}
 use Rattle.gm_file.specs.declared.verb.Verb.{Verb}
 use Rattle.gm_file.specs.declared.verb.Verb.TheVariants as verb
-use Rattle.gm_file.specs.Directives.{Strict, Directive, DeclaresModule, DeclaresGo, Requires, Excludes, Replaces, Retracts, Kept, Left, VersionInterval, directive_of, ends_of, is_arrow, is_of_arrow, left_of, left_with, left_without, one_of, pair, pair_of, replacing, replacing_of, right_of}
+use Rattle.gm_file.specs.Directives.{Strict, Directive, Kept, Left, VersionInterval, directive_of, ends_of, is_arrow, is_of_arrow, left_of, pair, pair_of, right_of}
 use Rattle.gm_file.specs.Faults.{entry_kinds}
 use Rattle.gm_file.specs.Values.{argument, argument_of_kind}
 use Rattle.gm_file_edit.specs.Private.Keys.{Subject, held_subject, key_with, subject_of, texts_named}
@@ -18,7 +18,7 @@ use Rattle.gm_file_edit.proofs.NoLineFeeds.{both-are, map-some}
 -- ---- one word
 
 pub text-argument : (w : Word) (value : List ℕ) → w.kind ≡ kind.Text → HasValue w value → argument w ≡ Some value
-text-argument w value is has = rw is (ap Some (rw is at (value_is w value has)))
+text-argument w value is has = rw is (ap Some (rw is at (value_is _ _ has)))
 
 arrow-kind : (k : Kind) (text : List ℕ) → is_of_arrow k text ≡ true → argument_of_kind k text ≡ None
 arrow-kind kind.Bare text is = absurd cc
@@ -44,24 +44,24 @@ pair-texts : (words : List Word) {p : ModuleVersion} → pair_of words ≡ Some 
 pair-texts [] is = absurd cc
 pair-texts (a ∷ []) is = absurd cc
 pair-texts (a ∷ b ∷ []) is =
-    let parts = both-are pair (argument a) (argument b) is in (
-      ap (λ (p : ModuleVersion). texts (Some p.0) None) (sym parts.4) ∙ one-text (argument a) None parts.2 refl,
-      ap (λ (p : ModuleVersion). texts (Some p.0) (Some p.1)) (sym parts.4) ∙ both-texts (argument a) (argument b) parts.2 parts.3,
+    let parts = both-are _ _ _ is in (
+      rw (← parts.4) (one-text _ None parts.2 refl),
+      rw (← parts.4) (both-texts _ _ parts.2 parts.3),
     )
 pair-texts (a ∷ b ∷ c ∷ words) is = absurd cc
 
 ends-texts : (words : List Word) {ends : VersionInterval} → ends_of words ≡ Some ends → texts (Some ends.0) (Some ends.1) ≡ texts_named verb.Retract words
 ends-texts [] is = absurd cc
 ends-texts (v ∷ []) is =
-    let one = map-some (λ (w : List ℕ). pair w w) (argument v) is in
-    ap (λ (p : VersionInterval). texts (Some p.0) (Some p.1)) (sym one.2) ∙ both-texts (argument v) (argument v) one.1 one.1
+    let one = map-some _ _ is in
+    rw (← one.2) (both-texts _ _ one.1 one.1)
 ends-texts (a ∷ v ∷ []) is = absurd cc
 ends-texts (a ∷ v ∷ b ∷ []) is = absurd cc
 ends-texts (a ∷ v ∷ b ∷ w ∷ []) is = absurd cc
 ends-texts (a ∷ v ∷ b ∷ w ∷ c ∷ []) {ends} is = elim (cases_Bool (is_mark 91 a && is_mark 44 b && is_mark 93 c)) [
   | inl brackets ↦
       let parts = both-are pair (argument v) (argument w) (rw brackets at is) in
-      ap (λ (p : VersionInterval). texts (Some p.0) (Some p.1)) (sym parts.4) ∙ both-texts (argument v) (argument w) parts.2 parts.3
+      rw (← parts.4) (both-texts (argument v) (argument w) parts.2 parts.3)
   | inr none ↦ let never : None ≡ Some ends = rw none at is in absurd cc
 ]
 ends-texts (a ∷ v ∷ b ∷ w ∷ c ∷ e ∷ words) is = absurd cc
@@ -77,25 +77,25 @@ cut-more word words text =
     let more : 1 + n ≡ suc n = omega arith in
     let next : position_or_len is_arrow (word ∷ words) ≡ suc n = rw text more in
     let after : suc n + 1 ≡ suc (n + 1) = omega arith in (
-      ap (λ (k : ℕ). take k (word ∷ words)) next,
-      ap (λ (k : ℕ). drop (k + 1) (word ∷ words)) next ∙ ap (λ (k : ℕ). drop k (word ∷ words)) after,
+      rw next,
+      rw next (rw after),
     )
 
 two-texts : (a b : Word) (rest : List Word) {left : Left} → left_of (a ∷ b ∷ rest) ≡ Some left → texts (Some left.path) left.version ≡ texts (argument a) (argument b)
 two-texts a b [] is =
-    let made = both-are left_with (argument a) (argument b) is in
-    ap (λ (l : Left). texts (Some l.path) l.version) (sym made.4) ∙ both-texts (argument a) (argument b) made.2 made.3
+    let made = both-are _ _ _ is in
+    rw (← made.4) (both-texts _ _ made.2 made.3)
 two-texts a b (c ∷ rest) is = absurd cc
 
 -- the words before the arrow are the left side, and the arrow is no text
 behind-path : (a : Word) (words : List Word) {left : Left} → left_of (a ∷ before_first is_arrow words) ≡ Some left
     → is_some (right_of (after_first is_arrow words)) ≡ true → texts (Some left.path) left.version ≡ texts_named verb.Replace (a ∷ words)
 behind-path a [] is more = absurd cc
-behind-path a (b ∷ words) is more = elim (cases_Bool (is_arrow b)) [
+behind-path a (b ∷ words) is more = elim (cases_Bool _) [
   | inl arrow ↦
-      let made = map-some left_without (argument a) (rw (cut-here b words arrow) at is) in
-      ap (λ (l : Left). texts (Some l.path) l.version) (sym made.2) ∙ one-text (argument a) (argument b) made.1 (arrow-kind b.kind b.spelling arrow)
-  | inr other ↦ two-texts a b (before_first is_arrow words) (rw (cut-more b words other).0 at is)
+      let made = map-some _ _ (rw (cut-here _ _ arrow) at is) in
+      rw (← made.2) (one-text _ _ made.1 (arrow-kind _ _ arrow))
+  | inr other ↦ two-texts _ _ _ (rw (cut-more b words other).0 at is)
 ]
 
 left-texts : (words : List Word) {left : Left} → left_of (before_first is_arrow words) ≡ Some left
@@ -113,20 +113,20 @@ subject own named = (own, named)
 
 pub entry-texts : (own : Verb) (words : List Word) (d : Directive) → directive_of own words ≡ Some d → subject_of d ≡ subject own (texts_named own words)
 unfolding directive_of
-entry-texts verb.Module words d says = let made = map-some DeclaresModule (one_of words) says in rw (← made.2)
-entry-texts verb.Go words d says = let made = map-some DeclaresGo (one_of words) says in rw (← made.2)
+entry-texts verb.Module words d says = let made = map-some _ _ says in rw (← made.2)
+entry-texts verb.Go words d says = let made = map-some _ _ says in rw (← made.2)
 entry-texts verb.Require words d says =
-    let made = map-some Requires (pair_of words) says in
-    rw (← made.2) (ap (subject verb.Require) (pair-texts words made.1).0)
+    let made = map-some _ _ says in
+    rw (← made.2) (ap (subject verb.Require) (pair-texts _ made.1).0)
 entry-texts verb.Exclude words d says =
-    let made = map-some Excludes (pair_of words) says in
+    let made = map-some _ _ says in
     rw (← made.2) (ap (subject verb.Exclude) (pair-texts words made.1).1)
 entry-texts verb.Replace words d says =
-    let made = map-some Replaces (replacing_of words) says in
-    let parts = both-are replacing (left_of (before_first is_arrow words)) (right_of (after_first is_arrow words)) made.1 in
+    let made = map-some _ _ says in
+    let parts = both-are _ _ _ made.1 in
     rw (← made.2, ← parts.4) (ap (subject verb.Replace) (left-texts words parts.2 (ap is_some parts.3)))
 entry-texts verb.Retract words d says =
-    let made = map-some Retracts (ends_of words) says in
+    let made = map-some _ _ says in
     rw (← made.2) (ap (subject verb.Retract) (ends-texts words made.1))
 entry-texts verb.Nothing words d says = let same : Kept ≡ d = cc in rw (← same)
 entry-texts verb.Unknown words d says = absurd cc
@@ -134,9 +134,9 @@ entry-texts verb.Unknown words d says = absurd cc
 entry-about : (own : Verb) (words : List Word) (held : Option Directive) → directive_of own words ≡ held → entry_kinds Strict [] own held ≡ []
     → held_subject held ≡ subject own (texts_named own words)
 entry-about own words None says valid = absurd cc
-entry-about own words (Some d) says valid = entry-texts own words d says
+entry-about own words (Some d) says valid = entry-texts _ _ _ says
 
 -- a valid entry has the key of its verb and of the texts in its words
 pub entry-key : (own : Verb) (words : List Word) (inside : Bool) {named : Texts} → entry_kinds Strict [] own (directive_of own words) ≡ []
     → named ≡ texts_named own words → key_with (subject own named) inside ≡ key_with (held_subject (directive_of own words)) inside
-entry-key own words inside valid is = rw (is, entry-about own words (directive_of own words) refl valid)
+entry-key own words inside valid is = rw (is, entry-about _ _ _ refl valid)

@@ -7,7 +7,7 @@ use Rattle.gm_name.specs.ModuleVersion.{ModuleVersion}
 use Rattle.gm_file.specs.Values.{both, is_folder_path}
 use Rattle.gm_file.specs.GoVersions.{strict_go}
 use Rattle.gm_file.specs.Directives.{VersionInterval, pair, Left, left_with, left_without, Right, Folder, Module, Replacing, replacing}
-use Rattle.gm_file_edit.specs.Edits.{Edit, Set, ModuleIs, GoIs, RequireAt, Drop, AnyRequire, Add, Exclude, AnyExclude, ReplaceWith, AnyReplace, Retract, AnyRetract, edit_as, edit_in, go_text_in, inside_brackets, interval_in, is_bracketed, left_in, edit_named, pair_in, path_in, replacing_in, right_in, trim, version_in}
+use Rattle.gm_file_edit.specs.Edits.{Edit, Exclude, Retract, edit_as, edit_in, go_text_in, inside_brackets, interval_in, is_bracketed, left_in, edit_named, pair_in, path_in, replacing_in, right_in, trim, version_in}
 use Rattle.gm_operation.specs.Operations.{has_byte, operation_named, split_at_byte}
 use Rattle.gm_operation.specs.declared.kind.OperationKind.{OperationKind}
 use Rattle.gm_operation.specs.declared.kind.OperationKind.TheVariants as op
@@ -34,7 +34,7 @@ pair-sound : (text : List ℕ) {p : ModuleVersion} → pair_in text ≡ Some p �
 unfolding pair_in
 pair-sound text e =
     let cut = then-some (λ (parts : List ℕ × List ℕ). both pair (path_in parts.0) (version_in parts.1)) (split_at_byte 64 text) e in
-    let parts = both-are pair (path_in cut.0.0) (version_in cut.0.1) cut.2 in
+    let parts = both-are pair _ _ cut.2 in
     rw (← parts.4) (path-sound cut.0.0 parts.2, version-sound cut.0.1 parts.3)
 
 left-sound : (text : List ℕ) (left : Left) → left_in text ≡ Some left → IsSoundLeft left
@@ -64,8 +64,8 @@ replacing-sound : (text : List ℕ) (r : Replacing) → replacing_in text ≡ So
 unfolding replacing_in
 replacing-sound text r e =
     let cut = then-some (λ (parts : List ℕ × List ℕ). both replacing (left_in parts.0) (right_in parts.1)) (split_at_byte 61 text) e in
-    let parts = both-are replacing (left_in cut.0.0) (right_in cut.0.1) cut.2 in
-    rw (← parts.4) (left-sound cut.0.0 parts.0 parts.2, right-sound cut.0.1 parts.1 parts.3)
+    let parts = both-are replacing _ _ cut.2 in
+    rw (← parts.4) (left-sound cut.0.0 _ parts.2, right-sound cut.0.1 _ parts.3)
 
 ends-sound : (text : List ℕ) (ends : VersionInterval) → interval_in text ≡ Some ends → AreVersions ends
 unfolding interval_in
@@ -84,30 +84,30 @@ ends-sound text ends e = elim (cases_Bool (is_bracketed text)) [
 -- an operation of a kind has valid arguments
 as-sound : (kind : OperationKind) (text : List ℕ) (edit : Edit) → edit_as kind text ≡ Some edit → IsSoundEdit edit
 as-sound op.Module text edit e =
-    let m = map-some (λ (path : List ℕ). Set (ModuleIs path)) (path_in text) e in rw (← m.2) (path-sound text m.1)
+    let m = map-some _ _ e in rw (← m.2) (path-sound _ m.1)
 as-sound op.Go text edit e =
-    let m = map-some (λ (version : List ℕ). Set (GoIs version)) (go_text_in text) e in rw (← m.2) (go-sound text m.0 m.1)
+    let m = map-some _ _ e in rw (← m.2) (go-sound _ _ m.1)
 as-sound op.Require text edit e =
-    let m = map-some (λ (p : ModuleVersion). Set (RequireAt p)) (pair_in text) e in rw (← m.2) (pair-sound text m.1)
+    let m = map-some _ _ e in rw (← m.2) (pair-sound _ m.1)
 as-sound op.DropRequire text edit e =
-    let m = map-some (λ (path : List ℕ). Drop (AnyRequire path)) (path_in text) e in rw (← m.2) tt
+    let m = map-some _ _ e in rw (← m.2) tt
 as-sound op.Exclude text edit e =
-    let m = map-some (λ (p : ModuleVersion). Add (Exclude p)) (pair_in text) e in rw (← m.2) (pair-sound text m.1)
+    let m = map-some _ _ e in rw (← m.2) (pair-sound _ m.1)
 as-sound op.DropExclude text edit e =
-    let m = map-some (λ (p : ModuleVersion). Drop (AnyExclude p)) (pair_in text) e in rw (← m.2) tt
+    let m = map-some _ _ e in rw (← m.2) tt
 as-sound op.Replace text edit e =
-    let m = map-some (λ (r : Replacing). Set (ReplaceWith r)) (replacing_in text) e in rw (← m.2) (replacing-sound text m.0 m.1)
+    let m = map-some _ _ e in rw (← m.2) (replacing-sound _ _ m.1)
 as-sound op.DropReplace text edit e =
-    let m = map-some (λ (left : Left). Drop (AnyReplace left)) (left_in text) e in rw (← m.2) tt
+    let m = map-some _ _ e in rw (← m.2) tt
 as-sound op.Retract text edit e =
-    let m = map-some (λ (ends : VersionInterval). Add (Retract ends)) (interval_in text) e in rw (← m.2) (ends-sound text m.0 m.1)
+    let m = map-some _ _ e in rw (← m.2) (ends-sound _ _ m.1)
 as-sound op.DropRetract text edit e =
-    let m = map-some (λ (ends : VersionInterval). Drop (AnyRetract ends)) (interval_in text) e in rw (← m.2) tt
+    let m = map-some _ _ e in rw (← m.2) tt
 
 pub named-sound : (name text : List ℕ) {edit : Edit} → edit_named name text ≡ Some edit → IsSoundEdit edit
 unfolding edit_named
 named-sound name text {edit} e =
-    let named = then-some (λ (kind : OperationKind). edit_as kind text) (operation_named name) e in as-sound named.0 text edit named.2
+    let named = then-some (λ (kind : OperationKind). edit_as kind text) (operation_named name) e in as-sound named.0 text _ named.2
 
 -- an operation that some text spells has valid arguments
 pub written-sound : (text : List ℕ) (edit : Edit) → edit_in text ≡ Some edit → IsSoundEdit edit
