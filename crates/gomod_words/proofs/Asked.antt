@@ -1,10 +1,10 @@
 -- What single words ask for.
-use Rattle.std.proofs.Common.{◌≡◌, ◌∷◌, ◌∙◌, List, [], Option, None, codes, true, sym, subst, inl, inr, refl}
+use Rattle.std.proofs.Common.{◌≡◌, ◌∷◌, ◌∙◌, List, [], None, codes, true, sym, subst, inl, inr, refl}
 use Rattle.clap.specs.Walk.{Text}
 use Rattle.clap.specs.Faults.{fault_of}
 use Rattle.clap.specs.Kinds.{Kinds, IsAmong}
 use Rattle.clap.specs.declared.error.kind.ErrorKind.{ErrorKind}
-use Rattle.clap.specs.declared.error.kind.ErrorKind.TheVariants.{DisplayHelp, DisplayHelpOnMissingArgumentOrSubcommand, DisplayVersion}
+use Rattle.clap.specs.declared.error.kind.ErrorKind.TheVariants.{DisplayHelpOnMissingArgumentOrSubcommand, DisplayVersion}
 use Rattle.clap.proofs.OnLiterals.{clap_on_literals}
 use Rattle.gomod_words.specs.Dashed.{dashed_in}
 use Rattle.gomod_words.specs.Laws.{AreUsageError, AskForVersion, HaveOnly}
@@ -42,40 +42,40 @@ not_taken kind kinds is taken = let none : [] ≡ kind ∷ [] = sym taken ∙ is
 
 version_only : (words : List Text) → fault_of gomod_app words ≡ DisplayVersion ∷ [] → (fault : UsageFault) → IsReadFault words fault → IsVersionLine fault
 version_only words is NoMemory known = tt
-version_only words is (Help text) known = let same : DisplayHelp ≡ DisplayVersion = only_kind DisplayHelp DisplayVersion _ is known.0 in cc same
+version_only words is (Help text) known = let same = only_kind _ _ _ is known.0 in cc same
 version_only words is (Version text) known = known.2
-version_only words is (Line text) (inl refused) = absurd (refused.3 (only_kind refused.1 DisplayVersion _ is refused.4))
-version_only words is (Line text) (inr accepted) = absurd (not_taken DisplayVersion _ is accepted.0)
-version_only words is (BadPath text) known = absurd (not_taken DisplayVersion _ is known.0)
-version_only words is (BadProxy text) known = absurd (not_taken DisplayVersion _ is known.0)
+version_only words is (Line text) (inl refused) = absurd (refused.3 (only_kind _ _ _ is refused.4))
+version_only words is (Line text) (inr accepted) = absurd (not_taken _ _ is accepted.0)
+version_only words is (BadPath text) known = absurd (not_taken _ _ is known.0)
+version_only words is (BadProxy text) known = absurd (not_taken _ _ is known.0)
 
 error_only : (words : List Text) → fault_of gomod_app words ≡ no_words ∷ [] → (fault : UsageFault) → IsReadFault words fault → is_line_or_memory fault ≡ true
 error_only words is NoMemory known = refl
-error_only words is (Help text) known = let same : DisplayHelp ≡ no_words = only_kind DisplayHelp no_words _ is known.0 in cc same
-error_only words is (Version text) known = let same : DisplayVersion ≡ no_words = only_kind DisplayVersion no_words _ is known.0 in cc same
+error_only words is (Help text) known = let same = only_kind _ _ _ is known.0 in cc same
+error_only words is (Version text) known = let same = only_kind _ _ _ is known.0 in cc same
 error_only words is (Line text) known = refl
-error_only words is (BadPath text) known = absurd (not_taken no_words _ is known.0)
-error_only words is (BadProxy text) known = absurd (not_taken no_words _ is known.0)
+error_only words is (BadPath text) known = absurd (not_taken _ _ is known.0)
+error_only words is (BadProxy text) known = absurd (not_taken _ _ is known.0)
 
 -- words at which the parser finds one kind of error have the faults of that kind alone
 alone : (words : List Text) (kind : ErrorKind) (is : UsageFault → Type 0) → fault_of gomod_app words ≡ kind ∷ []
     → ((fault : UsageFault) → IsReadFault words fault → is fault) → dashed_in words ≡ None → HaveOnly is words
 alone words kind is found only undashed = (
-  λ command places asked. not_taken kind _ found asked.taken,
-  λ fault known. only fault (subst (λ (o : Option Text). IsFaultBy o words fault) undashed known).0,
+  λ command places asked. not_taken _ _ found asked.taken,
+  λ fault known. only fault (subst (λ o. IsFaultBy o words fault) undashed known).0,
 )
 
 pub version_by_long : (program : Text) → AskForVersion (program ∷ codes "--version" ∷ [])
 version_by_long program =
     let words = program ∷ codes "--version" ∷ [] in
-    let is = long_fault program in alone words DisplayVersion IsVersionLine is (version_only words is) refl
+    let is = long_fault program in alone _ _ _ is (version_only words is) refl
 
 pub version_by_short : (program : Text) → AskForVersion (program ∷ codes "-V" ∷ [])
 version_by_short program =
     let words = program ∷ codes "-V" ∷ [] in
-    let is = short_fault program in alone words DisplayVersion IsVersionLine is (version_only words is) refl
+    let is = short_fault program in alone _ _ _ is (version_only words is) refl
 
 pub error_without_words : (program : Text) → AreUsageError (program ∷ [])
 error_without_words program =
     let words = program ∷ [] in
-    let is = no_words_fault program in alone words no_words (λ fault. is_line_or_memory fault ≡ true) is (error_only words is) refl
+    let is = no_words_fault program in alone _ _ (λ fault. is_line_or_memory fault ≡ true) is (error_only words is) refl

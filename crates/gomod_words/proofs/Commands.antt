@@ -1,8 +1,8 @@
 -- What a command is, from what the parser reads of it.
-use Rattle.std.proofs.Common.{◌≡◌, ◌∙◌, ◌∷◌, ◌++◌, ◌+◌, ◌<◌, ◌&&◌, ℕ, is_some, not, Bool, List, [], true, false, ap, ap₂, get_or, length, map, refl, sym, take}
+use Rattle.std.proofs.Common.{◌≡◌, ◌∙◌, ◌∷◌, ◌++◌, ◌+◌, ◌<◌, ◌&&◌, ℕ, not, Bool, List, [], true, false, ap, ap₂, get_or, length, map, refl, sym, take}
 use Rattle.std.proofs.lemmas.List.{map_more, map_push}
 use Rattle.clap.specs.Built.{AddsArg, AddsInTurn, AddsSubcommand}
-use Rattle.clap.specs.Simple.{App, app_of, new_app, new_rule, with_rule, with_subcommand}
+use Rattle.clap.specs.Simple.{App, app_of, new_app, with_rule, with_subcommand}
 use Rattle.clap.specs.Walk.{Rule, Text, is_empty, rule_of}
 use Rattle.clap.specs.declared.builder.arg.Arg.{Arg}
 use Rattle.clap.specs.declared.builder.command.Command.{Command}
@@ -26,7 +26,7 @@ third_unset false b c d holds = cc holds
 local_if_plain : (command : Command) → (app_of command).top.is_plain ≡ true → (out-Command command).has_globals ≡ false
 local_if_plain command plain =
     let c = out-Command command in
-    third_unset (is_empty c.groups.items) (not c.allow_external_subcommands) c.has_globals _ plain
+    third_unset _ _ _ _ plain
 
 last_unset : (a b c d e f g h i j : Bool) → (a && (b && (c && (d && (e && (f && (g && (h && (i && not j))))))))) ≡ true → j ≡ false
 last_unset true true true true true true true true true false holds = refl
@@ -44,8 +44,8 @@ last_unset false b c d e f g h i j holds = cc holds
 -- an argument that is read as simple is none that subcommands take too
 local_if_simple : (arg : Arg) → (rule_of arg).is_simple ≡ true → arg.global ≡ false
 local_if_simple arg simple =
-    last_unset (is_empty arg.overrides.items) (is_empty arg.default_vals_ifs.items) (is_empty arg.groups.items) (not (is_some arg.val_delim))
-    (not (is_some arg.terminator)) (not arg.allow_hyphen_values) (not arg.allow_negative_numbers) (not arg.require_equals) (not arg.last) arg.global simple
+    last_unset _ _ (is_empty arg.groups.items) _
+    _ (not arg.allow_hyphen_values) _ _ (not arg.last) arg.global simple
 
 -- every argument is read as simple
 is_simple : (argument : Argument) → (rule_for argument).is_simple ≡ true
@@ -70,14 +70,14 @@ arguments_add old new (arg ∷ args) [] same adds = cc same
 arguments_add old new (arg ∷ args) (row ∷ rows) same adds =
     let first : rule_of arg ≡ rule_for row = cc same in
     let rest : map rule_of args ≡ map rule_for rows = cc same in
-    let local = local_if_simple arg (ap (λ (rule : Rule). rule.is_simple) first ∙ is_simple row) in
-    let added = adds.1.shape local ∙ ap (λ (rule : Rule). with_rule (app_of old) rule) first in
-    arguments_add adds.0 new args rows rest adds.2 ∙ ap (λ (app : App). with_rules_for app rows) added
+    let local = local_if_simple arg (ap (λ rule. rule.is_simple) first ∙ is_simple _) in
+    let added = adds.1.shape local ∙ ap (λ rule. with_rule (app_of old) rule) first in
+    arguments_add _ new _ rows rest adds.2 ∙ ap (λ app. with_rules_for app rows) added
 
 -- arguments leave a command plain
 plain_with : (app : App) (rows : List Argument) → (with_rules_for app rows).top.is_plain ≡ app.top.is_plain
 plain_with app [] = refl
-plain_with app (row ∷ rows) = plain_with (with_rule app (rule_for row)) rows
+plain_with app (row ∷ rows) = plain_with _ rows
 
 -- commands of these rows, added in turn
 pub commands_add : (old new : Command) (commands : List Command) (rows : List CommandName) → map app_of commands ≡ map app_in rows
@@ -88,9 +88,9 @@ commands_add old new (command ∷ commands) [] same adds = cc same
 commands_add old new (command ∷ commands) (row ∷ rows) same adds =
     let first : app_of command ≡ app_in row = cc same in
     let rest : map app_of commands ≡ map app_in rows = cc same in
-    let local = local_if_plain command (ap (λ (app : App). app.top.is_plain) first ∙ plain_with _ (arguments_in row)) in
-    let added = adds.1.shape local ∙ ap (λ (app : App). with_subcommand (app_of old) app.top) first in
-    commands_add adds.0 new commands rows rest adds.2 ∙ ap (λ (app : App). with_commands app rows) added
+    let local = local_if_plain _ (ap (λ (app : App). app.top.is_plain) first ∙ plain_with _ (arguments_in row)) in
+    let added = adds.1.shape local ∙ ap (λ app. with_subcommand (app_of old) app.top) first in
+    commands_add _ new _ rows rest adds.2 ∙ ap (λ app. with_commands app rows) added
 
 -- one command more
 pub command_more : (made new : List Command) (names : List CommandName) (i : ℕ) (d : CommandName) (command : Command) (text : Text) (arguments : List Argument)
@@ -98,11 +98,11 @@ pub command_more : (made new : List Command) (names : List CommandName) (i : ℕ
     → app_of command ≡ with_rules_for (new_app text) arguments → text ≡ name_in (get_or names i d) → arguments ≡ arguments_in (get_or names i d)
     → map app_of new ≡ map app_in (take (i + 1) names)
 command_more made new names i d command text arguments less before items is name_is arguments_are =
-    ap (λ (commands : List Command). map app_of commands) items ∙ map_push app_of made command
-    ∙ ap (λ (apps : List App). apps ++ app_of command ∷ []) before
-    ∙ ap (λ (app : App). map app_in (take i names) ++ app ∷ [])
+    ap (λ commands. map app_of commands) items ∙ map_push _ _ command
+    ∙ ap (λ apps. apps ++ app_of command ∷ []) before
+    ∙ ap (λ app. map app_in (take i names) ++ app ∷ [])
     (is ∙ ap₂ (λ (name : Text) (all : List Argument). with_rules_for (new_app name) all) name_is arguments_are)
-    ∙ sym (map_more app_in names i d less)
+    ∙ sym (map_more _ _ i d less)
 
 -- the name of a row is that of what the parser reads of it
 formed-id : (how : Form) (rule : Rule) → (formed how rule).id ≡ rule.id
@@ -113,4 +113,4 @@ formed-id (form.Default value) rule = refl
 formed-id form.Flag rule = refl
 
 pub row_name : (row : ArgumentRow) (rule : Rule) → rule_in row ≡ rule → row.name.now ≡ rule.id
-row_name row rule same = sym (formed-id row.form (record (new_rule row.name.now) { required = row.is_required })) ∙ ap (λ (r : Rule). r.id) same
+row_name row rule same = sym (formed-id _ _) ∙ ap (λ r. r.id) same

@@ -42,7 +42,7 @@ some_path None text valid is = cc is
 -- a valid value is none that is invalid
 pub both_proxies : (value : Option Text) (text : Text) → option_map_or is_proxy value true ≡ true → value ≡ Some text → is_proxy text ≡ false → ⊥
 both_proxies value text valid is invalid =
-    let never : true ≡ false = sym (subst (λ (v : Option Text). option_map_or is_proxy v true ≡ true) is valid) ∙ invalid in cc never
+    let never : true ≡ false = sym (subst (λ v. option_map_or is_proxy v true ≡ true) is valid) ∙ invalid in cc never
 
 no_proxy : (proxy : Option ProxyList) → option_map folders_in proxy ≡ None → is_some proxy ≡ true → ⊥
 no_proxy None none some = cc some
@@ -67,9 +67,9 @@ unfiled name rows file files path proxy none (inr (inr bad)) = let never : None 
 pub lacking : (name : CommandName) (rows : List Row) → ((places : Places) → HasFiles name rows places → ArePlaces rows places)
     → proxy_text name rows ≡ given Proxy rows → IfSome (path_text name rows) IsPath → LacksPlaces rows → ¬ (AreRecognized (Some (name, rows)))
 lacking name rows files same valid (inl none) (inl (command, places, meant)) =
-    no_proxy places.proxy (meant.2.1 ∙ ap (option_map folders_of) (same ∙ none)) (files places meant.3).0
+    no_proxy _ (meant.2.1 ∙ ap (option_map folders_of) (same ∙ none)) (files places meant.3).0
 lacking name rows files same valid (inr twice) (inl (command, places, meant)) =
     let never : true ≡ false = sym twice.1 ∙ (files places meant.3).3 in cc never
-lacking name rows files same valid lacks (inr (inl bad)) = bad.1.1 (some_path (path_text name rows) bad.0 valid bad.1.0)
+lacking name rows files same valid lacks (inr (inl bad)) = bad.1.1 (some_path _ _ valid bad.1.0)
 lacking name rows files same valid (inl none) (inr (inr bad)) = let never : None ≡ Some bad.0 = sym none ∙ sym same ∙ bad.1.2.0 in cc never
-lacking name rows files same valid (inr twice) (inr (inr bad)) = both_proxies (given Proxy rows) bad.0 twice.0 (sym same ∙ bad.1.2.0) bad.1.2.1
+lacking name rows files same valid (inr twice) (inr (inr bad)) = both_proxies _ _ twice.0 (sym same ∙ bad.1.2.0) bad.1.2.1

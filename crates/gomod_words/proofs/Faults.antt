@@ -1,5 +1,5 @@
 -- What is known about the words at each fault.
-use Rattle.std.proofs.Common.{◌≡◌, ◌≢◌, ◌∙◌, List, Option, None, Result, Ok, Err, IfErr, IfOk, ap, true, sym, subst, inl, inr, refl}
+use Rattle.std.proofs.Common.{◌≡◌, ◌≢◌, ◌∙◌, List, None, Result, Ok, Err, IfErr, IfOk, ap, true, sym, subst, inl, inr, refl}
 use Rattle.clap.specs.Walk.{Text}
 use Rattle.clap.specs.Simple.{App, HasMatchesOf, is_simple, subcommand_of, subcommand_rows_of}
 use Rattle.clap.specs.Faults.{fault_of, is_simple_and_free}
@@ -22,7 +22,7 @@ use Rattle.gomod_words.proofs.UsageLines.{shows_usage}
 
 -- if no operation has a dash, a fault of the words as the parser reads them is their fault
 pub read_fault : (words : List Text) (fault : UsageFault) → dashed_in words ≡ None → IsReadFault words fault → ShowsUsage words fault → IsFaultOf words fault
-read_fault words fault undashed known shows = subst (λ (o : Option Text). IsFaultBy o words fault) (sym undashed) (known, shows)
+read_fault words fault undashed known shows = subst (λ o. IsFaultBy o words fault) (sym undashed) (known, shows)
 
 -- a fault of the entries is a fault of the words
 entries_fault : (words : List Text) (fault : UsageFault) → AreAccepted words → IsEntriesFault (entered (subcommand_of gomod_app words)) fault
@@ -38,7 +38,7 @@ pub entries_faults : {T : Type 0} (words : List Text) (result : Result T UsageFa
     → IfErr result (IsEntriesFault (entered (subcommand_of gomod_app words))) → IfErr result (ShowsLine words) → IfErr result (IsFaultOf words)
 entries_faults words (Ok value) undashed taken known shows = tt
 entries_faults words (Err fault) undashed taken known shows =
-    read_fault words fault undashed (entries_fault words fault taken known) (shows_usage words fault shows)
+    read_fault words _ undashed (entries_fault words _ taken known) (shows_usage _ _ shows)
 
 -- the words ask for what the entries mean
 pub entries_read : (words : List Text) (result : Result (Command × Places) UsageFault) → dashed_in words ≡ None → AreAccepted words
@@ -56,7 +56,7 @@ kind_among words error (inr among) enough = among
 asked_among : (words : List Text) (error : Error) (kind : ErrorKind) → HasKind (fault_of gomod_app words) error → kind_of error ≡ kind → kind ≢ OutOfMemory
     → IsAmong kind (fault_of gomod_app words)
 asked_among words error kind kinds asked other =
-    subst (λ (k : ErrorKind). IsAmong k (fault_of gomod_app words)) asked (kind_among words error kinds (λ memory. other (sym asked ∙ memory)))
+    subst (λ k. IsAmong k (fault_of gomod_app words)) asked (kind_among words error kinds (λ memory. other (sym asked ∙ memory)))
 
 -- a fault of the parser is a fault of the words
 pub parser_fault : (words : List Text) (error : Error) (fault : UsageFault) → HasKind (fault_of gomod_app words) error
@@ -84,4 +84,4 @@ is_simple-gomod_app = refl
 -- a parse gives the entries of the words
 pub entries_known : (app : App) (words : List Text) (matches : ArgMatches) → app ≡ gomod_app → HasMatchesOf app words matches
     → subcommand_rows_of matches ≡ subcommand_of gomod_app words
-entries_known app words matches same known = (subst (λ (a : App). HasMatchesOf a words matches) same known is_simple-gomod_app).1
+entries_known app words matches same known = (subst (λ a. HasMatchesOf a words matches) same known is_simple-gomod_app).1

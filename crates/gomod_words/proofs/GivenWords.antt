@@ -20,12 +20,12 @@ is_false false other = refl
 
 -- the test fails on a word that is not UTF-8
 not_utf8 : (word : List ℕ) → ¬ (IsUtf8 word) → is_utf8 word ≡ false
-not_utf8 word bad = is_false (is_utf8 word) (λ is. bad (IsUtf8-from_is_utf8 word is))
+not_utf8 word bad = is_false _ (λ is. bad (IsUtf8-from_is_utf8 _ is))
 
 -- the usage error of a word that is not UTF-8 shows it
 pub shows_word : (word : List ℕ) (fault : UsageFault) → ¬ (IsUtf8 word) → IsLineOf (unreadable_text word) fault → IsUnreadable word fault
 shows_word word NoMemory bad known = tt
-shows_word word (Line text) bad known = (word, (refl, not_utf8 word bad), known)
+shows_word word (Line text) bad known = (word, (refl, not_utf8 _ bad), known)
 shows_word word (Help text) bad known = absurd known
 shows_word word (Version text) bad known = absurd known
 shows_word word (BadPath text) bad known = absurd known
@@ -37,7 +37,7 @@ pub shows_number : (given : Option (List (List ℕ))) (number : ℕ) (word : Lis
     → IsUnreadableWord given number fault
 shows_number given number word NoMemory at is = tt
 shows_number given number word (Line text) at is =
-    (is.0, (subst (λ (shown : List ℕ). IsWordAt given number (Some shown)) (sym is.1.0) at, is.1.1), is.2)
+    (is.0, (subst (λ shown. IsWordAt given number (Some shown)) (sym is.1.0) at, is.1.1), is.2)
 shows_number given number word (Help text) at is = absurd is
 shows_number given number word (Version text) at is = absurd is
 shows_number given number word (BadPath text) at is = absurd is
@@ -48,7 +48,7 @@ shows_number given number word (BadProxy text) at is = absurd is
 -- texts are UTF-8
 pub all_readable : (words : List (String Global)) → first_unreadable (map string_bytes words) ≡ None
 all_readable [] = refl
-all_readable (word ∷ words) = rw (is_utf8-from_IsUtf8 (string_bytes word) (IsUtf8-string_bytes word)) (all_readable words)
+all_readable (word ∷ words) = rw (is_utf8-from_IsUtf8 _ (IsUtf8-string_bytes word)) (all_readable words)
 
 -- the first of a word and others, where the word is not the one
 not_here : (test : Bool) (found : Option (List ℕ)) (front : List ℕ) → cond (not test) (Some front) found ≡ None → test ≡ true
@@ -63,8 +63,8 @@ first_is (front ∷ words) zero word none at bad =
     let same : front ≡ word = cc at in
     rw same (rw bad refl)
 first_is (front ∷ words) (suc number) word none at bad =
-    let good : is_utf8 front ≡ true = not_here (is_utf8 front) (first_unreadable (take number words)) front none in
-    rw good (first_is words number word (subst (λ (b : Bool). cond (not b) (Some front) (first_unreadable (take number words)) ≡ None) good none) at bad)
+    let good = not_here (is_utf8 front) _ _ none in
+    rw good (first_is words _ _ (subst (λ b. cond (not b) (Some front) (first_unreadable (take number words)) ≡ None) good none) at bad)
 
 -- these are the words before the one with a number
 abbrev pub AreBefore : Option (List (List ℕ)) → ℕ → List (String Global) → Type 0
@@ -76,7 +76,7 @@ none_before (Some all) = refl
 
 past : (all : List (List ℕ)) (number : ℕ) → None ≡ slice_get all number → length all ≤ number
 past all number none = elim (slice_get_cases all number).1 [
-  | inl within ↦ let wrong : None ≡ Some within.0 = none ∙ within.2 in cc wrong
+  | inl within ↦ let wrong = none ∙ within.2 in cc wrong
   | inr outside ↦ outside.0
 ]
 
@@ -86,7 +86,7 @@ pub all_before : (given : Option (List (List ℕ))) (number : ℕ) (words : List
     → IsWordAt given number (option_map string_bytes found) → AreGiven given (map string_bytes words)
 all_before None number words found before none is = tt
 all_before (Some all) number words found before none is =
-    before ∙ take_all number all (past all number (subst (λ (f : Option (String Global)). option_map string_bytes f ≡ slice_get all number) none is))
+    before ∙ take_all number all (past all number (subst (λ f. option_map string_bytes f ≡ slice_get all number) none is))
 
 -- with the word of that number, these are those before the next
 pub one_more : (given : Option (List (List ℕ))) (number : ℕ) (words new : List (String Global))
@@ -95,10 +95,10 @@ pub one_more : (given : Option (List (List ℕ))) (number : ℕ) (words new : Li
 one_more None number words new found word before some is same = tt
 one_more (Some all) number words new found word before some is same =
     let at : slice_get all number ≡ Some (string_bytes word) = sym is ∙ ap (option_map string_bytes) some in
-    let within = slice_get_within all number (string_bytes word) at in
-    let next : take (number + 1) all ≡ take number all ++ string_bytes word ∷ [] =
-    (take_at_read all number [] within).1 ∙ ap (λ (w : List ℕ). take number all ++ w ∷ []) (get_or_from_slice_get all number (string_bytes word) [] at) in
-    ap (map string_bytes) same ∙ map-append string_bytes words (word ∷ []) ∙ ap (λ (ws : List (List ℕ)). ws ++ string_bytes word ∷ []) before ∙ sym next
+    let within = slice_get_within all _ _ at in
+    let next =
+    (take_at_read all _ [] within).1 ∙ ap (λ w. take number all ++ w ∷ []) (get_or_from_slice_get all _ _ [] at) in
+    ap (map string_bytes) same ∙ map-append _ words (word ∷ []) ∙ ap (λ ws. ws ++ string_bytes word ∷ []) before ∙ sym next
 
 -- if it is not UTF-8, it is the first that isn't
 pub shows_first : (given : Option (List (List ℕ))) (number : ℕ) (words : List (String Global)) (fault : UsageFault) → AreBefore given number words
@@ -106,8 +106,8 @@ pub shows_first : (given : Option (List (List ℕ))) (number : ℕ) (words : Lis
 shows_first given number words NoMemory before is = tt
 shows_first None number words (Line text) before is = (is.0, (is.0 ∷ [], tt, rw is.1.1 refl), is.2)
 shows_first (Some all) number words (Line text) before is =
-    let none : first_unreadable (take number all) ≡ None = subst (λ (ws : List (List ℕ)). first_unreadable ws ≡ None) before (all_readable words) in
-    (is.0, (all, refl, first_is all number is.0 none (sym is.1.0) is.1.1), is.2)
+    let none : first_unreadable (take number all) ≡ None = subst (λ ws. first_unreadable ws ≡ None) before (all_readable words) in
+    (is.0, (all, refl, first_is _ number _ none (sym is.1.0) is.1.1), is.2)
 shows_first given number words (Help text) before is = absurd is
 shows_first given number words (Version text) before is = absurd is
 shows_first given number words (BadPath text) before is = absurd is

@@ -14,9 +14,9 @@ use Rattle.gomod_words.specs.Limits.{limit_of}
 unsigned : (text : List ℕ) → list_all is_ascii_digit text ≡ true → get_or text 0 0 ≢ 43
 unsigned [] all = λ e. absurd (omega (arith, e))
 unsigned (c ∷ text) all = λ e.
-    let first = (and_both (is_ascii_digit c) (list_all is_ascii_digit text) all).0 in
-    let plus : c ≡ 43 = e in
-    let bad : is_ascii_digit 43 ≡ true = subst (λ (d : ℕ). is_ascii_digit d ≡ true) plus first in
+    let first = (and_both _ _ all).0 in
+    let plus = e in
+    let bad : is_ascii_digit 43 ≡ true = subst (λ d. is_ascii_digit d ≡ true) plus first in
     cc bad
 
 pub limit_no_digits : (text : List ℕ) → list_all is_ascii_digit text ≡ false → limit_of text ≡ None
@@ -46,32 +46,32 @@ pub limit_read : {E : Type 0} (text : List ℕ) (n : ℕ) → list_all is_ascii_
     → r ≡ Ok n → ParsesUnsigned 32 10 text r → 0 < n → Some n ≡ limit_of text
 limit_read {E} text n all r is parsed some =
     let known = rw is at (parse_plain digits 32 text r parsed (unsigned text all)) in
-    let same : n ≡ digits_value 10 text = known.1 in
-    let below : digits_value 10 text < 2 ^ 32 = known.0.2 in
-    let value : 0 < digits_value 10 text = subst (λ (m : ℕ). 0 < m) same some in
+    let same = known.1 in
+    let below = known.0.2 in
+    let value : 0 < digits_value 10 text = subst (λ m. 0 < m) same some in
     let first : nat_lt 0 (digits_value 10 text) ≡ true = grind (arith, nat_tests) in
     let second : nat_lt (digits_value 10 text) (2 ^ 32) ≡ true = grind (arith, nat_tests) in
-    ap Some same ∙ sym (limit_by text (nat_lt 0 (digits_value 10 text)) (nat_lt (digits_value 10 text) (2 ^ 32)) all refl refl (and_from _ _ first second))
+    ap Some same ∙ sym (limit_by _ _ _ all refl refl (and_from _ _ first second))
 
 pub limit_zero : {E : Type 0} (text : List ℕ) (n : ℕ) → list_all is_ascii_digit text ≡ true → (r : Result ℕ E)
     → r ≡ Ok n → ParsesUnsigned 32 10 text r → n ≤ 0 → None ≡ limit_of text
 limit_zero {E} text n all r is parsed none =
     let known = rw is at (parse_plain digits 32 text r parsed (unsigned text all)) in
-    let same : n ≡ digits_value 10 text = known.1 in
-    let value : digits_value 10 text ≤ 0 = subst (λ (m : ℕ). m ≤ 0) same none in
+    let same = known.1 in
+    let value : digits_value 10 text ≤ 0 = subst (λ m. m ≤ 0) same none in
     let first : nat_lt 0 (digits_value 10 text) ≡ false = grind (arith, nat_tests) in
-    sym (none_by text (nat_lt 0 (digits_value 10 text)) (nat_lt (digits_value 10 text) (2 ^ 32)) all refl refl (and_left _ _ first))
+    sym (none_by _ _ _ all refl refl (and_left _ _ first))
 
 unread_by : (text : List ℕ) (a b : Bool) → list_all is_ascii_digit text ≡ true → a ≡ nat_lt 0 (digits_value 10 text)
     → b ≡ nat_lt (digits_value 10 text) (2 ^ 32)
     → ¬ ((list_all is_ascii_digit text ≡ true) × (0 < length text) × (digits_value 10 text < 2 ^ 32)) → limit_of text ≡ None
 unread_by text true true all some below none =
     let fits : digits_value 10 text < 2 ^ 32 = grind (arith, nat_tests) in
-    absurd (none (all, has_some text some, fits))
-unread_by text true false all some below none = none_by text true false all some below refl
-unread_by text false b all some below none = none_by text false b all some below refl
+    absurd (none (all, has_some _ some, fits))
+unread_by text true false all some below none = none_by _ _ _ all some below refl
+unread_by text false b all some below none = none_by _ _ b all some below refl
 
 pub limit_unread : {E : Type 0} (text : List ℕ) (e : E) → list_all is_ascii_digit text ≡ true → ParsesUnsigned 32 10 text (Err e) → limit_of text ≡ None
 limit_unread {E} text e all parsed =
-    unread_by text (nat_lt 0 (digits_value 10 text)) (nat_lt (digits_value 10 text) (2 ^ 32)) all refl refl
+    unread_by _ _ _ all refl refl
     (parse_plain digits {E = E} 32 text (Err e) parsed (unsigned text all))

@@ -51,7 +51,7 @@ shows_usage (program ∷ first ∷ words) fault shows = shows
 -- a text that a word has in it is in one of the words
 pub within_at : (text : List ℕ) (words : List (Bor Text)) (i : ℕ) (d : Bor Text) → i < length words
     → HasSubslice (get_or words i d).now text → IsInAWord text (texts_of words)
-within_at text words i d less has = ((get_or words i d).now, map_at (λ (w : Bor Text). w.now) words i d less, has)
+within_at text words i d less has = ((get_or words i d).now, map_at (λ w. w.now) _ i d less, has)
 
 -- what stands before the first such mark doesn't have it
 pub front_lacks : (mark text front back : List ℕ) → 0 < length mark → SplitsAroundMatch (FindsText mark) text front back → HasSubslice front mark → ⊥
@@ -60,7 +60,7 @@ front_lacks mark text front back some splits has =
     let i = splits.0 in
     let rest = has.1 ++ drop i text in
     let whole : text ≡ a ++ (mark ++ rest) =
-    sym (take-append-drop i text) ∙ ap (λ (l : List ℕ). l ++ drop i text) (sym splits.3 ∙ has.2)
-    ∙ append_assoc a (mark ++ has.1) (drop i text) ∙ ap (λ (l : List ℕ). a ++ l) (append_assoc mark has.1 (drop i text)) in
+    sym (take-append-drop i _) ∙ ap (λ l. l ++ drop i text) (sym splits.3 ∙ has.2)
+    ∙ append_assoc a _ _ ∙ ap (λ l. a ++ l) (append_assoc mark _ _) in
     let less : length a < i = omega (arith, splits.6, ap length has.2, length-append a (mark ++ has.1), length-append mark has.1, some) in
     splits.2.0 (length a) less rest (ap (drop (length a)) whole ∙ drop_at a (mark ++ rest) (length a) refl)
