@@ -24,7 +24,7 @@ IsFew run = (xs : List ModuleVersion) → AreOpened run xs → length xs ≤ 655
 
 in_or_out : (x : ModuleVersion) (all : List ModuleVersion) → Contains all x ⊎ (list_any (pair_eq x) all ≡ false)
 in_or_out x [] = inr refl
-in_or_out x (first ∷ all) = by_test (pair_eq x first) refl (in_or_out x all)
+in_or_out x (first ∷ all) = by_test _ refl (in_or_out x all)
   where
     by_test : (b : Bool) → pair_eq x first ≡ b → Contains all x ⊎ (list_any (pair_eq x) all ≡ false)
         → Contains (first ∷ all) x ⊎ (list_any (pair_eq x) (first ∷ all) ≡ false)
@@ -42,13 +42,13 @@ module _ (run : Run) (few : IsFew run) where
   one_more : (all : List ModuleVersion) (x : ModuleVersion) → AreOpened run all → IsOpened run x → list_any (pair_eq x) all ≡ false
       → AreOpened run (all ++ x ∷ [])
   one_more all x are is out = record {
-    once = IsDistinct-push pairs-equivalence all x are.once out;
-    each = λ y there. elim (Contains-push_cases all x y there) [ inl before ↦ are.each y before | inr same ↦ subst (IsOpened run) same is ];
+    once = IsDistinct-push pairs-equivalence _ x are.once out;
+    each = λ y there. elim (Contains-push_cases _ x y there) [ inl before ↦ are.each y before | inr same ↦ subst (IsOpened run) same is ];
   }
 
   are_all : (all : List ModuleVersion) → AreOpened run all → ((x : ModuleVersion) → AreOpened run (all ++ x ∷ []) → ⊥) → AreAll all
   are_all all are full x = (
-    (λ is. elim (in_or_out x all) [ inl there ↦ there | inr out ↦ absurd (full x (one_more all x are is out)) ]),
+    (λ is. elim (in_or_out x _) [ inl there ↦ there | inr out ↦ absurd (full x (one_more all x are is out)) ]),
     are.each x,
   )
 
@@ -58,7 +58,7 @@ module _ (run : Run) (few : IsFew run) where
       → ((whole : List ModuleVersion) → AreAll whole → ⊥) → ⊥
   opened_from zero all are long none = none all (are_all all are (λ x more.
       let size = few (all ++ x ∷ []) more in omega (arith, length-append all (x ∷ []), size, long)))
-  opened_from (suc n) all are long none = none all (are_all all are (λ x more.
+  opened_from (suc n) all are long none = none all (are_all _ are (λ x more.
       opened_from n (all ++ x ∷ []) more (omega (arith, length-append all (x ∷ []), long)) none))
 
   -- ---- the edges that leave them
@@ -73,7 +73,7 @@ module _ (run : Run) (few : IsFew run) where
   required_listed : (s : Step) → ((ys : List ModuleVersion) → ((y : ModuleVersion) → Leads s y ↔ Contains ys y) → ⊥) → ⊥
   required_listed FromMain none = none (without_excluded run.main run.main.requirements) (λ y. ((λ top. top), (λ top. top)))
   required_listed (Of x) none = none [] (λ y. (
-    (λ (file, says, there). absurd (none (without_excluded run.main file.requirements) (required_of run x file says))),
+    (λ (file, says, there). absurd (none (without_excluded run.main file.requirements) (required_of _ x _ says))),
     (λ there. absurd (no_member y there)),
   ))
 
@@ -86,25 +86,25 @@ module _ (run : Run) (few : IsFew run) where
   leaving_more t steps ys edges are same s y = (from, to)
     where
       from : Contains (map (edge t) ys ++ edges) (edge s y) → Leaves (t ∷ steps) s y
-      from there = elim (Contains-append_cases (map (edge t) ys) edges (edge s y) there) [
-        | inl own ↦ (let (z, inside, is) = from_mapped (edge t) ys (edge s y) own in
-            let leaves : Leaves (t ∷ steps) t z = (member_head t steps, (are z).1 inside) in
-            subst (λ (e : Edge). Leaves (t ∷ steps) e.from e.to) is leaves)
-        | inr other ↦ (let (behind, leads) = (same s y).0 other in (member_tail t s steps behind, leads))
+      from there = elim (Contains-append_cases _ _ _ there) [
+        | inl own ↦ (let (z, inside, is) = from_mapped _ _ _ own in
+            let leaves : Leaves (t ∷ steps) t z = (member_head t _, (are z).1 inside) in
+            subst (λ e. Leaves (t ∷ steps) e.from e.to) is leaves)
+        | inr other ↦ (let (behind, leads) = (same s y).0 other in (member_tail t s _ behind, leads))
       ]
 
       to : Leaves (t ∷ steps) s y → Contains (map (edge t) ys ++ edges) (edge s y)
-      to (there, leads) = elim (member_cases t s steps there) [
-        | inl is ↦ Contains-append_left (map (edge t) ys) edges (edge s y)
-            (subst (λ (u : Step). Contains (map (edge t) ys) (edge u y)) is
-            (in_mapped (edge t) ys y ((are y).0 (subst (λ (u : Step). Leads u y) (sym is) leads))))
-        | inr behind ↦ Contains-append_right (map (edge t) ys) edges (edge s y) ((same s y).1 (behind, leads))
+      to (there, leads) = elim (member_cases t s _ there) [
+        | inl is ↦ Contains-append_left _ _ _
+            (subst (λ u. Contains (map (edge t) ys) (edge u y)) is
+            (in_mapped _ _ y ((are y).0 (subst (λ u. Leads u y) (sym is) leads))))
+        | inr behind ↦ Contains-append_right _ _ _ ((same s y).1 (behind, leads))
       ]
 
   leaving : (steps : List Step) → ((edges : List Edge) → AreSame (among edges) (Leaves steps) → ⊥) → ⊥
-  leaving [] none = none [] (λ s y. ((λ there. absurd (no_member (edge s y) there)), (λ leaves. absurd (no_member s leaves.0))))
+  leaving [] none = none [] (λ s y. ((λ there. absurd (no_member _ there)), (λ leaves. absurd (no_member s leaves.0))))
   leaving (t ∷ steps) none =
-      leaving steps (λ edges same. required_listed t (λ ys are. none (map (edge t) ys ++ edges) (leaving_more t steps ys edges are same)))
+      leaving steps (λ edges same. required_listed t (λ ys are. none (map (edge t) ys ++ edges) (leaving_more t _ ys _ are same)))
 
   module_among : (all : List ModuleVersion) (x : ModuleVersion) → Contains (FromMain ∷ map Of all) (Of x) → Contains all x
   module_among all x there = elim (member_cases FromMain (Of x) (map Of all) there) [

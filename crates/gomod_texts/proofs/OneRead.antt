@@ -23,7 +23,7 @@ same_lines content a b is other = (other.1.only (plain_lines a) Whole is.1.reads
 -- a file has exactly one meaning
 pub one_main : (content : List ℕ) (a b : Main) → IsMainFile content a → IsMainFile content b → a ≡ b
 one_main content a b (lines, (is, sound), says) (others, (other, whole), tells) =
-    let same = same_lines content lines others is other in
+    let same = same_lines _ _ _ is other in
     let mains : main_of lines ≡ main_of others = rw same refl in sym says ∙ mains ∙ tells
 
 -- ---- the go.sum
@@ -47,7 +47,7 @@ FindSame a b = (name : Name) (content : List ℕ) → sum_fault a name content �
 same_found : (text : List ℕ) (a b : Sums) → ReadsAs a text → ReadsAs b text → FindSame (Some a) (Some b)
 same_found text a b is other (mod_file path version) content =
     let hash = file_hash content in
-    ap class_of_sum (one_says text path version hash (check_in a path version hash) (check_in b path version hash)
+    ap class_of_sum (one_says _ _ _ _ _ _
     (is path version hash) (other path version hash))
 same_found text a b is other (folder_file folder) content = refl
 same_found text a b is other (list_file path) content = refl
@@ -58,7 +58,7 @@ one_finding None None (Some b) is other = absurd other
 one_finding None (Some a) b is other = absurd is
 one_finding (Some text) None b is other = absurd is
 one_finding (Some text) (Some a) None is other = absurd other
-one_finding (Some text) (Some a) (Some b) is other = same_found text a b is.2 other.2
+one_finding (Some text) (Some a) (Some b) is other = same_found _ a b is.2 other.2
 
 -- ---- what the files of modules say is the same with either of these tables
 
@@ -66,4 +66,4 @@ pub read_alike : (a b : Option Sums) → FindSame a b → (name : Name) (reply :
     → IsFileReading a name reply said → IsFileReading b name reply said
 read_alike a b same name absent said is = is
 read_alike a b same name too_long said is = is
-read_alike a b same name (bytes content) said is = subst (λ (o : Option Class). IsReadUnless o content said) (same name content) is
+read_alike a b same name (bytes content) said is = subst (λ o. IsReadUnless o content said) (same name content) is

@@ -13,29 +13,29 @@ use Rattle.gomod_texts.specs.Outcome.{text_outcome}
 -- there are no more rows than are left out
 pub nothing_left : (limit : Option ℕ) (from : ℕ) (rows : List (Row Right)) → length rows < from
     → [] ≡ up_to limit (drop from (entries_of_rows rows))
-nothing_left None from rows less = sym (drop-map entry_of_row from rows ∙ ap entries_of_rows (drop_all from rows (omega arith)))
+nothing_left None from rows less = sym (drop-map _ _ rows ∙ ap entries_of_rows (drop_all _ rows (omega arith)))
 nothing_left (Some n) from rows less =
-    sym (ap (take n) (drop-map entry_of_row from rows ∙ ap entries_of_rows (drop_all from rows (omega arith))) ∙ take-nil n)
+    sym (ap (take n) (drop-map _ _ rows ∙ ap entries_of_rows (drop_all _ rows (omega arith))) ∙ take-nil n)
 
 -- the rows that are left, up to the limit
 pub part_left : (limit : Option ℕ) (from count : ℕ) (rows : List (Row Right))
     → ((entries : List Entry) → length entries ≡ length (take (length rows - from) (drop from rows)) → take count entries ≡ up_to limit entries)
     → entries_of_rows (take count (take (length rows - from) (drop from rows))) ≡ up_to limit (drop from (entries_of_rows rows))
 part_left limit from count rows is =
-    let size : length (drop from rows) ≡ length rows - from = length-drop from rows in
-    let all : take (length rows - from) (drop from rows) ≡ drop from rows = take_all _ _ (omega (arith, size)) in
-    ap (λ (left : List (Row Right)). entries_of_rows (take count left)) all
-    ∙ sym (take-map entry_of_row count (drop from rows))
-    ∙ is (entries_of_rows (drop from rows)) (length-map (drop from rows) entry_of_row ∙ ap length (sym all))
-    ∙ ap (up_to limit) (sym (drop-map entry_of_row from rows))
+    let size = length-drop from rows in
+    let all = take_all _ _ (omega (arith, size)) in
+    ap (λ left. entries_of_rows (take count left)) all
+    ∙ sym (take-map _ _ _)
+    ∙ is (entries_of_rows (drop from rows)) (length-map _ _ ∙ ap length (sym all))
+    ∙ ap (up_to limit) (sym (drop-map _ from rows))
 
 -- the rows after that of a path, of which the list has as many as it has more than those before them
 pub after_row : (entries before : List Entry) (entry : Entry) (rest : List Entry) → entries ≡ before ++ entry ∷ rest
     → drop (length entries - length rest) entries ≡ rest
 after_row entries before entry rest parts =
-    let size : length entries ≡ length before + suc (length rest) = ap length parts ∙ length-append before (entry ∷ rest) in
+    let size : length entries ≡ length before + suc (length rest) = ap length parts ∙ length-append _ _ in
     let place : length entries - length rest ≡ length before + 1 = omega (arith, size) in
-    ap (λ (n : ℕ). drop n entries) place ∙ ap (drop (length before + 1)) parts ∙ drop-append-add before (entry ∷ rest) 1
+    ap (λ n. drop n entries) place ∙ ap (drop (length before + 1)) parts ∙ drop-append-add before _ 1
 
 -- they are printed
 pub rest_shown : (main : Main) (all rest : List (Row Right)) (rows : List Entry) (path : List ℕ) (count : ℕ) (limit : Option ℕ)
@@ -44,6 +44,6 @@ pub rest_shown : (main : Main) (all rest : List (Row Right)) (rows : List Entry)
 rest_shown main all rest rows path count limit lent counted (entry, at) =
     let place : length all - count ≡ length rows - length (entries_of_rows rest) =
     omega (arith, ap length lent, length-map all entry_of_row, counted, length-map rest entry_of_row) in
-    path_listed path (entries_of_rows rest) refl (entry, at)
-    (ap (λ (es : List Entry). text_outcome (list_text main.path (up_to limit es)))
-    (ap (λ (n : ℕ). drop n rows) place ∙ after_row rows at.before entry (entries_of_rows rest) at.parts))
+    path_listed path _ refl (entry, at)
+    (ap (λ es. text_outcome (list_text main.path (up_to limit es)))
+    (ap (λ n. drop n rows) place ∙ after_row rows _ entry _ at.parts))

@@ -2,7 +2,6 @@
 use Rattle.std.proofs.Common.{◌≡◌, ◌≢◌, ◌∙◌, ◌⊎◌, ◌<◌, ℕ, false, List, [], ◌∷◌, ◌++◌, take, map, Option, Some, None, Contains, ap, sym, refl, subst, inl, inr, arith}
 use Rattle.std.specs.List.{flat_map}
 use Rattle.std.specs.Ordering.{is_gt}
-use Rattle.std.specs.Str.{bytes_eq}
 use Rattle.std.proofs.Math.Seq.{take-nil}
 use Rattle.std.proofs.lemmas.Bool.{cases_Bool}
 use Rattle.std.proofs.lemmas.Grind.{flat_map-append}
@@ -14,7 +13,7 @@ use Rattle.gm_store_sums.specs.Sums.{Sums}
 use Rattle.gm_file.specs.Directives.{Right}
 use Rattle.gm_graph_select.specs.declared.step.Edge.{Edge}
 use Rattle.gm_graph_select.specs.declared.step.Step.TheVariants.{Main as FromMain}
-use Rattle.gm_graph_select.specs.BuildList.{IsBuildList, IsRestAfter, IsSelected, path_of}
+use Rattle.gm_graph_select.specs.BuildList.{IsBuildList, IsRestAfter, IsSelected}
 use Rattle.gm_graph.specs.Entries.{Entry}
 use Rattle.gm_graph_select.specs.Graph.{Edges, IsEdgeEnd, among, edge}
 use Rattle.gm_graph_select.specs.Laws.{ArePages as AreRowPages, entries_of_pages, no_more, one_more}
@@ -36,17 +35,17 @@ abbrev pub Printed : Prints → Given → Outcome → Type 0
 Printed prints run outcome = (main : Main) × (table : Option Sums) × AreFound run main table [] × prints (run_of main table run.answers.asked) outcome
 
 pub not_refused : (report : List ℕ) (outcome : Outcome) → outcome ≡ refusal_outcome report → outcome.status ≡ 0 → ⊥
-not_refused report outcome same is = let code = ap (λ (o : Outcome). o.status) same in omega (arith, code, is)
+not_refused report outcome same is = let code = ap (λ o. o.status) same in omega (arith, code, is)
 
 pub not_failed : (report : List ℕ) (outcome : Outcome) → outcome ≡ failure_outcome report → outcome.status ≡ 0 → ⊥
-not_failed report outcome same is = let code = ap (λ (o : Outcome). o.status) same in omega (arith, code, is)
+not_failed report outcome same is = let code = ap (λ o. o.status) same in omega (arith, code, is)
 
 pub printed_run : (prints : Prints) (run : Given) (outcome : Outcome) → QueryEnds prints run outcome → outcome.status ≡ 0 → Printed prints run outcome
 printed_run prints run outcome (bad_main place misread none says) is = absurd (not_refused _ outcome says is)
 printed_run prints run outcome (bad_sums main report reads misread none says) is = absurd (not_refused _ outcome says is)
 printed_run prints run outcome (device main table name are due one says) is = absurd (not_failed _ outcome says is)
-printed_run prints run outcome (too_many main table are read over none says) is = absurd (not_refused _ outcome says is)
-printed_run prints run outcome (faulty main table first others found says) is = absurd (not_refused _ outcome says is)
+printed_run prints run outcome (too_many main table are read over none says) is = absurd (not_refused _ _ says is)
+printed_run prints run outcome (faulty main table first others found says) is = absurd (not_refused _ _ says is)
 printed_run prints run outcome (no_fault main table found says) is = (main, table, found, says)
 
 -- without a path all rows are printed
@@ -61,12 +60,12 @@ all_rows main rows limit outcome (path_unlisted path given says) = absurd (cc gi
 with_path : (path : List ℕ) (xs : List ModuleVersion) → ((x : ModuleVersion) × Contains xs x × (x.0 ≡ path))
     ⊎ ((x : ModuleVersion) → Contains xs x → x.0 ≢ path)
 with_path path [] = inr (λ x there. absurd (no_member x there))
-with_path path (first ∷ xs) = elim (cases_Bool (bytes_eq first.0 path)) [
+with_path path (first ∷ xs) = elim (cases_Bool _) [
   | inl same ↦ inl (first, member_head first xs, bytes_eq-same first.0 path same)
   | inr other ↦ elim (with_path path xs) [
     | inl found ↦ inl (found.0, member_tail first found.0 xs found.1, found.2)
-    | inr none ↦ inr (λ x there. elim (member_cases first x xs there) [
-      | inl same ↦ subst (λ (z : ModuleVersion). z.0 ≢ path) same (bytes_eq-differ first.0 path other)
+    | inr none ↦ inr (λ x there. elim (member_cases _ x xs there) [
+      | inl same ↦ subst (λ z. z.0 ≢ path) same (bytes_eq-differ _ _ other)
       | inr behind ↦ none x behind
     ])
   ]
@@ -117,14 +116,14 @@ module _ (main : List ℕ) (replaces : ModuleVersion → Option Right) (E : Edge
 
   own_end : (x : ModuleVersion) → IsEdgeEnd (among own_edges) x → Contains list.selected x
   own_end x (s, there) =
-      let (z, inside, same) = from_mapped (edge FromMain) list.selected (edge s x) there in
-      subst (λ (w : ModuleVersion). Contains list.selected w) (ap (λ (e : Edge). e.to) same) inside
+      let (z, inside, same) = from_mapped _ _ _ there in
+      subst (λ (w : ModuleVersion). Contains list.selected w) (ap (λ e. e.to) same) inside
 
   own_selected : (x : ModuleVersion) → Contains list.selected x → IsSelected main (among own_edges) x
   own_selected x there =
       let is = (list.each x).0 there in record {
         not_main = is.not_main;
-        is_end = (FromMain, in_mapped (edge FromMain) list.selected x there);
+        is_end = (FromMain, in_mapped _ _ x there);
         greatest = λ y end same. is.greatest y ((list.each y).0 (own_end y end)).is_end same;
       }
 
@@ -143,7 +142,7 @@ module _ (main : List ℕ) (replaces : ModuleVersion → Option Right) (E : Edge
 
 pub texts_join : (main : List ℕ) (pages : List (List Entry)) → list_text main (entries_of_pages pages) ≡ flat_map (list_text main) pages
 texts_join main [] = refl
-texts_join main (page ∷ pages) = flat_map-append _ page (entries_of_pages pages) ∙ ap (λ (t : List ℕ). list_text main page ++ t) (texts_join main pages)
+texts_join main (page ∷ pages) = flat_map-append _ page _ ∙ ap (λ t. list_text main page ++ t) (texts_join _ pages)
 
 module _ (run : Given) (main : Main) (table : Option Sums) (found : AreFound run main table []) (rows : List Entry)
     (list : AreRows (run_of main table run.answers.asked) rows) (n : ℕ) where
@@ -154,19 +153,19 @@ module _ (run : Given) (main : Main) (table : Option Sums) (found : AreFound run
 
   page_printed : (after : Option (List ℕ)) (left : List Entry) → AreLeft after left
       → ListEnds after (Some n) run (text_outcome (list_text main.path (take n left)))
-  page_printed None left is = no_fault main table found (rows, list, no_path refl (ap (λ (es : List Entry). text_outcome (list_text main.path (take n es))) is))
-  page_printed (Some path) left is = no_fault main table found (rows, list, path_listed path left refl is refl)
+  page_printed None left is = no_fault _ _ found (rows, list, no_path refl (ap (λ es. text_outcome (list_text main.path (take n es))) is))
+  page_printed (Some path) left is = no_fault _ _ found (rows, list, path_listed _ _ refl is refl)
 
   paged : {left : List Entry} {pages : List (List Entry)} (after : Option (List ℕ)) → AreLeft after left
       → AreRowPages main.path rows n left pages → ArePrintedPages run main.path n after pages
   paged after is no_more = no_row (rw take-nil at (page_printed after [] is))
   paged after is (one_more {left} {rest} {pages} front last page behind more) =
-      rw page (one_page front last (rw page at (page_printed after left is)) (paged (Some (path_of main.path last.0)) behind more))
+      rw page (one_page _ _ (rw page at (page_printed _ _ is)) (paged _ behind more))
 
 pub pages_join : PrintedPagesJoin
 pages_join run n whole some is ends =
-    let (main, table, found, (rows, list, says)) = printed_run (PrintsList None None) run whole is ends in
-    let r : Run = run_of main table run.answers.asked in
+    let (main, table, found, (rows, list, says)) = printed_run _ run _ is ends in
+    let r = run_of main _ _ in
     let (pages, paging, joins) = row_pages main.path (replacement_in main) (IsEdge r) rows list n some in (
       main,
       table,
@@ -174,5 +173,5 @@ pages_join run n whole some is ends =
       found,
       rw joins list,
       paged run main table found rows list n None refl paging,
-      ap (λ (o : Outcome). o.text) (all_rows main rows None whole says) ∙ ap (list_text main.path) (sym joins) ∙ texts_join main.path pages,
+      ap (λ o. o.text) (all_rows main rows None whole says) ∙ ap (list_text main.path) (sym joins) ∙ texts_join _ pages,
     )

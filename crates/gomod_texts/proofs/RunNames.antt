@@ -10,8 +10,7 @@ use Rattle.gm_file.specs.Fields.{Dependency, replacement_of}
 use Rattle.gm_file.specs.Main.{Main, is_excluded, without_excluded, IsMainFile, replacement_in}
 use Rattle.gm_file.specs.declared.misreading.Misreading.TheVariants as misreading
 use Rattle.gm_store_parts.specs.Asked.{Name, Reply, absent, bytes, mod_file, too_long}
-use Rattle.gm_store_sums.specs.Hash.{file_hash}
-use Rattle.gm_store_sums.specs.Sums.{Sums, check_in}
+use Rattle.gm_store_sums.specs.Sums.{Sums}
 use Rattle.gm_store_sums.specs.declared.sum_table.Sum.{Sum}
 use Rattle.gm_store_sums.specs.declared.sum_table.Sum.TheVariants.{Good, Unlisted, Differs}
 use Rattle.gm_graph_files.specs.declared.class.Class.{Class}
@@ -45,7 +44,7 @@ sum_proper Differs = tt
 
 found_proper : (table : Option Sums) (name : Name) (content : List ℕ) → IfSome (sum_fault table name content) IsProperClass
 found_proper None name content = tt
-found_proper (Some table) (mod_file path version) content = sum_proper (check_in table path version (file_hash content))
+found_proper (Some table) (mod_file path version) content = sum_proper _
 found_proper (Some table) name content = tt
 
 content_proper : (content : List ℕ) (said : Result Dependency Class) → IsContentReading content said → IsProper said
@@ -58,7 +57,7 @@ content_proper content (Err class) is = tt
 
 unless_proper : (o : Option Class) (content : List ℕ) (said : Result Dependency Class) → IfSome o IsProperClass → IsReadUnless o content said → IsProper said
 unless_proper (Some class) content said proper is = subst IsProper (sym is) proper
-unless_proper None content said proper is = content_proper content said is
+unless_proper None content said proper is = content_proper _ _ is
 
 reply_proper : (table : Option Sums) (name : Name) (reply : Reply) (said : Result Dependency Class) → IsFileReading table name reply said → IsProper said
 reply_proper table name absent said is = subst IsProper (sym is) tt
@@ -83,23 +82,23 @@ IsProperMain main = IsPath main.path × AllByRecursion IsName main.requirements 
 main_proper : (file : List ℕ) (main : Main) → IsMainFile file main → IsProperMain main
 main_proper file main (lines, (parsed, none), is) =
     let ds = directives Strict (plain_lines lines) in
-    let are = said_properly Strict file lines parsed none in
+    let are = said_properly _ _ _ parsed none in
     subst IsProperMain is
-    (proper_path ds are (faultless-apart (plain_lines lines) none).declared, proper_requirements ds are, λ x. proper_replacement ds x are)
+    (proper_path ds are (faultless-apart _ none).declared, proper_requirements ds are, λ x. proper_replacement ds x are)
 
 -- ---- the run
 
 module _ (run : Run) (file : List ℕ) (main_is : IsMainFile file run.main) where
   kept_name : (xs : List ModuleVersion) (x : ModuleVersion) → AllByRecursion IsName xs → Contains (without_excluded run.main xs) x → IsName x
   kept_name xs x are there =
-      All-contains IsName (without_excluded run.main xs) x
-      (All-filter (λ y. not (is_excluded run.main y)) IsName xs (All-from_recursion IsName xs are)) there
+      All-contains IsName _ x
+      (All-filter (λ y. not (is_excluded run.main y)) IsName xs (All-from_recursion _ xs are)) there
 
   top_name : (x : ModuleVersion) → IsTop run x → IsName x
-  top_name x top = kept_name run.main.requirements x (main_proper file run.main main_is).1 top
+  top_name x top = kept_name _ x (main_proper file run.main main_is).1 top
 
   required_name : (x y : ModuleVersion) → Requires run x y → IsName y
-  required_name x y (required, says, there) = kept_name required.requirements y (says_proper says) there
+  required_name x y (required, says, there) = kept_name _ y (says_proper says) there
 
   deep_name : {x : ModuleVersion} → IsDeep run x → IsName x
   deep_name (from_main {x} unpruned top) = top_name x top
@@ -119,29 +118,29 @@ module _ (run : Run) (file : List ℕ) (main_is : IsMainFile file run.main) wher
   start_proper (Of x) y (opens, requires) = opened_name x opens
 
   chain_proper : {s : Step} {steps : List Step} → IsChain (IsEdge run) s steps → AreProperSteps steps
-  chain_proper begins step there = elim (member_cases FromMain step [] there) [
+  chain_proper begins step there = elim (member_cases _ _ [] there) [
     | inl same ↦ subst IsProperStep same tt
-    | inr none ↦ absurd (no_member step none)
+    | inr none ↦ absurd (no_member _ none)
   ]
   chain_proper (goes_on {s} {y} {steps} chain before) step there =
       let first : Contains steps step → IsProperStep step = λ inside. chain_proper chain step inside in
-      elim (Contains-push_cases steps (Of y) step there) [
+      elim (Contains-push_cases _ _ _ there) [
         | inl inside ↦ first inside
         | inr same ↦ subst IsProperStep same (end_name s y before.is_edge)
       ]
 
 pub run_has_names : RunHasNames
 run_has_names run main table read =
-    let r : Run = run_of main table run.answers.asked in (
-      (main_proper run.file main read.main_file).0,
+    let r = run_of _ _ _ in (
+      (main_proper _ _ read.main_file).0,
       opened_name r run.file read.main_file,
-      (λ x vertex. end_name r run.file read.main_file vertex.0 x vertex.1),
+      (λ x vertex. end_name r _ read.main_file vertex.0 x vertex.1),
     )
 
 pub run_has_proper_faults : RunHasProperFaults
 run_has_proper_faults run main table faults read are one there =
     let (opens, says) = (are.each one).0 there in
-    let names = opened_name (run_of main table run.answers.asked) run.file read.main_file one.vertex opens in
+    let names = opened_name _ run.file read.main_file one.vertex opens in
     (names.0, names.1, says_proper says)
 
 pub run_has_proper_rows : RunHasProperRows
@@ -159,8 +158,8 @@ run_has_proper_rows run main table rows read are row there =
 pub run_has_proper_edges : RunHasProperEdges
 run_has_proper_edges run main table edges read are one there =
     let is = (are.each one).0 there in
-    let r : Run = run_of main table run.answers.asked in
-    (start_proper r run.file read.main_file one.from one.to is, end_name r run.file read.main_file one.from one.to is)
+    let r = run_of _ _ _ in
+    (start_proper r _ read.main_file one.from one.to is, end_name r _ read.main_file one.from one.to is)
 
 pub run_has_proper_steps : RunHasProperSteps
-run_has_proper_steps run main table s steps read chain = chain_proper (run_of main table run.answers.asked) run.file read.main_file chain
+run_has_proper_steps run main table s steps read chain = chain_proper (run_of _ _ _) run.file read.main_file chain

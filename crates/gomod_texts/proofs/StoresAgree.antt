@@ -19,7 +19,7 @@ pub alike_reversed : (one other : Given) → AreAlike one other → AreAlike oth
 alike_reversed one other alike = record {
   file = sym alike.file;
   sums = sym alike.sums;
-  answers = alike_back one.answers.asked other.answers.asked alike.answers;
+  answers = alike_back _ _ alike.answers;
   failed = sym alike.failed;
 }
 
@@ -30,8 +30,8 @@ itself run = record { file = refl; sums = refl; answers = λ name x y e f. let s
 pub read_as_well : (one other : Given) (main : Main) (table : Option Sums) → AreAlike one other
     → FilesReadAs one.file one.sums main table → FilesReadAs other.file other.sums main table
 read_as_well one other main table alike are = record {
-  main_file = subst (λ (bytes : List ℕ). IsMainFile bytes main) alike.file are.main_file;
-  sums = subst (λ (sums : Option (List ℕ)). AreSums sums table) alike.sums are.sums;
+  main_file = subst (λ bytes. IsMainFile bytes main) alike.file are.main_file;
+  sums = subst (λ sums. AreSums sums table) alike.sums are.sums;
 }
 
 -- If all that the second run needs was asked for, it says of what it opens what the first run says of that.
@@ -40,9 +40,9 @@ pub stores_agree : (one other : Given) (main again : Main) (table next : Option 
     → IsSettled (run_of again next other.answers.asked) (names_in other.answers.asked)
     → Agrees (run_of main table one.answers.asked) (run_of again next other.answers.asked)
 stores_agree one other main again table next alike read reads settled =
-    let here = read_as_well one other main table alike read in
-    agree (run_of main table one.answers.asked) (run_of again next other.answers.asked) (one_main other.file main again here.main_file reads.main_file)
+    let here = read_as_well _ _ _ _ alike read in
+    agree _ _ (one_main _ _ _ here.main_file reads.main_file)
     (λ name a b first second said is.
-    read_alike table next (one_finding other.sums table next here.sums reads.sums) name b said
-    (subst (λ (reply : Reply). IsFileReading table name reply said) (alike.answers name a b first second) is))
-    (settled_answers again next other.answers.asked settled)
+    read_alike _ _ (one_finding _ _ _ here.sums reads.sums) _ b _
+    (subst (λ reply. IsFileReading table name reply said) (alike.answers name a b first second) is))
+    (settled_answers _ _ _ settled)

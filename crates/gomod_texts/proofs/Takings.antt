@@ -1,5 +1,5 @@
 -- What a sink took of texts that were written one after another.
-use Rattle.std.proofs.Common.{◌≡◌, ◌∙◌, ◌+◌, ◌-◌, ◌<◌, ◌≤◌, ◌++◌, ℕ, List, [], length, take, Option, Some, None, Result, Ok, Err, OnOk, OnErr, refl, sym, ap, subst, arith, length-append}
+use Rattle.std.proofs.Common.{◌≡◌, ◌∙◌, ◌+◌, ◌-◌, ◌≤◌, ◌++◌, ℕ, List, [], length, take, Option, Some, None, Result, Ok, Err, OnOk, OnErr, refl, sym, ap, subst, arith, length-append}
 use Rattle.std.proofs.Math.Seq.{take-append-add}
 use Rattle.std.proofs.lemmas.List.{take-append-le}
 use Rattle.std.specs.Io.KnownBytes.{Appends}
@@ -18,28 +18,28 @@ fits_nothing (Some room) =
     (omega arith, ap Some same)
 
 pub took_nothing : (a : SinkState) → TookAll a a []
-took_nothing a = record { bytes = appends_none a.taken; room = fits_nothing a.room; later = omega arith }
+took_nothing a = record { bytes = appends_none _; room = fits_nothing _; later = omega arith }
 
 -- ---- two texts
 
 fits_both : (a b c : Option ℕ) (m n : ℕ) → FitsIn a b m → FitsIn b c n → FitsIn a c (m + n)
 fits_both None None c m n h k = k
-fits_both None (Some left) c m n h k = let e : Some left ≡ None = h in cc e
-fits_both (Some room) None c m n h k = let e : None ≡ Some (room - m) = h.1 in cc e
+fits_both None (Some left) c m n h k = let e = h in cc e
+fits_both (Some room) None c m n h k = let e = h.1 in cc e
 fits_both (Some room) (Some left) c m n h k =
-    let e : Some left ≡ Some (room - m) = h.1 in
+    let e = h.1 in
     let same : left ≡ room - m = cc e in
-    let first : m ≤ room = h.0 in
-    let second : n ≤ left = k.0 in
+    let first = h.0 in
+    let second = k.0 in
     let less : left - n ≡ room - (m + n) = omega arith in
     (omega arith, k.1 ∙ ap Some less)
 
 pub took_both : (a b c : SinkState) (xs ys : List ℕ) → TookAll a b xs → TookAll b c ys → TookAll a c (xs ++ ys)
 took_both a b c xs ys one two = record {
-  bytes = appends_more a.taken b.taken c.taken xs ys (xs ++ ys) refl one.bytes two.bytes;
-  room = subst (FitsIn a.room c.room) (sym (length-append xs ys))
-      (fits_both a.room b.room c.room (length xs) (length ys) one.room two.room);
-  later = later_both a.faults b.faults c.faults one.later two.later;
+  bytes = appends_more _ _ _ _ _ _ refl one.bytes two.bytes;
+  room = subst (FitsIn a.room c.room) (sym (length-append _ _))
+      (fits_both _ _ _ _ _ one.room two.room);
+  later = later_both _ _ _ one.later two.later;
 }
 
 -- ---- a text and a prefix of another
@@ -47,15 +47,15 @@ took_both a b c xs ys one two = record {
 overflows_later : (a b : Option ℕ) (old mid new : Option (List ℕ)) (xs ys : List ℕ)
     → FitsIn a b (length xs) → Appends old mid xs → Overflows b mid new ys → Overflows a old new (xs ++ ys)
 overflows_later None b old mid new xs ys h front k = tt
-overflows_later (Some room) None old mid new xs ys h front k = let e : None ≡ Some (room - length xs) = h.1 in cc e
+overflows_later (Some room) None old mid new xs ys h front k = let e = h.1 in cc e
 overflows_later (Some room) (Some left) old mid new xs ys h front k =
-    let e : Some left ≡ Some (room - length xs) = h.1 in
+    let e = h.1 in
     let same : left ≡ room - length xs = cc e in
-    let first : length xs ≤ room = h.0 in
-    let second : left < length ys = k.0 in
+    let first = h.0 in
+    let second = k.0 in
     let whole : room ≡ length xs + left = omega arith in
-    let taken : take room (xs ++ ys) ≡ xs ++ take left ys = ap (λ n. take n (xs ++ ys)) whole ∙ take-append-add xs ys left in
-    (omega (arith, length-append xs ys), appends_more old mid new xs (take left ys) (take room (xs ++ ys)) taken front k.1)
+    let taken : take room (xs ++ ys) ≡ xs ++ take left ys = ap (λ n. take n (xs ++ ys)) whole ∙ take-append-add _ _ _ in
+    (omega (arith, length-append xs ys), appends_more _ _ _ xs _ _ taken front k.1)
 
 pub took_then_part : (a b c : SinkState) (xs ys : List ℕ)
     → TookAll a b xs → TookPrefix b c ys → b.faults ≤ c.faults → TookPrefix a c (xs ++ ys)
@@ -63,11 +63,11 @@ took_then_part a b c xs ys one two later = record {
   bytes = (
     length xs + two.bytes.0,
     omega (arith, two.bytes.1, length-append xs ys),
-    appends_more a.taken b.taken c.taken xs (take two.bytes.0 ys) (take (length xs + two.bytes.0) (xs ++ ys))
-        (take-append-add xs ys two.bytes.0) one.bytes two.bytes.2,
+    appends_more _ _ _ xs _ _
+        (take-append-add xs ys _) one.bytes two.bytes.2,
   );
   room = overflows_later a.room b.room a.taken b.taken c.taken xs ys one.room one.bytes two.room;
-  cause = cause_later a.faults b.faults c.faults _ one.later later two.cause;
+  cause = cause_later _ _ _ _ one.later later two.cause;
 }
 
 -- ---- a prefix of a longer text
@@ -76,17 +76,17 @@ overflows_longer : (room : Option ℕ) (old new : Option (List ℕ)) (xs ys : Li
     → Overflows room old new xs → Overflows room old new (xs ++ ys)
 overflows_longer None old new xs ys h = tt
 overflows_longer (Some room) old new xs ys h =
-    let short : room < length xs = h.0 in
-    (omega (arith, length-append xs ys), subst (Appends old new) (sym (take-append-le room xs ys (omega arith))) h.1)
+    let short = h.0 in
+    (omega (arith, length-append xs ys), subst (Appends old new) (sym (take-append-le _ xs ys (omega arith))) h.1)
 
 pub part_of_longer : (a b : SinkState) (xs ys : List ℕ) → TookPrefix a b xs → TookPrefix a b (xs ++ ys)
 part_of_longer a b xs ys part = record {
   bytes = (
     part.bytes.0,
     omega (arith, part.bytes.1, length-append xs ys),
-    subst (Appends a.taken b.taken) (sym (take-append-le part.bytes.0 xs ys part.bytes.1)) part.bytes.2,
+    subst (Appends a.taken b.taken) (sym (take-append-le _ xs ys part.bytes.1)) part.bytes.2,
   );
-  room = overflows_longer a.room a.taken b.taken xs ys part.room;
+  room = overflows_longer _ _ _ _ _ part.room;
   cause = part.cause;
 }
 
@@ -108,11 +108,11 @@ pub took_piece : (a b : SinkState) (piece : List ℕ) (r : Result (Unit {0}) Wri
     → WritesWhatFits a.room b.room a.taken b.taken piece r → HasCause a.faults b.faults r → Took a b piece r
 took_piece a b piece (Ok u) whole part fits cause = record {
   bytes = whole;
-  room = fits_whole a.room b.room a.taken b.taken piece u fits;
+  room = fits_whole _ _ _ _ _ u fits;
   later = cause.later;
 }
 took_piece a b piece (Err e) whole part fits cause = record {
   bytes = part;
-  room = overflows_whole a.room b.room a.taken b.taken piece e fits;
+  room = overflows_whole _ _ _ _ piece e fits;
   cause = cause.cause refl;
 }

@@ -12,17 +12,17 @@ use Rattle.gm_store.specs.Latest.{IsGreatest, IsLatest}
 use Rattle.gm_store.specs.Listed.{AreListed}
 
 listed_ascend : (path text : List ℕ) (versions : List (List ℕ)) → AreListed path text versions → IsAscending version_cmp versions
-listed_ascend path text versions are i j d lt below = Less-from_sorted version_cmp versions i j d are.ascending lt below
+listed_ascend path text versions are i j d lt below = Less-from_sorted _ _ i j d are.ascending lt below
 
 pub listed_once : (path text : List ℕ) (one other : List (List ℕ)) → AreListed path text one → AreListed path text other → one ≡ other
-listed_once path text one other a b = same_lists version_total one other (listed_ascend path text one a) (listed_ascend path text other b)
+listed_once path text one other a b = same_lists version_total _ other (listed_ascend _ _ _ a) (listed_ascend _ _ _ b)
     (λ k. ((λ inside. (b.members k).1 ((a.members k).0 inside)), (λ inside. (a.members k).1 ((b.members k).0 inside))))
 
 -- ---- the latest version
 
 -- two versions are the same if neither is greater
 pub same_version : (v w : List ℕ) → is_gt (version_cmp v w) ≡ false → is_gt (version_cmp w v) ≡ false → v ≡ w
-same_version v w low high = elim (gt_false (version_cmp v w) low) [
+same_version v w low high = elim (gt_false _ low) [
   | inl less ↦ absurd (false≢true (sym high ∙ ap is_gt (version_total.antisymm w v ∙ ap ordering_reverse less)))
   | inr same ↦ version-anti v w same
 ]
@@ -31,10 +31,10 @@ greatest_once : (only : Bool) (versions : List (List ℕ)) (v w : List ℕ) → 
 greatest_once only versions v w a b = same_version v w (b.greatest v a.listed a.counted) (a.greatest w b.listed b.counted)
 
 pub latest_once : (versions : List (List ℕ)) (v w : List ℕ) → IsLatest versions v → IsLatest versions w → v ≡ w
-latest_once versions v w (inl a) (inl b) = greatest_once true versions v w a b
+latest_once versions v w (inl a) (inl b) = greatest_once _ _ v w a b
 latest_once versions v w (inl a) (inr b) = absurd (cc (a.counted, b.0 v a.listed))
 latest_once versions v w (inr a) (inl b) = absurd (cc (b.counted, a.0 w b.listed))
-latest_once versions v w (inr a) (inr b) = greatest_once false versions v w a.1 b.1
+latest_once versions v w (inr a) (inr b) = greatest_once _ _ v w a.1 b.1
 
 -- without versions there is no latest one
 pub none_latest : (v : List ℕ) → ¬ (IsLatest [] v)

@@ -42,4 +42,4 @@ row_in_pieces a b c s m x y z r is right = rw (← is, ← right) (regroup a b c
 -- the lines of rows, one after the other
 pub rows_text : (main : List ℕ) (rows : List (Row Right)) → list_text main (entries_of_rows rows) ≡ flat_map (row_line main) rows
 rows_text main [] = refl
-rows_text main (row ∷ rows) = ap (λ (t : List ℕ). row_line main row ++ t) (rows_text main rows)
+rows_text main (row ∷ rows) = ap (λ t. row_line main row ++ t) (rows_text _ rows)

@@ -2,7 +2,6 @@
 
 ghost use Rattle.std.specs.Prelude.{◌≡◌, [], drop};
 ghost use Rattle.std.specs.String.{string_bytes};
-ghost use Rattle.gm_store_parts.specs.Taken.{SinkState};
 ghost use Rattle.gomod_texts.specs.ChainQuery.{chain_text};
 ghost use Rattle.gomod_texts.specs.GraphQuery.{graph_text};
 ghost use Rattle.gomod_texts.specs.ListQuery.{list_text, up_to};
