@@ -55,15 +55,15 @@ prints_for (Chain path) {loaded} outcome is (inr unlisted) = (loaded.rows, is.ro
 by_faults : {prints : Prints} {run : Given} {main : Main} {table : Option Sums} {shows : Type 0} {outcome : Outcome} (faults : List Fault)
     → AreFound run main table faults → (shows → prints (run_of main table run.answers.asked) outcome) → ReportsFaultsOr faults shows outcome
     → QueryEnds prints run outcome
-by_faults {main} {table} [] found prints told = no_fault main table found (prints told)
-by_faults {main} {table} (first ∷ others) found prints told = faulty main table first others found told
+by_faults {main} {table} [] found prints told = no_fault _ _ found (prints told)
+by_faults {main} {table} (first ∷ others) found prints told = faulty _ _ _ _ found told
 
 -- ---- what was read
 
 -- a main module's file that was not read refuses both
 pub main_told : (file : List ℕ) (sums : Option (List ℕ)) (fault : BytesFault) → IsBytesFault Strict file fault
     → OrNoMemory (IsRefusedRead file sums) (report_outcome (report_by_bytes fault))
-main_told file sums fault is = ⊎_map (λ malformed. inl malformed) (λ memory. memory) (main_refused file fault is)
+main_told file sums fault is = ⊎_map (λ malformed. inl malformed) (λ memory. memory) (main_refused _ _ is)
 
 -- the go.sum is reported
 abbrev pub AreReported : Option (List ℕ) → Outcome → Type 0
@@ -78,7 +78,7 @@ sums_told file sums main outcome is = ⊎_map (λ reported. inr (main, reported.
 
 -- the names on which the device failed in a run
 failed_in : (old new failing : List Name) → new ≡ old ++ failing → drop (length old) new ≡ failing
-failed_in old new failing grown = ap (drop (length old)) grown ∙ drop-append_seam old failing
+failed_in old new failing grown = ap (drop (length old)) grown ∙ drop-append_seam old _
 
 -- if `versions` has no list to read, that is reported
 abbrev pub ReportsNoList : Command → StoreState → Outcome → Type 0
@@ -92,15 +92,15 @@ module _ (command : Command) (file : List ℕ) (sums : Option (List ℕ)) (befor
       → FailsInTurn (Needs command file sums) old new → ((name : Name) → failing ≡ name ∷ [] → outcome ≡ failure_outcome (device_line name))
       → ComesTo command file sums before after old new outcome
   comes failing grown ends fails reported =
-      let ended : OrNoMemory (RunEnds command (run_between file sums old new)) outcome = rw (failed_in old.refused new.refused failing grown) ends in
+      let ended : OrNoMemory (RunEnds command (run_between file sums old new)) outcome = rw (failed_in _ _ _ grown) ends in
       record {
         ends = ended;
         holds = record {
           in_turn = in_turn;
-          all_answered = λ done. done_if_memory command (run_between file sums old new) outcome ended done;
+          all_answered = λ done. done_if_memory _ _ _ ended done;
           fails = fails;
           served = served;
-          device = λ name also. reported name (append_cancel_left old.refused failing (name ∷ []) (sym grown ∙ also));
+          device = λ name also. reported name (append_cancel_left old.refused _ _ (sym grown ∙ also));
           no_list = no_list;
         };
       }
@@ -152,8 +152,8 @@ no_versions (Chain named) path all is = cc is
 pub refused_read : (query : Query) (file : List ℕ) (sums : Option (List ℕ)) (may : Name → Option Reply → Type 0) (state : StoreState) (outcome : Outcome)
     → state.asked ≡ [] → OrNoMemory (IsRefusedRead file sums) outcome → ComesTo (command_of query) file sums may may state state outcome
 refused_read query file sums may state outcome none refused =
-    unasked_comes (command_of query) file sums may state outcome (no_versions query) none
-    (⊎_map (λ is. of_query query run outcome (joined (PrintsOf (command_of query)) run outcome (unread is (none, refl)))) (λ memory. memory) refused)
+    unasked_comes _ _ _ may _ _ (no_versions _) none
+    (⊎_map (λ is. of_query _ run _ (joined (PrintsOf (command_of query)) run outcome (unread is (none, refl)))) (λ memory. memory) refused)
   where
     run : Given
     run = given_of file sums (answers_of state.asked [])
@@ -163,16 +163,16 @@ module _ (query : Query) (file : List ℕ) (sums : Option (List ℕ)) (main : Ma
     (before after : Name → Option Reply → Type 0) (old new : StoreState)
     (asks : AskedInTurn (LoadingNeeds main table) new.asked) (served : HasServed before after old new) where
   in_turn : AskedInTurn (Needs (command_of query) file sums) new.asked
-  in_turn = subst (λ (needs : AnswersByName → Name → Type 0). AskedInTurn needs new.asked)
-      (sym (graph_needs query file sums)) (loading_in_turn file sums main table read asks)
+  in_turn = subst (λ needs. AskedInTurn needs new.asked)
+      (sym (graph_needs _ _ _)) (loading_in_turn file sums main table read asks)
 
   still : (outcome : Outcome) → new.refused ≡ old.refused ++ []
       → OrNoMemory (QueryEnds (PrintsOf (command_of query)) (given_of file sums (answers_of new.asked []))) outcome
       → ComesTo (command_of query) file sums before after old new outcome
   still outcome same ends =
       still_comes (command_of query) file sums before after old new outcome in_turn served
-      (λ path all other is. absurd (no_versions query path all is)) (same ∙ append-nil old.refused)
-      (⊎_map (of_query query (given_of file sums (answers_of new.asked [])) outcome) (λ memory. memory) ends)
+      (λ path all other is. absurd (no_versions _ _ _ is)) (same ∙ append-nil _)
+      (⊎_map (of_query _ _ _) (λ memory. memory) ends)
 
   -- loading was refused
   not_loaded : (fault : LoadFault)
@@ -196,9 +196,9 @@ module _ (query : Query) (file : List ℕ) (sums : Option (List ℕ)) (main : Ma
       → new.refused ≡ old.refused ++ [] → OrNoMemory (IsOutcomeOfFound query main loaded) outcome
       → ComesTo (command_of query) file sums before after old new outcome
   found_graph loaded outcome found same told =
-      still outcome same
-      (⊎_map (by_faults loaded.faults (record { read = read; settled = found.settled; faults_are = found.faults; none_failed = refl })
-      (prints_for query outcome found))
+      still _ same
+      (⊎_map (by_faults _ (record { read = read; settled = found.settled; faults_are = found.faults; none_failed = refl })
+      (prints_for _ _ found))
       (λ memory. memory) told)
 
   -- it found one, or was refused

@@ -8,5 +8,5 @@ use Rattle.gomod_texts.specs.Reports.{faults_text}
 
 pub faults_told : (faults : List Fault) → (prints : Type 0) → (length faults == 0) ≡ false
     → ReportsFaultsOr faults prints (refusal_outcome (faults_text faults))
-faults_told [] prints some = let e : true ≡ false = some in cc e
+faults_told [] prints some = let e = some in cc e
 faults_told (first ∷ others) prints some = refl

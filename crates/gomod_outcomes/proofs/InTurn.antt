@@ -16,7 +16,7 @@ wider_in_turn : (one other : AnswersByName → Name → Type 0)
     → AskedInTurn one asked → AskedInTurn other asked
 wider_in_turn one other wider nothing = nothing
 wider_in_turn one other wider (more {pairs} {name} reply asks needed unasked) =
-    more reply (wider_in_turn one other wider asks) (wider (answer_in pairs) name needed) unasked
+    more _ (wider_in_turn _ _ wider asks) (wider (answer_in pairs) name needed) unasked
 
 module _ (file : List ℕ) (sums : Option (List ℕ)) (main : Main) (table : Option Sums) (read : FilesReadAs file sums main table) where
   pub loading_needs : (answers : AnswersByName) (name : Name) → LoadingNeeds main table answers name → GraphNeeds file sums answers name
@@ -24,4 +24,4 @@ module _ (file : List ℕ) (sums : Option (List ℕ)) (main : Main) (table : Opt
 
   -- the files that loading asks for are needed in turn
   pub loading_in_turn : {asked : Pairs} → AskedInTurn (LoadingNeeds main table) asked → AskedInTurn (GraphNeeds file sums) asked
-  loading_in_turn asks = wider_in_turn (LoadingNeeds main table) (GraphNeeds file sums) loading_needs asks
+  loading_in_turn asks = wider_in_turn _ _ loading_needs asks

@@ -8,7 +8,7 @@ join_with_byte-push : (c : ℕ) (x : List ℕ) (xs : List (List ℕ)) (y : List 
     → join_with_byte c (x ∷ (xs ++ y ∷ [])) ≡ join_with_byte c (x ∷ xs) ++ c ∷ y
 join_with_byte-push c x [] y = refl
 join_with_byte-push c x (z ∷ xs) y =
-    ap (λ (t : List ℕ). x ++ c ∷ t) (join_with_byte-push c z xs y) ∙ sym (append_assoc x (c ∷ join_with_byte c (z ∷ xs)) (c ∷ y))
+    ap (λ t. x ++ c ∷ t) (join_with_byte-push c z xs y) ∙ sym (append_assoc x _ _)
 
 -- and one more version
 pub one_version_more : (path : List ℕ) (versions : List (Bor (List ℕ))) (i : ℕ) (d : Bor (List ℕ)) → i < length versions
@@ -16,7 +16,7 @@ pub one_version_more : (path : List ℕ) (versions : List (Bor (List ℕ))) (i :
     ≡ join_with_byte 32 (path ∷ map (λ version. version.now) (take i versions)) ++ 32 ∷ (get_or versions i d).now
 one_version_more path versions i d less =
     let now = λ (version : Bor (List ℕ)). version.now in
-    ap (λ (texts : List (List ℕ)). join_with_byte 32 (path ∷ texts))
-    (ap (λ (n : ℕ). map now (take n versions)) (add-one i) ∙ ap (map now) (take-suc versions i d less)
-    ∙ map-append now (take i versions) (get_or versions i d ∷ []))
-    ∙ join_with_byte-push 32 path (map now (take i versions)) (get_or versions i d).now
+    ap (λ texts. join_with_byte 32 (path ∷ texts))
+    (ap (λ n. map now (take n versions)) (add-one i) ∙ ap (map now) (take-suc _ i d less)
+    ∙ map-append _ _ (get_or versions i d ∷ []))
+    ∙ join_with_byte-push 32 _ _ _

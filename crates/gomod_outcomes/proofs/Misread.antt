@@ -12,9 +12,9 @@ use Rattle.gomod_outcomes.specs.Fmt.{FmtEnds, bad_syntax}
 -- the outcome of `fmt` over bytes that are not a document
 fmt_broken : (bytes : List ℕ) (fault : SyntaxFault) → IsParsedAs bytes (Err fault) → FmtEnds bytes (report_outcome (report_by_bytes (fault_by_syntax fault)))
 fmt_broken bytes syntax.NoMemory parsed = absurd parsed
-fmt_broken bytes syntax.TooMany parsed = bad_syntax syntax.TooMany (0, misreading.TooMany) parsed refl refl
-fmt_broken bytes syntax.NotUtf8 parsed = bad_syntax syntax.NotUtf8 (0, misreading.NotUtf8) parsed refl refl
-fmt_broken bytes (syntax.Syntax number kind) parsed = bad_syntax (syntax.Syntax number kind) (number, misreading.Syntax kind) parsed refl refl
+fmt_broken bytes syntax.TooMany parsed = bad_syntax syntax.TooMany _ parsed refl refl
+fmt_broken bytes syntax.NotUtf8 parsed = bad_syntax syntax.NotUtf8 _ parsed refl refl
+fmt_broken bytes (syntax.Syntax number kind) parsed = bad_syntax (syntax.Syntax number kind) _ parsed refl refl
 
 -- the same, or that memory ran out
 pub fmt_misread : (bytes : List ℕ) (fault : SyntaxFault) → IsFaultOrNoMemory bytes fault

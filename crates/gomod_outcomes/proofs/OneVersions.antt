@@ -20,27 +20,27 @@ abbrev pub NeededAlike : List ℕ → Bool → AnswersByName → AnswersByName �
 NeededAlike path all told next = (name : Name) (a b : Reply) → VersionsNeed path all told name → told name ≡ Some a → next name ≡ Some b → a ≡ b
 
 pub alike_itself : (path : List ℕ) (all : Bool) (answers : AnswersByName) → NeededAlike path all answers answers
-alike_itself path all answers name a b need is be = same_answer (answers name) a b is be
+alike_itself path all answers name a b need is be = same_answer _ a b is be
 
 module _ (path : List ℕ) (all : Bool) (told next : AnswersByName) (alike : NeededAlike path all told next) where
   pub one_listed : {one other : List (List ℕ)} → HasListed path told one → HasListed path next other → one ≡ other
   one_listed {one} {other} a b =
       let same = alike (list_file path) (bytes a.list) (bytes b.list) (inl (a.fetchable, refl)) a.answered b.answered in
-      listed_once path b.list one other (subst (λ (reply : Reply). AreListed path (bytes_in reply) one) same a.listed) b.listed
+      listed_once _ _ _ _ (subst (λ reply. AreListed path (bytes_in reply) one) same a.listed) b.listed
 
   pub one_latest : (versions others : List (List ℕ)) (latest last : List ℕ)
       → IsLatestListed path all told versions latest → IsLatestListed path all next others last
       → (versions ≡ others) × (latest ≡ last)
   one_latest versions others latest last a b =
       let same = one_listed a.listed b.listed in
-      (same, latest_once others latest last (subst (λ (vs : List (List ℕ)). IsLatest vs latest) same a.greatest) b.greatest)
+      (same, latest_once _ _ _ (subst (λ vs. IsLatest vs latest) same a.greatest) b.greatest)
 
 module _ (path : List ℕ) (all : Bool) (answers : AnswersByName) where
   -- no go.mod is needed if all listed versions are shown
   pub none_needed : (shown versions : List (List ℕ)) (latest : List ℕ) → versions ≡ shown
       → (all ≡ true) ⊎ (shown ≡ []) → ¬ (IsLatestListed path all answers versions latest)
   none_needed shown versions latest same (inl every) is = let e = sym every ∙ is.filtered in cc e
-  none_needed shown versions latest same (inr none) is = none_latest latest (subst (λ (vs : List (List ℕ)). IsLatest vs latest) (same ∙ none) is.greatest)
+  none_needed shown versions latest same (inr none) is = none_latest _ (subst (λ vs. IsLatest vs latest) (same ∙ none) is.greatest)
 
   -- the versions that are shown are listed ones
   pub shown_listed : (shown : List (List ℕ)) → AreShown path all answers shown → (versions : List (List ℕ)) × HasListed path answers versions
@@ -61,6 +61,6 @@ pub refused_first : (path : List ℕ) (all : Bool) (answers : AnswersByName) (ou
 refused_first path all answers outcome other (device _ _ _ failed _) refused = absurd (cc failed)
 refused_first path all answers outcome other (no_list also _) refused = same_Some outcome other (sym also ∙ refused)
 refused_first path all answers outcome other (bad_file _ _ _ _ says _ _) refused =
-    let is = says.chosen.listed in absurd (unrefused path is.list answers other is.fetchable is.answered refused)
+    let is = says.chosen.listed in absurd (unrefused _ _ answers _ is.fetchable is.answered refused)
 refused_first path all answers outcome other (printed shown are _ _) refused =
-    let (versions, is) = shown_listed path all answers shown are in absurd (unrefused path is.list answers other is.fetchable is.answered refused)
+    let (versions, is) = shown_listed _ all answers shown are in absurd (unrefused _ _ answers _ is.fetchable is.answered refused)

@@ -26,7 +26,7 @@ pub not_applied : (number : ℕ) (text : List ℕ) (edit : Edit) (fault : EditFa
     → told ≡ report_by_edit number fault → OrNoMemory (IsRefusedOperation number (edit_in text)) (report_outcome told)
 not_applied number text edit NoMemory told parsed misfit is = inr (ap report_outcome is)
 not_applied number text edit Misfit told parsed misfit is =
-    let unfit : refusal_of (Some edit) ≡ Some (codes "Misfit") = ap (λ (fit : Bool). if fit then None else Some (codes "Misfit")) (misfit refl) in
+    let unfit : refusal_of (Some edit) ≡ Some (codes "Misfit") = ap (λ fit. if fit then None else Some (codes "Misfit")) (misfit refl) in
     inl (codes "Misfit", ap refusal_of parsed ∙ unfit, ap report_outcome is)
 
 -- what a fit operation is refused for
@@ -40,7 +40,7 @@ module _ (number : ℕ) (text : List ℕ) (edit : Edit) (parsed : edit_in text �
       → (is_fit edit ≡ false → ◌≡◌ {A = Result (Unit {0}) EditFault} made (Err Misfit)) → OnOk result (refusal_of (edit_in text) ≡ None)
   op_accepted made (Err told) ok unfit = tt
   op_accepted (Err fault) (Ok u) ok unfit = absurd (cc ok)
-  op_accepted (Ok v) (Ok u) ok unfit = ap refusal_of parsed ∙ fits (is_fit edit) (λ e. absurd (cc (unfit e)))
+  op_accepted (Ok v) (Ok u) ok unfit = ap refusal_of parsed ∙ fits _ (λ e. absurd (cc (unfit e)))
 
   pub op_applied : (old new : List (Line Placed)) (made : Result (Unit {0}) EditFault) (result : Result (Unit {0}) Report) → OnOk result (IsOk made)
       → OnOk made (new ≡ lines_after edit old) → OnOk result (new ≡ lines_after_all (filter_map edit_in (text ∷ [])) old)
@@ -54,7 +54,7 @@ module _ (number : ℕ) (text : List ℕ) (edit : Edit) (parsed : edit_in text �
       → IfErr result (λ told. OrNoMemory (IsRefusedOperation number (edit_in text)) (report_outcome told))
   op_refused made (Ok u) err unfit = tt
   op_refused (Ok v) (Err told) err unfit = absurd err
-  op_refused (Err fault) (Err told) err unfit = not_applied number text edit fault told parsed unfit err
+  op_refused (Err fault) (Err told) err unfit = not_applied number text _ fault _ parsed unfit err
 
 -- ---- the operations in turn
 
@@ -66,7 +66,7 @@ next_refusals number text later none = rw none
 -- those after it apply to what it left
 pub next_lines : (text : List ℕ) (later : List (List ℕ)) (lines : List (Line Placed)) → lines_after_all (filter_map edit_in (text ∷ later)) lines
     ≡ lines_after_all (filter_map edit_in later) (lines_after_all (filter_map edit_in (text ∷ [])) lines)
-next_lines text later lines = by_option (edit_in text)
+next_lines text later lines = by_option _
   where
     by_option : (o : Option Edit) → lines_after_all (cons_option o (filter_map edit_in later)) lines
         ≡ lines_after_all (filter_map edit_in later) (lines_after_all (cons_option o []) lines)
@@ -96,4 +96,4 @@ one_refused texts file lines number text later outcome main same (inr memory) = 
 pub all_applied : (texts : List (List ℕ)) (file : List ℕ) (lines last : List (Line Placed)) (text : List ℕ) → IsMainOf file lines → refusals_from 1 texts ≡ []
     → lines_after_all (filter_map edit_in texts) lines ≡ last → text ≡ layout (plain_lines last) → EditEnds texts file (text_outcome text)
 all_applied texts file lines last text main none same is =
-    applied lines main (rw (none, same) (ap text_outcome is))
+    applied _ main (rw (none, same) (ap text_outcome is))

@@ -37,18 +37,18 @@ module _ (prints : Prints) (run : Given) (outcome : Outcome) where
   pub parts : QueryEnds prints run outcome → Parts prints run outcome
   parts (bad_main place misread none says) = unread (inl (place, misread, says)) none
   parts (bad_sums main report is misread none says) = unread (inr (main, report, is, misread, says)) none
-  parts (device main table name are due one says) = are_read main table are (is_broken name due one says)
-  parts (too_many main table are read over none says) = are_read main table are (is_many read over none says)
-  parts (faulty main table first others found says) = are_read main table found.read (is_known (first ∷ others) found says)
-  parts (no_fault main table found says) = are_read main table found.read (is_known [] found says)
+  parts (device main table name are due one says) = are_read _ _ are (is_broken _ due one says)
+  parts (too_many main table are read over none says) = are_read main _ are (is_many read over none says)
+  parts (faulty main table first others found says) = are_read main _ found.read (is_known _ found says)
+  parts (no_fault main table found says) = are_read main _ found.read (is_known [] found says)
 
   pub joined : Parts prints run outcome → QueryEnds prints run outcome
-  joined (unread (inl (place, misread, says)) none) = bad_main place misread none says
-  joined (unread (inr (main, report, is, misread, says)) none) = bad_sums main report is misread none says
-  joined (are_read main table are (is_broken name due one says)) = device main table name are due one says
-  joined (are_read main table are (is_many read over none says)) = too_many main table are read over none says
-  joined (are_read main table are (is_known (first ∷ others) found says)) = faulty main table first others found says
-  joined (are_read main table are (is_known [] found says)) = no_fault main table found says
+  joined (unread (inl (place, misread, says)) none) = bad_main _ misread none says
+  joined (unread (inr (main, report, is, misread, says)) none) = bad_sums _ _ is misread none says
+  joined (are_read main table are (is_broken name due one says)) = device main _ name are due one says
+  joined (are_read main table are (is_many read over none says)) = too_many main _ are read over none says
+  joined (are_read main table are (is_known (first ∷ others) found says)) = faulty main _ _ _ found says
+  joined (are_read main table are (is_known [] found says)) = no_fault main _ found says
 
 module _ (run : Given) (outcome : Outcome) where
   -- a query ends as queries do

@@ -40,7 +40,7 @@ module _ (path : List ℕ) (all : Bool) (before after : Name → Option Reply �
       → IsRefusedList named (answer_in new.asked) other → outcome ≡ other
   told_first told named every other same =
       let path_same : path ≡ named = cc same in
-      subst (λ (p : List ℕ). IsRefusedList p (answer_in new.asked) other → outcome ≡ other) path_same (told other)
+      subst (λ p. IsRefusedList p (answer_in new.asked) other → outcome ≡ other) path_same (told other)
 
   pub versions_come : IsVersionsRun path all old new outcome → HasServed before after old new → (main : List ℕ) (sums : Option (List ℕ))
       → ComesTo (Versions path all) main sums before after old new outcome
@@ -61,8 +61,8 @@ module _ (path : List ℕ) (all : Bool) (before after : Name → Option Reply �
 pub unfetchable_run : {path : List ℕ} {all : Bool} {old : StoreState} {outcome : Outcome} → old.asked ≡ [] → is_fetchable path ≡ false
     → list_refusal path false None ≡ Some outcome → IsVersionsRun path all old old outcome
 unfetchable_run {path} {all} {old} first isnt told =
-    ended_run refl (none_in_turn (VersionsNeed path all) old.asked first)
-    (no_list (ap (λ (b : Bool). list_refusal path b (answer_in old.asked (list_file path))) isnt ∙ told) refl)
+    ended_run refl (none_in_turn _ _ first)
+    (no_list (ap (λ b. list_refusal path b (answer_in old.asked (list_file path))) isnt ∙ told) refl)
 
 module _ {path : List ℕ} {all : Bool} {old new : StoreState} {outcome : Outcome} (first : old.asked ≡ []) where
   -- it was not answered
@@ -71,38 +71,38 @@ module _ {path : List ℕ} {all : Bool} {old new : StoreState} {outcome : Outcom
   unlisted_run fetchable = by
     where
       unanswered : new.asked ≡ old.asked → answer_in new.asked (list_file path) ≡ None
-      unanswered same = ap (λ (a : Pairs). answer_in a (list_file path)) (same ∙ first)
+      unanswered same = ap (λ a. answer_in a (list_file path)) (same ∙ first)
 
       none : new.asked ≡ old.asked → (other : Outcome) → ¬ (IsRefusedList path (answer_in new.asked) other)
       none same other refused = let e : None ≡ Some other = sym (ap₂ (list_refusal path) fetchable (unanswered same)) ∙ refused in cc e
 
       by : IsRefusedAt (list_file path) old new outcome ⊎ IsUnanswered old new outcome → IsVersionsRun path all old new outcome
       by (inl (told, same, grown)) =
-          broken_run (list_file path) grown (none_in_turn (VersionsNeed path all) new.asked (same ∙ first)) (inl (fetchable, refl))
+          broken_run _ grown (none_in_turn _ _ (same ∙ first)) (inl (fetchable, refl))
           (unanswered same) (none same) told
-      by (inr (memory, same, still)) = memory_run still (none_in_turn (VersionsNeed path all) new.asked (same ∙ first)) (none same) memory
+      by (inr (memory, same, still)) = memory_run still (none_in_turn _ _ (same ∙ first)) (none same) memory
 
 -- the last answer is that to the file that was asked for
 pub last_answer : {asked name : Name} (old new : StoreState) (answer : Reply) → asked ≡ name → (reply : Reply) × IsAnsweredAsk asked old new reply
     → IsLast new.asked answer → IsAnsweredAsk name old new answer
 last_answer {asked} {name} old new answer same (reply, heard) last =
     let is : (asked, reply) ≡ (name, answer) = ap₂ (λ (n : Name) (r : Reply). (n, r)) same (sym (last old.asked (asked, reply) heard.0)) in
-    (heard.0 ∙ ap (λ (pair : Name × Reply). old.asked ++ pair ∷ []) is, heard.1)
+    (heard.0 ∙ ap (λ pair. old.asked ++ pair ∷ []) is, heard.1)
 
 pub list_alone : {path : List ℕ} {old new : StoreState} {reply : Reply} → old.asked ≡ [] → is_fetchable path ≡ true
     → IsAnsweredAsk (list_file path) old new reply → IsListAnswered path old new reply
 list_alone {path} {old} {new} {reply} first fetchable heard =
-    record { fetchable = fetchable; alone = heard.0 ∙ ap (λ (a : Pairs). a ++ (list_file path, reply) ∷ []) first; still = heard.1 }
+    record { fetchable = fetchable; alone = heard.0 ∙ ap (λ a. a ++ (list_file path, reply) ∷ []) first; still = heard.1 }
 
 -- it was asked for first
 list_in_turn : {path : List ℕ} {all : Bool} {asked : Pairs} {reply : Reply} → is_fetchable path ≡ true
     → asked ≡ (list_file path, reply) ∷ [] → AskedInTurn (VersionsNeed path all) asked
 list_in_turn {path} {all} {asked} {reply} fetchable is =
-    subst (AskedInTurn (VersionsNeed path all)) (sym is) (more {pairs = []} {name = list_file path} reply nothing (inl (fetchable, refl)) refl)
+    subst (AskedInTurn (VersionsNeed path all)) (sym is) (more {pairs = []} {name = list_file path} _ nothing (inl (fetchable, refl)) refl)
 
 list_told : {path : List ℕ} {asked : Pairs} {reply : Reply} (rest : Pairs) → asked ≡ (list_file path, reply) ∷ rest
     → answer_in asked (list_file path) ≡ Some reply
-list_told {path} {asked} {reply} rest begins = ap (λ (a : Pairs). answer_in a (list_file path)) begins ∙ list_answer path reply rest
+list_told {path} {asked} {reply} rest begins = ap (λ a. answer_in a (list_file path)) begins ∙ list_answer path _ rest
 
 -- the answer is no list
 pub no_list_run : {path : List ℕ} {all : Bool} {old new : StoreState} {outcome : Outcome} {reply : Reply} → IsListAnswered path old new reply
@@ -114,7 +114,7 @@ no_list_run {path} is refused =
 
 pub file_unasked : {path : List ℕ} {old new : StoreState} {reply : Reply} → IsListAnswered path old new reply
     → (latest : List ℕ) → answer_in new.asked (mod_file path latest) ≡ None
-file_unasked {path} is latest = ap (λ (a : Pairs). answer_in a (mod_file path latest)) is.alone
+file_unasked {path} is latest = ap (λ a. answer_in a (mod_file path latest)) is.alone
 
 -- memory ran out before more was asked
 pub listed_memory : {path : List ℕ} {all : Bool} {old new : StoreState} {list : List ℕ} {outcome : Outcome}
@@ -125,7 +125,7 @@ listed_memory {path} {all} {old} {new} {list} is memory =
 
 module _ {path : List ℕ} {first mid : StoreState} {versions : List (List ℕ)} (is : AreVersionsAnswered path first mid versions) where
   listed_first : {asked : Pairs} (rest : Pairs) → asked ≡ (list_file path, bytes is.list) ∷ rest → HasListed path (answer_in asked) versions
-  listed_first rest begins = record { fetchable = is.answered.fetchable; list = is.list; answered = list_told rest begins; listed = is.listed }
+  listed_first rest begins = record { fetchable = is.answered.fetchable; list = is.list; answered = list_told _ begins; listed = is.listed }
 
   -- all versions are asked for, or there are none
   pub all_shown : {all : Bool} → (all ≡ true) ⊎ (versions ≡ []) → AreToBeShown path all first mid (shown_of [] versions)
@@ -147,7 +147,7 @@ module _ {path : List ℕ} {first mid : StoreState} (new : StoreState) {versions
   needed_after rest begins = record { filtered = refl; listed = listed_first is rest begins; greatest = greatest }
 
   none : (rest : Pairs) → new.asked ≡ (list_file path, bytes is.list) ∷ rest → (other : Outcome) → ¬ (IsRefusedList path (answer_in new.asked) other)
-  none rest begins other = unrefused path is.list (answer_in new.asked) other is.answered.fetchable (list_told rest begins)
+  none rest begins other = unrefused _ _ (answer_in new.asked) _ is.answered.fetchable (list_told _ begins)
 
   -- it was not answered
   pub file_unanswered : {outcome : Outcome} → IsRefusedAt (mod_file path latest) mid new outcome ⊎ IsUnanswered mid new outcome
@@ -200,7 +200,7 @@ module _ {path : List ℕ} {first mid : StoreState} (new : StoreState) {versions
 
 pub shown_run : {path : List ℕ} {all : Bool} {old new : StoreState} {shown : List (List ℕ)} {outcome : Outcome} → AreToBeShown path all old new shown
     → OrNoMemory (λ outcome. outcome ≡ text_outcome (versions_line path shown)) outcome → IsVersionsRun path all old new outcome
-shown_run {path} {all} {old} {new} {shown} is (inl says) = ended_run is.still is.in_turn (printed shown is.shown refl says)
+shown_run {path} {all} {old} {new} {shown} is (inl says) = ended_run is.still is.in_turn (printed _ is.shown refl says)
 shown_run {path} {all} {old} {new} {shown} is (inr memory) =
-    let (versions, listed) = shown_listed path all (answer_in new.asked) shown is.shown in
-    memory_run is.still is.in_turn (λ other. unrefused path listed.list (answer_in new.asked) other listed.fetchable listed.answered) memory
+    let (versions, listed) = shown_listed _ all (answer_in new.asked) shown is.shown in
+    memory_run is.still is.in_turn (λ other. unrefused _ _ (answer_in new.asked) _ listed.fetchable listed.answered) memory
