@@ -22,19 +22,19 @@ error_outcome fault outcome known is = cc known
 
 asked_version : (words : List (List ℕ)) (outcome : Outcome) → AskForVersion words → IsWordsOutcome anything any_input words outcome
     → (outcome ≡ text_outcome version_line) ⊎ (outcome ≡ out_of_memory)
-asked_version words outcome asked (inl told) = version_outcome told.0 outcome (asked.1 told.0 told.1) told.2
+asked_version words outcome asked (inl told) = version_outcome told.0 _ (asked.1 told.0 told.1) told.2
 asked_version words outcome asked (inr served) = absurd (asked.0 served.0 served.1 served.2)
 
 asked_nothing : (words : List (List ℕ)) (outcome : Outcome) → AreUsageError words → IsWordsOutcome anything any_input words outcome
     → ((outcome.text ≡ []) × (outcome.status ≡ 2)) ⊎ (outcome ≡ out_of_memory)
-asked_nothing words outcome asked (inl told) = error_outcome told.0 outcome (asked.1 told.0 told.1) told.2
+asked_nothing words outcome asked (inl told) = error_outcome _ outcome (asked.1 told.0 told.1) told.2
 asked_nothing words outcome asked (inr served) = absurd (asked.0 served.0 served.1 served.2)
 
 pub version_is_printed : (program flag : List ℕ) (outcome : Outcome) → (flag ≡ codes "--version") ⊎ (flag ≡ codes "-V")
     → IsWordsOutcome anything any_input (program ∷ flag ∷ []) outcome → (outcome ≡ text_outcome version_line) ⊎ (outcome ≡ out_of_memory)
-version_is_printed program flag outcome (inl long) words = asked_version _ outcome (version_by_long program) (rw long at words)
-version_is_printed program flag outcome (inr short) words = asked_version _ outcome (version_by_short program) (rw short at words)
+version_is_printed program flag outcome (inl long) words = asked_version _ _ (version_by_long _) (rw long at words)
+version_is_printed program flag outcome (inr short) words = asked_version _ _ (version_by_short _) (rw short at words)
 
 pub nothing_is_printed : (program : List ℕ) (outcome : Outcome) → IsWordsOutcome anything any_input (program ∷ []) outcome
     → ((outcome.text ≡ []) × (outcome.status ≡ 2)) ⊎ (outcome ≡ out_of_memory)
-nothing_is_printed program outcome words = asked_nothing (program ∷ []) outcome (error_without_words program) words
+nothing_is_printed program outcome words = asked_nothing _ _ (error_without_words _) words

@@ -49,7 +49,7 @@ word_is (misreading.Directive kind) = (refl, refl)
 
 -- a word is that of one misreading
 says_misreading : (one other : Misreading) → misreading_word one ≡ misreading_word other → one ≡ other
-says_misreading one other e = let found : Some one ≡ Some other = sym (word_is one).0 ∙ ap misreading_of e ∙ (word_is other).0 in cc found
+says_misreading one other e = let found : Some one ≡ Some other = sym (word_is _).0 ∙ ap misreading_of e ∙ (word_is _).0 in cc found
 
 -- ---- bytes
 
@@ -58,27 +58,27 @@ small : (n : ℕ) → n ≤ 16777216 → n < 2 ^ 64
 small n le = omega (arith, le)
 
 number_lacks : (c n : ℕ) → is_ascii_digit c ≡ false → n ≤ 16777216 → Lacks c (decimal n)
-number_lacks c n none le = lacks c is_ascii_digit none (decimal n) (decimal-digits n (small n le))
+number_lacks c n none le = lacks c _ none _ (decimal-digits n (small n le))
 
 feed_lacked : (text : List ℕ) → list_all is_byte_of_word text ≡ true → Lacks 10 text
-feed_lacked text all = lacks 10 is_byte_of_word refl text all
+feed_lacked text all = lacks _ _ refl _ all
 
 blank_lacked : (text : List ℕ) → list_all is_byte_of_word text ≡ true → Lacks 32 text
-blank_lacked text all = lacks 32 is_byte_of_word refl text all
+blank_lacked text all = lacks _ _ refl _ all
 
 malformed_plain : (number : ℕ) (kind : Misreading) → number ≤ 16777216 → Lacks 10 (malformed_text number kind)
 malformed_plain number kind le =
-    both_lack 10 ((codes "Malformed " ++ decimal number) ++ codes " ") (misreading_word kind)
-    (both_lack 10 (codes "Malformed " ++ decimal number) (codes " ")
-    (both_lack 10 (codes "Malformed ") (decimal number) (plain (codes "Malformed ") refl) (number_lacks 10 number refl le)) (plain (codes " ") refl))
-    (feed_lacked (misreading_word kind) (word_is kind).1)
+    both_lack 10 ((codes "Malformed " ++ decimal number) ++ codes " ") _
+    (both_lack 10 (codes "Malformed " ++ decimal number) _
+    (both_lack 10 (codes "Malformed ") _ (plain (codes "Malformed ") refl) (number_lacks 10 number refl le)) (plain (codes " ") refl))
+    (feed_lacked _ (word_is kind).1)
 
 -- ---- `Malformed LINE KIND`
 
 spread : (number : ℕ) (kind : Misreading) → malformed_text number kind ≡ codes "Malformed" ++ 32 ∷ (decimal number ++ 32 ∷ misreading_word kind)
 spread number kind =
-    append_assoc (codes "Malformed " ++ decimal number) (codes " ") (misreading_word kind)
-    ∙ append_assoc (codes "Malformed ") (decimal number) (32 ∷ misreading_word kind)
+    append_assoc (codes "Malformed " ++ decimal number) _ _
+    ∙ append_assoc (codes "Malformed ") (decimal number) _
 
 front_plain : Lacks 32 (codes "Malformed")
 front_plain = blank_lacked (codes "Malformed") refl
@@ -87,15 +87,15 @@ says_malformed : (m n : ℕ) (one other : Misreading) → m ≤ 16777216 → n �
     → malformed_text m one ≡ malformed_text n other → Malformed m one ≡ Malformed n other
 says_malformed m n one other p q e =
     let (front, after) = cut_at 32 (codes "Malformed") (codes "Malformed") (decimal m ++ 32 ∷ misreading_word one)
-    (decimal n ++ 32 ∷ misreading_word other) front_plain front_plain (sym (spread m one) ∙ e ∙ spread n other) in
-    let (number, word) = cut_at 32 (decimal m) (decimal n) (misreading_word one) (misreading_word other)
+    _ front_plain front_plain (sym (spread m one) ∙ e ∙ spread n other) in
+    let (number, word) = cut_at 32 _ (decimal n) _ (misreading_word other)
     (number_lacks 32 m refl p) (number_lacks 32 n refl q) after in
     ap₂ Malformed (decimal_injective m n (small m p) (small n q) number) (says_misreading one other word)
 
 -- a text of such bytes is not that of a `Malformed`
 not_malformed : (word : List ℕ) (number : ℕ) (kind : Misreading) → list_all is_byte_of_word word ≡ true → word ≡ malformed_text number kind → ⊥
 not_malformed word number kind all e =
-    has_it 32 (codes "Malformed") (decimal number ++ 32 ∷ misreading_word kind) (subst (Lacks 32) (e ∙ spread number kind) (blank_lacked word all))
+    has_it 32 (codes "Malformed") _ (subst (Lacks 32) (e ∙ spread _ _) (blank_lacked _ all))
 
 -- ---- the class that a word is for
 
@@ -116,20 +116,20 @@ data ClassCase : Class → Type 0 where
   worded : (class : Class) → IsOfAWord class → ClassCase class
 
 class_case : (class : Class) → ClassCase class
-class_case (Malformed number kind) = misread number kind
-class_case class = worded class (record { bytes = refl; found = refl })
+class_case (Malformed number kind) = misread _ _
+class_case class = worded _ (record { bytes = refl; found = refl })
 
 by_cases : {one other : Class} → ClassCase one → ClassCase other → IsProperClass one → IsProperClass other → class_text one ≡ class_text other → one ≡ other
-by_cases (misread m one) (misread n other) p q e = says_malformed m n one other p q e
-by_cases (misread m one) (worded other w) p q e = absurd (not_malformed (class_text other) m one w.bytes (sym e))
-by_cases (worded one w) (misread n other) p q e = absurd (not_malformed (class_text one) n other w.bytes e)
-by_cases (worded one w) (worded other v) p q e = says_word one other w v e
+by_cases (misread m one) (misread n other) p q e = says_malformed m n _ other p q e
+by_cases (misread m one) (worded other w) p q e = absurd (not_malformed _ m one w.bytes (sym e))
+by_cases (worded one w) (misread n other) p q e = absurd (not_malformed _ n _ w.bytes e)
+by_cases (worded one w) (worded other v) p q e = says_word one _ w v e
 
 -- the text of a class has no line feed
 pub class_has_no_feed : (class : Class) → IsProperClass class → Lacks 10 (class_text class)
-class_has_no_feed (Malformed number kind) proper = malformed_plain number kind proper
+class_has_no_feed (Malformed number kind) proper = malformed_plain number _ proper
 class_has_no_feed class proper = feed_lacked (class_text class) refl
 
 -- a text is that of one class
 pub says_class : (one other : Class) → IsProperClass one → IsProperClass other → class_text one ≡ class_text other → one ≡ other
-says_class one other p q e = by_cases (class_case one) (class_case other) p q e
+says_class one other p q e = by_cases (class_case _) (class_case _) p q e

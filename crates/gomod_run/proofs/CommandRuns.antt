@@ -34,14 +34,14 @@ no_sums_read may_give command name (Some sums) is isnt = absurd (rw isnt at is)
 pub are_its_own : {before after : Name → Option Reply → Type 0} {old new : StoreState} → old.asked ≡ [] → old.refused ≡ []
     → HasServed before after old new → AreAnswersBy before (answers_between old new)
 are_its_own {before} {after} {old} {new} unasked unrefused served = (
-  may_all before after old new unasked served,
-  λ name k. may_refuse_all before after old new unrefused served name (rw unrefused at k),
+  may_all _ _ _ _ unasked served,
+  λ name k. may_refuse_all _ _ _ _ unrefused served _ (rw unrefused at k),
 )
 
 -- what a store may answer, another may answer
 pub answers_allowed : {one other : Name → Option Reply → Type 0} (answers : Answers)
     → ((name : Name) (answer : Option Reply) → one name answer → other name answer) → AreAnswersBy one answers → AreAnswersBy other answers
-answers_allowed answers wider are = ((λ name reply k. wider name (Some reply) (are.0 name reply k)), (λ name k. wider name None (are.1 name k)))
+answers_allowed answers wider are = ((λ name reply k. wider name (Some _) (are.0 name reply k)), (λ name k. wider name None (are.1 name k)))
 
 -- a store in memory answers with what it holds, and its device never fails
 pub memory_allowed : (path : Option (List ℕ)) (list : Option (Vec ℕ)) (store : MemoryFiles) → ((name : Name) → held_at store name ≡ file_in_memory path list name)

@@ -35,7 +35,7 @@ module _ (may_open : List ℕ → Opening → Type 0) (may_take : Opening → Ty
       → IsWritten (usage_outcome fault) out out' report report' status → EndsAsStated (IsProgramOutcome may_open may_take given) out out' report report' status
   unreadable_ends NoMemory is written = record { outcome = out_of_memory; as_stated = inr refl; utf8 = IsUtf8-nil; written = written }
   unreadable_ends (Line text) (word, (words, are, unreadable), shown) written =
-      let outcome : Outcome = usage_error (string_bytes text) in
+      let outcome = usage_error (string_bytes text) in
       record { outcome = outcome; as_stated = inl (words, are, rw unreadable (ap usage_error shown)); utf8 = IsUtf8-nil; written = written }
   unreadable_ends fault is written = absurd is
 

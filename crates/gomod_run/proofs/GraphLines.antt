@@ -24,7 +24,7 @@ pub record IsApart (c : ℕ) : Type 0 where
 
 pub vertex_lacks : (c : ℕ) → IsApart c → (x : ModuleVersion) → IsProperStep (Of x) → Lacks c (vertex_text x)
 vertex_lacks c is x proper =
-    both_lack c _ _ (both_lack c _ _ (path_lacks c is.path x.0 proper.0) (is.at, tt)) (version_lacks c is.version x.1 proper.1)
+    both_lack c _ _ (both_lack c _ _ (path_lacks c is.path _ proper.0) (is.at, tt)) (version_lacks c is.version _ proper.1)
 
 blank_is_apart : IsApart 32
 blank_is_apart = record { at = λ e. omega (arith, e); path = refl; version = refl }
@@ -34,16 +34,16 @@ feed_is_apart = record { at = λ e. omega (arith, e); path = refl; version = ref
 
 pub says_vertex : (x y : ModuleVersion) → IsProperStep (Of x) → IsProperStep (Of y) → vertex_text x ≡ vertex_text y → x ≡ y
 says_vertex x y p q e =
-    let (path, version) = cut_at 64 x.0 y.0 x.1 y.1 (path_lacks 64 refl x.0 p.0) (path_lacks 64 refl y.0 q.0) (simp append_assoc at e) in
+    let (path, version) = cut_at _ _ _ _ _ (path_lacks _ refl _ p.0) (path_lacks _ refl _ q.0) (simp append_assoc at e) in
     ap₂ (λ (p v : List ℕ). (p, v)) path version
 
 module _ (main : List ℕ) (is_path : IsPath main) where
   step_lacks : (c : ℕ) → IsApart c → (step : Step) → IsProperStep step → Lacks c (step_text main step)
-  step_lacks c is Main proper = path_lacks c is.path main is_path
+  step_lacks c is Main proper = path_lacks c is.path _ is_path
   step_lacks c is (Of x) proper = vertex_lacks c is x proper
 
   main_is_no_vertex : (x : ModuleVersion) → main ≡ vertex_text x → ⊥
-  main_is_no_vertex x e = has_it 64 x.0 x.1 (subst (Lacks 64) (simp append_assoc at e) (path_lacks 64 refl main is_path))
+  main_is_no_vertex x e = has_it _ _ _ (subst (Lacks 64) (simp append_assoc at e) (path_lacks _ refl _ is_path))
 
   pub says_step : LineSaysOne Step IsProperStep (step_text main)
   says_step Main Main p q e = refl
@@ -53,30 +53,30 @@ module _ (main : List ℕ) (is_path : IsPath main) where
 
   edge_has_no_feed : (one : Edge) → IsProperEdge one → HasNoLineFeed (edge_text main one)
   edge_has_no_feed one proper =
-      both_lack 10 _ _ (both_lack 10 _ _ (step_lacks 10 feed_is_apart one.from proper.0) (plain (codes " ") refl))
-      (vertex_lacks 10 feed_is_apart one.to proper.1)
+      both_lack 10 _ _ (both_lack 10 _ _ (step_lacks 10 feed_is_apart _ proper.0) (plain (codes " ") refl))
+      (vertex_lacks 10 feed_is_apart _ proper.1)
 
   pub says_edge : LineSaysOne Edge IsProperEdge (edge_text main)
   says_edge one other p q e =
-      let (from, to) = cut_at 32 (step_text main one.from) (step_text main other.from) (vertex_text one.to) (vertex_text other.to)
-      (step_lacks 32 blank_is_apart one.from p.0) (step_lacks 32 blank_is_apart other.from q.0)
-      (rw (append_assoc (step_text main one.from), append_assoc (step_text main other.from)) at e) in
-      ap₂ edge (says_step one.from other.from p.0 q.0 from) (says_vertex one.to other.to p.1 q.1 to)
+      let (from, to) = cut_at 32 _ _ _ _
+      (step_lacks _ blank_is_apart _ p.0) (step_lacks _ blank_is_apart _ q.0)
+      (rw (append_assoc _, append_assoc (step_text main other.from)) at e) in
+      ap₂ edge (says_step one.from other.from p.0 q.0 from) (says_vertex _ _ p.1 q.1 to)
 
 pub graph_has_lines : (main : List ℕ) → IsPath main → HasLines Edge IsProperEdge (edge_text main) (graph_text main)
-graph_has_lines main is = lines_are (edge_text main) (edge_has_no_feed main is)
+graph_has_lines main is = lines_are (edge_text main) (edge_has_no_feed _ is)
 
 pub text_says_edges : (main : List ℕ) → IsPath main → TextSaysAll Edge IsProperEdge (graph_text main)
-text_says_edges main is = text_says (edge_text main) (graph_text main) (graph_has_lines main is) (says_edge main is)
+text_says_edges main is = text_says _ (graph_text main) (graph_has_lines _ is) (says_edge main is)
 
 pub line_is_of_an_edge : (main : List ℕ) → IsPath main → LineIsOfOne Edge IsProperEdge (edge_text main) (graph_text main)
-line_is_of_an_edge main is = found_line (edge_text main) (graph_text main) (graph_has_lines main is) (says_edge main is)
+line_is_of_an_edge main is = found_line (edge_text main) (graph_text main) (graph_has_lines _ is) (says_edge main is)
 
 pub chain_has_lines : (main : List ℕ) → IsPath main → HasLines Step IsProperStep (step_text main) (chain_text main)
-chain_has_lines main is = lines_are (step_text main) (step_lacks main is 10 feed_is_apart)
+chain_has_lines main is = lines_are (step_text _) (step_lacks _ is _ feed_is_apart)
 
 pub text_says_steps : (main : List ℕ) → IsPath main → TextSaysAll Step IsProperStep (chain_text main)
-text_says_steps main is = text_says (step_text main) (chain_text main) (chain_has_lines main is) (says_step main is)
+text_says_steps main is = text_says _ (chain_text main) (chain_has_lines _ is) (says_step main is)
 
 pub line_is_of_a_step : (main : List ℕ) → IsPath main → LineIsOfOne Step IsProperStep (step_text main) (chain_text main)
-line_is_of_a_step main is = found_line (step_text main) (chain_text main) (chain_has_lines main is) (says_step main is)
+line_is_of_a_step main is = found_line (step_text _) (chain_text main) (chain_has_lines _ is) (says_step main is)

@@ -29,7 +29,7 @@ one_member (z ∷ xs) up x y in_x in_y same = elim (member_cases z x xs in_x) [
     | inr b ↦ absurd (other_path z y (pairs_head IsBelow z y xs up b) (ap (λ (v : ModuleVersion). v.0) a ∙ same))
   ]
   | inr a ↦ elim (member_cases z y xs in_y) [
-    | inl b ↦ absurd (other_path z x (pairs_head IsBelow z x xs up a) (ap (λ (v : ModuleVersion). v.0) b ∙ sym same))
+    | inl b ↦ absurd (other_path z x (pairs_head IsBelow z x xs up a) (ap (λ v. v.0) b ∙ sym same))
     | inr b ↦ one_member xs (pairs_tail IsBelow z xs up) x y a b same
   ]
 ]
@@ -41,13 +41,13 @@ module _ (run : Run) (selected : List ModuleVersion) (are : AreGreatest run sele
     is_end = are.required x there;
     greatest = λ y end same.
         let (z, inside, path, high) = are.satisfied y end (λ e. are.not_main x there (sym same ∙ e)) in
-        rw (one_member selected are.ascending z x inside there (path ∙ same)) at high;
+        rw (one_member _ are.ascending z x inside there (path ∙ same)) at high;
   }
 
   is_row : (x : ModuleVersion) → IsSelected run.main.path (IsEdge run) x → Contains selected x
   is_row x is =
       let (z, inside, path, high) = are.satisfied x is.is_end is.not_main in
-      let same : z ≡ x = ap₂ (λ (p v : List ℕ). (p, v)) path (same_version z.1 x.1 (is.greatest z (are.required z inside) path) high) in
+      let same : z ≡ x = ap₂ (λ (p v : List ℕ). (p, v)) path (same_version _ _ (is.greatest z (are.required z inside) path) high) in
       subst (Contains selected) same inside
 
   pub as_build_list : IsBuildList run.main.path (replacement_in run.main) (IsEdge run) (main_entry ∷ map (entry_of (replacement_in run.main)) selected)
@@ -55,8 +55,8 @@ module _ (run : Run) (selected : List ModuleVersion) (are : AreGreatest run sele
 
 pub build_list_is_listed : BuildListIsListed
 build_list_is_listed run main table selected found greatest =
-    no_fault main table found (
+    no_fault _ _ found (
       main_entry ∷ map (entry_of (replacement_in main)) selected,
-      as_build_list (run_of main table run.answers.asked) selected greatest,
+      as_build_list (run_of _ _ _) selected greatest,
       no_path refl refl,
     )

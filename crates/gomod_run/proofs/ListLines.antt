@@ -36,19 +36,19 @@ both_lack c (x ∷ a) b p q = (p.0, both_lack c a b p.1 q)
 
 -- a text of bytes above the line feed has none
 pub plain : (text : List ℕ) → list_all (λ b. nat_lt 10 b) text ≡ true → Lacks 10 text
-plain text all = lacks 10 (λ b. nat_lt 10 b) refl text all
+plain text all = lacks _ (λ b. nat_lt 10 b) refl _ all
 
 pub path_lacks : (c : ℕ) → is_byte_of_path c ≡ false → (text : List ℕ) → IsPath text → Lacks c text
-path_lacks c other text is = lacks c is_byte_of_path other text (path-bytes text is)
+path_lacks c other text is = lacks c _ other _ (path-bytes _ is)
 
 pub version_lacks : (c : ℕ) → is_byte_of_version c ≡ false → (text : List ℕ) → IsVersion text → Lacks c text
-version_lacks c other text is = lacks c is_byte_of_version other text (version-bytes text is)
+version_lacks c other text is = lacks c _ other _ (version-bytes _ is)
 
 pub path_has_no_blank : (text : List ℕ) → IsPath text → Lacks 32 text
-path_has_no_blank text is = path_lacks 32 refl text is
+path_has_no_blank text is = path_lacks _ refl _ is
 
 pub version_has_no_blank : (text : List ℕ) → IsVersion text → Lacks 32 text
-version_has_no_blank text is = version_lacks 32 refl text is
+version_has_no_blank text is = version_lacks _ refl _ is
 
 -- ---- where a text is cut
 
@@ -74,14 +74,14 @@ not_in_end c b bs s other (inr (rest, is)) e = other (cc (is, e))
 -- what precedes such an end, and the end
 pub cut_end : (c : ℕ) (a b s t : List ℕ) → Lacks c a → Lacks c b → IsEndAt c s → IsEndAt c t → a ++ s ≡ b ++ t → (a ≡ b) × (s ≡ t)
 cut_end c [] [] s t p q u v e = (refl, e)
-cut_end c [] (b ∷ bs) s t p q u v e = absurd (not_in_end c b (bs ++ t) s q.0 u e)
-cut_end c (a ∷ more) [] s t p q u v e = absurd (not_in_end c a (more ++ s) t p.0 v (sym e))
+cut_end c [] (b ∷ bs) s t p q u v e = absurd (not_in_end c b _ s q.0 u e)
+cut_end c (a ∷ more) [] s t p q u v e = absurd (not_in_end c a _ t p.0 v (sym e))
 cut_end c (a ∷ more) (b ∷ bs) s t p q u v e = let (same, ends) = cut_end c more bs s t p.1 q.1 u v (cc e) in ((cc (e, same)), ends)
 
 -- what precedes the first such byte, and what follows it
 pub cut_at : (c : ℕ) (a b x y : List ℕ) → Lacks c a → Lacks c b → a ++ c ∷ x ≡ b ++ c ∷ y → (a ≡ b) × (x ≡ y)
 cut_at c a b x y p q e =
-    let (same, ends) = cut_end c a b (c ∷ x) (c ∷ y) p q (inr (x, refl)) (inr (y, refl)) e in (same, (cc ends))
+    let (same, ends) = cut_end c a b _ _ p q (inr (x, refl)) (inr (y, refl)) e in (same, (cc ends))
 
 -- ---- lines of any kind
 
@@ -90,9 +90,9 @@ module _ {X : Type 0} (text : X → List ℕ) {IsProper : X → Type 0} where
   lines_are plain [] proper = lines_nil
   lines_are plain (x ∷ xs) proper =
       let behind = flat_map (λ y. line (text y)) xs in
-      ap lines_of (append_assoc (text x) (codes "\n") behind)
-      ∙ ended_line (text x) behind (plain x (proper x (member_head x xs)))
-      ∙ ap (λ (ls : List (List ℕ)). text x ∷ ls) (lines_are plain xs (λ y there. proper y (member_tail x y xs there)))
+      ap lines_of (append_assoc _ _ behind)
+      ∙ ended_line _ _ (plain x (proper x (member_head x _)))
+      ∙ ap (λ ls. text x ∷ ls) (lines_are plain xs (λ y there. proper y (member_tail x y xs there)))
 
   same_are : LineSaysOne X IsProper text → (xs ys : List X) → AreAll X IsProper xs → AreAll X IsProper ys → map text xs ≡ map text ys → xs ≡ ys
   same_are says [] [] p q e = refl
@@ -108,7 +108,7 @@ module _ {X : Type 0} (text : X → List ℕ) {IsProper : X → Type 0} where
 
     pub found_line : LineIsOfOne X IsProper text whole
     found_line xs y p q there =
-        let (x, inside, same) = from_mapped text xs (text y) (rw (lines xs p) at there) in
+        let (x, inside, same) = from_mapped _ xs _ (rw (lines xs p) at there) in
         subst (Contains xs) (says x y (p x inside) q same) inside
 
 -- ---- rows
@@ -122,60 +122,60 @@ mark_has_no_feed = plain (codes " => ") refl
 
 name_has_no_feed : (path version : List ℕ) → IsPath path → IsVersion version → HasNoLineFeed ((path ++ codes " ") ++ version)
 name_has_no_feed path version p v =
-    plain_append _ _ (plain_append _ _ (path-plain path p) (plain (codes " ") refl)) (version-plain version v)
+    plain_append _ _ (plain_append _ _ (path-plain _ p) (plain (codes " ") refl)) (version-plain _ v)
 
 suffix_has_no_feed : (right : Option Right) → IsProperRight right → HasNoLineFeed (replacement_suffix right)
 suffix_has_no_feed None proper = tt
-suffix_has_no_feed (Some (Folder text)) proper = plain_append (codes " => ") text mark_has_no_feed proper.1
+suffix_has_no_feed (Some (Folder text)) proper = plain_append (codes " => ") _ mark_has_no_feed proper.1
 suffix_has_no_feed (Some (Module path version)) proper =
-    plain_append (codes " => ") ((path ++ codes " ") ++ version) mark_has_no_feed (name_has_no_feed path version proper.0 proper.1)
+    plain_append (codes " => ") ((path ++ codes " ") ++ version) mark_has_no_feed (name_has_no_feed _ _ proper.0 proper.1)
 
 row_has_no_feed : (main : List ℕ) → IsPath main → (row : Entry) → IsProperRow row → HasNoLineFeed (row_text main row)
-row_has_no_feed main is (Main, right) proper = rw proper (plain_append main [] (path-plain main is) tt)
+row_has_no_feed main is (Main, right) proper = rw proper (plain_append main _ (path-plain _ is) tt)
 row_has_no_feed main is (Of x, right) proper =
-    plain_append _ _ (name_has_no_feed x.0 x.1 proper.0 proper.1) (suffix_has_no_feed right proper.2)
+    plain_append _ _ (name_has_no_feed _ _ proper.0 proper.1) (suffix_has_no_feed _ proper.2)
 
 -- ---- right sides
 
 folder_is_no_module : (text path version : List ℕ) → is_folder_path text ≡ true → IsPath path → text ≡ (path ++ codes " ") ++ version → ⊥
 folder_is_no_module text path version folder is e =
-    true≢false (sym folder ∙ rw e (rw append_assoc (begins-no-folder path (32 ∷ version) is)))
+    true≢false (sym folder ∙ rw e (rw append_assoc (begins-no-folder _ _ is)))
 
 says_right : (one other : Right) → IsProperRight (Some one) → IsProperRight (Some other) → replacement_text one ≡ replacement_text other → one ≡ other
 says_right (Folder text) (Folder second) p q e = ap Folder e
-says_right (Folder text) (Module path version) p q e = absurd (folder_is_no_module text path version p.0 q.0 e)
-says_right (Module path version) (Folder text) p q e = absurd (folder_is_no_module text path version q.0 p.0 (sym e))
+says_right (Folder text) (Module path version) p q e = absurd (folder_is_no_module _ _ _ p.0 q.0 e)
+says_right (Module path version) (Folder text) p q e = absurd (folder_is_no_module _ _ version q.0 p.0 (sym e))
 says_right (Module path version) (Module second at) p q e =
-    let (same, rest) = cut_at 32 path second version at (path_has_no_blank path p.0) (path_has_no_blank second q.0) (simp append_assoc at e) in
+    let (same, rest) = cut_at 32 _ _ _ at (path_has_no_blank path p.0) (path_has_no_blank _ q.0) (simp append_assoc at e) in
     ap₂ Module same rest
 
 says_suffix : (one other : Option Right) → IsProperRight one → IsProperRight other → replacement_suffix one ≡ replacement_suffix other → one ≡ other
 says_suffix None None p q e = refl
 says_suffix None (Some other) p q e = absurd (cc e)
 says_suffix (Some one) None p q e = absurd (cc e)
-says_suffix (Some one) (Some other) p q e = ap Some (says_right one other p q (cc e))
+says_suffix (Some one) (Some other) p q e = ap Some (says_right _ _ p q (cc e))
 
 module _ (main : List ℕ) (is_path : IsPath main) where
   main_is_no_module : (p v s : List ℕ) (right : Option Right) → right ≡ None → main ++ replacement_suffix right ≡ ((p ++ codes " ") ++ v) ++ s → ⊥
   main_is_no_module p v s right none e =
-      has_it 32 p (v ++ s) (subst (Lacks 32) (sym (append-nil main) ∙ simp append_assoc at (rw none at e)) (path_has_no_blank main is_path))
+      has_it 32 p (v ++ s) (subst (Lacks 32) (sym (append-nil _) ∙ simp append_assoc at (rw none at e)) (path_has_no_blank _ is_path))
 
   pub says_row : LineSaysOne Entry IsProperRow (row_text main)
   says_row (Main, r) (Main, s) p q e = rw (p, q)
-  says_row (Main, r) (Of y, s) p q e = absurd (main_is_no_module y.0 y.1 (replacement_suffix s) r p e)
-  says_row (Of x, r) (Main, s) p q e = absurd (main_is_no_module x.0 x.1 (replacement_suffix r) s q (sym e))
+  says_row (Main, r) (Of y, s) p q e = absurd (main_is_no_module _ _ _ r p e)
+  says_row (Of x, r) (Main, s) p q e = absurd (main_is_no_module _ _ _ s q (sym e))
   says_row (Of x, r) (Of y, s) p q e =
-      let (path, after) = cut_at 32 x.0 y.0 (x.1 ++ replacement_suffix r) (y.1 ++ replacement_suffix s) (path_has_no_blank x.0 p.0)
-      (path_has_no_blank y.0 q.0) (simp append_assoc at e) in
-      let (version, right) = cut_end 32 x.1 y.1 (replacement_suffix r) (replacement_suffix s) (version_has_no_blank x.1 p.1)
-      (version_has_no_blank y.1 q.1) (suffix_ends r) (suffix_ends s) after in
+      let (path, after) = cut_at _ _ _ _ _ (path_has_no_blank _ p.0)
+      (path_has_no_blank _ q.0) (simp append_assoc at e) in
+      let (version, right) = cut_end _ _ _ _ _ (version_has_no_blank _ p.1)
+      (version_has_no_blank _ q.1) (suffix_ends r) (suffix_ends s) after in
       rw (path, version, says_suffix r s p.2 q.2 right)
 
 pub list_has_lines : (main : List ℕ) → IsPath main → HasLines Entry IsProperRow (row_text main) (list_text main)
-list_has_lines main is = lines_are (row_text main) (row_has_no_feed main is)
+list_has_lines main is = lines_are (row_text main) (row_has_no_feed _ is)
 
 pub text_says_rows : (main : List ℕ) → IsPath main → TextSaysAll Entry IsProperRow (list_text main)
-text_says_rows main is = text_says (row_text main) (list_text main) (list_has_lines main is) (says_row main is)
+text_says_rows main is = text_says (row_text main) (list_text _) (list_has_lines _ is) (says_row main is)
 
 pub line_is_of_a_row : (main : List ℕ) → IsPath main → LineIsOfOne Entry IsProperRow (row_text main) (list_text main)
-line_is_of_a_row main is = found_line (row_text main) (list_text main) (list_has_lines main is) (says_row main is)
+line_is_of_a_row main is = found_line (row_text main) (list_text _) (list_has_lines _ is) (says_row main is)

@@ -24,9 +24,9 @@ pub held_written : (command : Command) (main : List ℕ) (sums : Option (List �
     → HoldsAtAnyEnd command main sums before after old new status (λ reported. IsWritten reported out out' report report' status)
 held_written command main sums before after old new outcome out out' report report' status written holds = record {
   in_turn = holds.in_turn;
-  all_answered = λ done. holds.all_answered (written_done outcome out out' report report' status written done);
+  all_answered = λ done. holds.all_answered (written_done _ _ _ _ _ _ written done);
   fails = holds.fails;
   served = holds.served;
-  device = λ name refused. written_as outcome (failure_outcome (device_line name)) out out' report report' status (holds.device name refused) written;
-  no_list = λ path all other is refusal. written_as outcome other out out' report report' status (holds.no_list path all other is refusal) written;
+  device = λ name refused. written_as _ _ _ _ _ _ _ (holds.device name refused) written;
+  no_list = λ path all other is refusal. written_as _ _ _ _ _ _ _ (holds.no_list path all other is refusal) written;
 }

@@ -46,7 +46,7 @@ usage_written out report report' text (Err e) status same part = inr (inr (took_
 pub written_as : (one other : Outcome) (out out' report report' : SinkState) (status : ℕ) → one ≡ other
     → IsWritten one out out' report report' status → IsWritten other out out' report report' status
 written_as one other out out' report report' status same written =
-    subst (λ (outcome : Outcome). IsWritten outcome out out' report report' status) same written
+    subst (λ outcome. IsWritten outcome out out' report report' status) same written
 
 usage_utf8 : (fault : UsageFault) → IsUtf8 (usage_outcome fault).text
 usage_utf8 (Help text) = IsUtf8-string_bytes text
