@@ -74,7 +74,7 @@ module _ {command : Command} (prints : Prints) {file other : List ℕ} {sums : O
   both_print is be ends =
       let run = run_over file sums runs.asked in
       let after = run_over other sums runs.later in
-      let (u, found, others) = printed_by _ _ _ _ runs.second_says be ends in
+      let (u, found, others) = printed_by runs.second_says be ends in
       let (t, valid, those) =
       prints_too _ after first second u found runs.first_says refl runs.alike more.replaces
       (λ v says x is. opened_more first second more v u runs.asked runs.later says x is) refl _ one is in
@@ -109,5 +109,5 @@ graph_keeps_lines file other sums first second one next runs more ends =
       others,
       record { table = both.table; found = both.found; are = are; prints = text },
       record { table = both.later; found = both.later_found; are = others_are; prints = others_text },
-      λ e there. (others_are.each e).1 (edge_more first second more both.table both.later runs.asked runs.later both.says _ _ ((are.each e).0 there)),
+      λ e there. (others_are.each e).1 (edge_more _ _ more both.table both.later runs.asked runs.later both.says _ _ ((are.each e).0 there)),
     )

@@ -48,30 +48,30 @@ Ways last lines = AreChained (the_line ∷ []) (codes "m") last lines
 
 ends_in_digit : (front : List ℕ) → the_line ≡ front ++ codes "m" → ⊥
 ends_in_digit front e =
-    let whole : 12 ≡ length (front ++ codes "m") = ap (λ (t : List ℕ). length t) e in
+    let whole : 12 ≡ length (front ++ codes "m") = ap (λ t. length t) e in
     let parts = length-append front (codes "m") in
     let size : length front ≡ 11 = omega (arith, whole, parts) in
-    let behind : drop 11 the_line ≡ codes "m" = ap (drop 11) e ∙ drop_at front (codes "m") 11 size in
+    let behind : drop 11 the_line ≡ codes "m" = ap (drop 11) e ∙ drop_at _ _ 11 size in
     let digit = heads _ _ _ _ behind in omega (arith, digit)
 
 -- no line leads to m
-way_to_m : (last : List ℕ) (lines : List (List ℕ)) → Ways last lines → last ≡ codes "m" → lines ≡ codes "m" ∷ []
-way_to_m last lines here is = refl
-way_to_m last lines (further {last = before} {lines = others} next leads there) is =
-    let text : the_line ≡ (before ++ codes " ") ++ codes "m" =
-    one_member _ _ there ∙ ap (λ (t : List ℕ). (before ++ codes " ") ++ t) is in
+way_to_m : {last : List ℕ} {lines : List (List ℕ)} → Ways last lines → last ≡ codes "m" → lines ≡ codes "m" ∷ []
+way_to_m here is = refl
+way_to_m {lines} (further {last = before} {lines = others} next leads there) is =
+    let text =
+    one_member _ _ there ∙ ap (λ t. (before ++ codes " ") ++ t) is in
     absurd (ends_in_digit _ text)
 
 -- and one to a.b v1.0.0
-way_to_a : (last : List ℕ) (lines : List (List ℕ)) → Ways last lines → last ≡ codes "a.b@v1.0.0" → lines ≡ codes "m" ∷ codes "a.b@v1.0.0" ∷ []
-way_to_a last lines here is = let first = heads _ _ _ _ is in absurd (omega (arith, first))
-way_to_a last lines (further {last = before} {lines = others} next leads there) is =
-    let text : codes "m" ++ codes " a.b@v1.0.0" ≡ before ++ codes " a.b@v1.0.0" =
-    one_member _ _ there ∙ ap (λ (t : List ℕ). (before ++ codes " ") ++ t) is
-    ∙ append_assoc before (codes " ") (codes "a.b@v1.0.0") in
-    let own : before ≡ codes "m" = sym (append_cancel_right (codes "m") before (codes " a.b@v1.0.0") text) in
-    ap (λ (ls : List (List ℕ)). ls ++ next ∷ []) (way_to_m _ _ leads own)
-    ∙ ap (λ (t : List ℕ). codes "m" ∷ t ∷ []) is
+way_to_a : {last : List ℕ} {lines : List (List ℕ)} → Ways last lines → last ≡ codes "a.b@v1.0.0" → lines ≡ codes "m" ∷ codes "a.b@v1.0.0" ∷ []
+way_to_a here is = let first = heads _ _ _ _ is in absurd (omega (arith, first))
+way_to_a {lines} (further {last = before} {lines = others} next leads there) is =
+    let text =
+    one_member _ _ there ∙ ap (λ t. (before ++ codes " ") ++ t) is
+    ∙ append_assoc before _ _ in
+    let own : before ≡ codes "m" = sym (append_cancel_right _ before _ text) in
+    ap (λ ls. ls ++ next ∷ []) (way_to_m leads own)
+    ∙ ap (λ t. codes "m" ∷ t ∷ []) is
 
 module _ (rows : List Entry) (edges : List Edge) (main : Main) (list_run graph_run : Given)
     (show : ShowA rows edges main list_run graph_run) where
@@ -86,7 +86,7 @@ module _ (rows : List Entry) (edges : List Edge) (main : Main) (list_run graph_r
       rw are at leads in
       let by_line : Ways (codes "a.b@v1.0.0") lines =
       subst (λ (m : List ℕ). AreChained (map (edge_text m) (edge_to one_zero ∷ [])) m (codes "a.b@v1.0.0") lines) own way in
-      says ∙ ap (λ (ls : List (List ℕ)). text_outcome (text_of ls)) (way_to_a _ _ by_line refl)
+      says ∙ ap (λ (ls : List (List ℕ)). text_outcome (text_of ls)) (way_to_a by_line refl)
 
   no_row_of_b : (row : Entry) → Contains rows row → path_of main.path row.0 ≡ codes "b.c" → ⊥
   no_row_of_b (FromMain, right) there is =
@@ -109,4 +109,4 @@ chain_is_to_another rows edges main list_run graph_run show law =
 pub unlisted_is_shown : UnlistedIsShown
 unlisted_is_shown rows edges main list_run graph_run show law =
     let none : ¬ (HasEntryFor main.path rows (codes "b.c")) = λ has. no_row_of_b _ edges _ list_run graph_run show _ has.1 has.2 in
-    let code : 0 ≡ 1 = ap (λ (o : Outcome). o.status) (law.unlisted none) in omega (arith, code)
+    let code : 0 ≡ 1 = ap (λ o. o.status) (law.unlisted none) in omega (arith, code)

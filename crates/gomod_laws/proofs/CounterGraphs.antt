@@ -33,9 +33,9 @@ use Rattle.gomod_laws.proofs.WrittenLists.{each_of}
 
 -- ---- walks
 
-walk_ends : (E : Edges) {s : Step} {steps : List Step} → IsWalk E s steps → (front : List Step) × (steps ≡ front ++ s ∷ [])
-walk_ends E here = ([], refl)
-walk_ends E (further {s} {y} {steps} walk is) = (steps, refl)
+walk_ends : {E : Edges} {s : Step} {steps : List Step} → IsWalk E s steps → (front : List Step) × (steps ≡ front ++ s ∷ [])
+walk_ends here = ([], refl)
+walk_ends (further {s} {y} {steps} walk is) = (steps, refl)
 
 -- ---- the steps of a text
 
@@ -63,15 +63,15 @@ by_b_proper = each_of IsProperStep by_b (tt, (b_step, (a_step, tt)))
 to_b_proper : AreProperSteps to_b
 to_b_proper = each_of IsProperStep to_b (tt, (b_step, tt))
 
-not_from_main : (x : ModuleVersion) (rest : List Step) → FromMain ∷ rest ≡ Of x ∷ [] → ⊥
-not_from_main x rest e = cc e
+not_from_main : {x : ModuleVersion} {rest : List Step} → FromMain ∷ rest ≡ Of x ∷ [] → ⊥
+not_from_main e = cc e
 
 -- ---- shortest chains
 
 pub chain_ends_elsewhere : ChainEndsElsewhere
 chain_ends_elsewhere run (main, table, rows, s, steps, found, are, (entry, rest, at, is), says, walk, least) =
     let (own, same) = steps_are run _ table found _ walk (codes "m") (Of a_one ∷ []) m_has_no_feed to_a_proper (sym (same_text _ _ says)) in
-    let (front, ends) = walk_ends _ walk in
+    let (front, ends) = walk_ends walk in
     let last : s ≡ Of a_one = (same_from_push _ (FromMain ∷ []) s _ (sym ends ∙ same)).1 in
     other_name (ap (path_of main.path) (sym last ∙ sym is) ∙ at.path_is)
 
@@ -79,14 +79,14 @@ pub chain_begins_elsewhere : ChainBeginsElsewhere
 chain_begins_elsewhere path run (main, table, rows, s, steps, found, are, row, says, walk, least) =
     let same = known_steps run _ table found _ walk _ (each_of IsProperStep (Of a_one ∷ []) (a_step, tt)) (sym (same_text _ _ says)) in
     let (rest, begins) = walk_begins _ walk in
-    not_from_main _ _ (sym begins ∙ same)
+    not_from_main (sym begins ∙ same)
 
 pub chain_is_too_long : ChainIsTooLong
 chain_is_too_long run file is top (main, table, rows, s, steps, found, are, row, says, walk, least) =
     let edges = IsEdge (run_of main table run.answers.asked) in
     let (own, same) = steps_are run _ table found _ walk (codes "m") (Of b_one ∷ Of a_one ∷ []) m_has_no_feed by_b_proper
     (sym (same_text _ _ says)) in
-    let (front, ends) = walk_ends _ walk in
+    let (front, ends) = walk_ends walk in
     let last : s ≡ Of a_one = (same_from_push _ (FromMain ∷ Of b_one ∷ []) s _ (sym ends ∙ same)).1 in
     let required : IsRequiredBy main a_one = rw (one_main run.file file main is found.read.main_file) at top in
     let shorter = further here required in
@@ -100,12 +100,12 @@ edges_known : (run : Given) (main : Main) (table : Option Sums) (edges : List Ed
     → AreEdges (run_of main table run.answers.asked) edges
     → graph_of_a ≡ text_outcome (graph_text main.path edges) → edges ≡ edge_to one_zero ∷ []
 edges_known run main table edges found exact says =
-    (edges_are run main table found (codes "m") edges [] a_one m_has_no_blank m_has_no_sign (edge_proper _ one_zero_is) exact
+    (edges_are run main table found (codes "m") edges [] a_one m_has_no_blank m_has_no_sign (edge_proper one_zero_is) exact
     (sym (same_text _ _ says))).1
 
 -- no such edge leads to b.c
-b_is_no_end : (edges : List Edge) (s : Step) → edges ≡ edge_to one_zero ∷ [] → among edges s b_one → ⊥
-b_is_no_end edges s same there = a_is_not_b (ap (λ (e : Edge). e.to) (one_member _ _ (rw same at there)))
+b_is_no_end : {edges : List Edge} (s : Step) → edges ≡ edge_to one_zero ∷ [] → among edges s b_one → ⊥
+b_is_no_end s same there = a_is_not_b (ap (λ e. e.to) (one_member _ _ (rw same at there)))
 
 abbrev rows_with_b : List Entry
 rows_with_b = main_entry ∷ (Of b_one, None) ∷ []
@@ -124,7 +124,7 @@ list_is_of_another_graph path run chain (main, table, edges, rows, found, exact,
     let there : Contains rows (Of b_one, None) = rw same
     (member_tail main_entry _ ((Of b_one, None) ∷ []) (member_head (Of b_one, None) [])) in
     let (s, end) = rows_are_ends main.path (replacement_in main) edges rows one.build_list b_one None there in
-    b_is_no_end _ s (edges_known _ _ _ _ found exact one.graph_is) end
+    b_is_no_end s (edges_known _ _ _ _ found exact one.graph_is) end
 
 pub chain_is_of_another_graph : ChainIsOfAnotherGraph
 chain_is_of_another_graph after limit path run list (main, table, edges, rows, found, exact, one) = elim one.chain_is [
@@ -137,5 +137,5 @@ chain_is_of_another_graph after limit path run list (main, table, edges, rows, f
       (sym (same_text _ _ says)) in
       let there : Contains steps (Of b_one) = rw same (member_tail FromMain _ (Of b_one ∷ []) (member_head (Of b_one) [])) in
       let (t, end) = walk_step _ (chain_walk _ chain) _ there in
-      b_is_no_end _ t (edges_known _ _ _ _ found exact one.graph_is) end)
+      b_is_no_end t (edges_known _ _ _ _ found exact one.graph_is) end)
 ]

@@ -58,10 +58,10 @@ b_proper : IsProperRow (row_at b_one)
 b_proper = (b_is_path, one_zero_is, tt)
 
 row_same : (x y : ModuleVersion) → row_at x ≡ row_at y → x ≡ y
-row_same x y e = of_name x y (ap (λ (row : Entry). row.0) e)
+row_same x y e = of_name x y (ap (λ row. row.0) e)
 
 main_is_no_row : (x : ModuleVersion) → main_entry ≡ row_at x → ⊥
-main_is_no_row x e = main_is_no_of x (ap (λ (row : Entry). row.0) e)
+main_is_no_row x e = main_is_no_of x (ap (λ row. row.0) e)
 
 pub a_is_not_b : a_one ≡ b_one → ⊥
 a_is_not_b e = other_name (ap (λ (x : ModuleVersion). x.0) e)
@@ -74,7 +74,7 @@ with_a_proper = each_of IsProperRow rows_with_a (refl, (a_proper, tt))
 
 b_is_no_row : Contains rows_with_a (row_at b_one) → ⊥
 b_is_no_row there =
-    each_of (λ row. row ≢ row_at b_one) rows_with_a (main_is_no_row b_one, ((λ e. a_is_not_b (row_same a_one b_one e)), tt)) (row_at b_one) there refl
+    each_of (λ row. row ≢ row_at b_one) rows_with_a (main_is_no_row b_one, ((λ e. a_is_not_b (row_same _ _ e)), tt)) (row_at b_one) there refl
 
 -- ---- the rows of a text
 
@@ -83,7 +83,7 @@ module _ (run : Given) (main : Main) (table : Option Sums) (rows : List Entry) (
   -- rows with this text are these rows, and the main module is m
   pub rows_are : (known : List Entry) → AreProperRows (main_entry ∷ known) → list_text main.path rows ≡ list_text (codes "m") (main_entry ∷ known)
       → (main.path ≡ codes "m") × (rows ≡ main_entry ∷ known)
-  rows_are known proper e = begun.rows_are run main table found (codes "m") rows known m_has_no_feed proper are e
+  rows_are known proper e = begun.rows_are _ main table found (codes "m") rows known m_has_no_feed proper are e
 
   -- some of the rows with the text of these rows are these rows
   some_are : (shown known : List Entry) → ((row : Entry) → Contains shown row → Contains rows row) → AreProperRows known
@@ -100,8 +100,8 @@ two_is_above e = false≢true (sym e ∙ ap is_gt one_one_is_above)
 abbrev IsName : ModuleVersion → Type 0
 IsName x = IsPath x.0 × IsVersion x.1
 
-heads_same : (x y : Entry) (xs ys : List Entry) → x ∷ xs ≡ y ∷ ys → x ≡ y
-heads_same x y xs ys e = cc e
+heads_same : {x y : Entry} {xs ys : List Entry} → x ∷ xs ≡ y ∷ ys → x ≡ y
+heads_same e = cc e
 
 tails_same : (x y : Entry) (xs ys : List Entry) → x ∷ xs ≡ y ∷ ys → xs ≡ ys
 tails_same x y xs ys e = cc e
@@ -111,10 +111,10 @@ vertices_are replaces [] [] e = refl
 vertices_are replaces [] (y ∷ ys) e = absurd (cc e)
 vertices_are replaces (x ∷ xs) [] e = absurd (cc e)
 vertices_are replaces (x ∷ xs) (y ∷ ys) e =
-    let head = heads_same _ _ _ _ e in
-    let same = of_name x y (ap (λ (row : Entry). row.0) head) in
+    let head = heads_same e in
+    let same = of_name x y (ap (λ row. row.0) head) in
     let rest = tails_same _ _ _ _ e in
-    ap (λ (z : ModuleVersion). z ∷ xs) same ∙ ap (λ (zs : List ModuleVersion). y ∷ zs) (vertices_are _ _ _ rest)
+    ap (λ z. z ∷ xs) same ∙ ap (λ zs. y ∷ zs) (vertices_are _ _ _ rest)
 
 names_proper : (known : List ModuleVersion) → AllByRecursion IsName known → AllByRecursion IsProperRow (map row_at known)
 names_proper [] names = tt
@@ -128,15 +128,15 @@ record Selects (run : Given) (known : List ModuleVersion) : Type 0 where
   own : main.path ≡ codes "m"
   greatest : AreGreatest (run_of main table run.answers.asked) known
 
-selects : (run : Given) (text : List ℕ) (known : List ModuleVersion) → AllByRecursion IsName known
+selects : {run : Given} {text : List ℕ} (known : List ModuleVersion) → AllByRecursion IsName known
     → text ≡ list_text (codes "m") (main_entry ∷ map row_at known)
     → ShowsBuildList run (text_outcome text) → Selects run known
-selects run text known names is (main, table, selected, found, greatest, says) =
-    let r = run_of main table run.answers.asked in
+selects {run} known names is (main, table, selected, found, greatest, says) =
+    let r = run_of _ _ run.answers.asked in
     let rows = main_entry ∷ map (entry_of (replacement_in main)) selected in
     let are = as_build_list r selected greatest in
     let proper = each_of IsProperRow (main_entry ∷ map row_at known) (refl, names_proper _ names) in
-    let (own, same) = rows_are run _ table _ found are _ proper (sym (same_text _ _ says) ∙ is) in
+    let (own, same) = rows_are _ _ table _ found are _ proper (sym (same_text _ _ says) ∙ is) in
     let modules = vertices_are _ _ _ (tails_same _ _ _ _ same) in
     record { main = main; table = table; found = found; own = own; greatest = rw modules at greatest }
 
@@ -151,12 +151,12 @@ two_name = (a_is_path, one_one_is)
 
 pub path_is_twice : PathIsTwice
 path_is_twice run shows =
-    let s = selects _ _ (a_one ∷ a_two ∷ []) (a_name, (two_name, tt)) refl shows in
+    let s = selects (a_one ∷ a_two ∷ []) (a_name, (two_name, tt)) refl shows in
     let below = s.greatest.ascending 0 1 a_one (omega arith) (omega arith) in cc below
 
 pub rows_are_unordered : RowsAreUnordered
 rows_are_unordered run shows =
-    let s = selects _ _ (b_one ∷ a_one ∷ []) (b_name, (a_name, tt)) refl shows in
+    let s = selects (b_one ∷ a_one ∷ []) (b_name, (a_name, tt)) refl shows in
     let below = s.greatest.ascending 0 1 a_one (omega arith) (omega arith) in cc below
 
 first_lacks : Lacks 10 (codes "a.b v1.0.0")
@@ -173,46 +173,46 @@ main_is_missing run (main, table, selected, found, greatest, says) =
     let plain : Lacks 32 (codes "a.b v1.0.0") = subst (Lacks 32) (sym own) (path_has_no_blank _ is) in
     plain.1.1.1.0 refl
 
-same_main : (run : Given) (main other : Main) (table : Option Sums) → AreFound run other table [] → IsMainFile run.file main → main ≡ other
-same_main run main other table found is = one_main _ _ _ is found.read.main_file
+same_main : (run : Given) {main other : Main} {table : Option Sums} → AreFound run other table [] → IsMainFile run.file main → main ≡ other
+same_main run found is = one_main _ _ _ is found.read.main_file
 
-a_is_not_main : (path : List ℕ) → path ≡ codes "m" → codes "a.b" ≡ path → ⊥
-a_is_not_main path own e = let first : ◌≡◌ {A = ℕ} 97 109 = cc (e ∙ own) in omega (arith, first)
+a_is_not_main : {path : List ℕ} → path ≡ codes "m" → codes "a.b" ≡ path → ⊥
+a_is_not_main own e = let first : ◌≡◌ {A = ℕ} 97 109 = cc (e ∙ own) in omega (arith, first)
 
 pub row_is_too_low : RowIsTooLow
 row_is_too_low run main is top shows =
-    let s = selects _ _ (a_one ∷ []) (a_name, tt) refl shows in
-    let here : IsRequiredBy s.main a_two = rw (same_main run main s.main s.table s.found is) at top in
-    let (x, there, path, high) = s.greatest.satisfied a_two (FromMain, here) (a_is_not_main _ s.own) in
+    let s = selects (a_one ∷ []) (a_name, tt) refl shows in
+    let here : IsRequiredBy s.main a_two = rw (same_main run s.found is) at top in
+    let (x, there, path, high) = s.greatest.satisfied _ (FromMain, here) (a_is_not_main s.own) in
     two_is_above (rw (sym (one_member _ x there)) at high)
 
 pub required_has_no_row : RequiredHasNoRow
 required_has_no_row run main is top shows =
-    let s = selects run (codes "m\n") [] tt refl shows in
-    let here : IsRequiredBy s.main a_one = rw (same_main run main s.main s.table s.found is) at top in
-    let (x, there, path, high) = s.greatest.satisfied a_one (FromMain, here) (a_is_not_main _ s.own) in
+    let s = selects [] tt refl shows in
+    let here : IsRequiredBy s.main a_one = rw (same_main _ s.found is) at top in
+    let (x, there, path, high) = s.greatest.satisfied _ (FromMain, here) (a_is_not_main s.own) in
     no_member x there
 
 pub row_is_not_required : RowIsNotRequired
 row_is_not_required run main is nothing shows =
-    let s = selects _ _ (a_one ∷ []) (a_name, tt) refl shows in
-    let none : s.main.requirements ≡ [] = ap (λ (m : Main). m.requirements) (sym (same_main _ _ _ _ s.found is)) ∙ nothing in
-    none_leads _ none _ (s.greatest.required a_one (member_head a_one []))
+    let s = selects (a_one ∷ []) (a_name, tt) refl shows in
+    let none : s.main.requirements ≡ [] = ap (λ (m : Main). m.requirements) (sym (same_main _ s.found is)) ∙ nothing in
+    none_leads none _ (s.greatest.required a_one (member_head a_one []))
 
 -- ---- parts
 
 whole_is : (run : Given) (main : Main) (table : Option Sums) (rows : List Entry) → AreFound run main table []
     → AreRows (run_of main table run.answers.asked) rows
     → list_of_a ≡ text_outcome (list_text main.path rows) → (main.path ≡ codes "m") × (rows ≡ rows_with_a)
-whole_is run main table rows found are says = rows_are run _ table _ found are _ with_a_proper (sym (same_text _ _ says))
+whole_is run main table rows found are says = rows_are _ _ table _ found are _ with_a_proper (sym (same_text _ _ says))
 
 pub part_has_another_row : PartHasAnotherRow
 part_has_another_row after limit run (main, table, rows, found, are, says, prints) =
     let (own, same) = whole_is _ _ _ _ found are says in
-    let (shown, text, inside) = printed_rows _ _ _ _ _ refl prints in
-    let is = some_are run _ table _ found are _ (row_at b_one ∷ []) inside
+    let (shown, text, inside) = printed_rows refl prints in
+    let is = some_are _ _ table _ found are _ (row_at b_one ∷ []) inside
     (each_of IsProperRow (row_at b_one ∷ []) (b_proper, tt)) (sym text) in
-    let there : Contains shown (row_at b_one) = rw is (member_head (row_at b_one) []) in
+    let there : Contains shown (row_at b_one) = rw is (member_head _ []) in
     b_is_no_row (rw same at (inside (row_at b_one) there))
 
 pub part_is_too_long : PartIsTooLong
@@ -227,10 +227,10 @@ part_is_too_long run (main, table, rows, found, are, says, prints) =
 -- what follows a row of a list is in what follows the first row
 later_rows : (before rest : List Entry) (entry first row : Entry) (others : List Entry)
     → before ++ entry ∷ rest ≡ first ∷ others → Contains rest row → Contains others row
-later_rows [] rest entry first row others e there = rw (tails_same entry first rest others e) at there
+later_rows [] rest entry first row others e there = rw (tails_same _ _ _ _ e) at there
 later_rows (x ∷ before) rest entry first row others e there =
-    subst (λ (es : List Entry). Contains es row) (tails_same x first (before ++ entry ∷ rest) others e)
-    (Contains-append_right before _ _ (member_tail entry _ _ there))
+    subst (λ es. Contains es row) (tails_same x _ _ _ e)
+    (Contains-append_right before _ _ (member_tail _ _ _ there))
 
 main_is_not_later : Contains (row_at a_one ∷ []) main_entry → ⊥
 main_is_not_later there = main_is_no_row _ (sym (one_member _ _ there))
@@ -289,19 +289,19 @@ module _ (run : Given) (main : Main) (table : Option Sums) (found : AreFound run
   second_page are joined is (one_page {pages} front last says more) =
       let page = front ++ last ∷ [] in
       let inside : (row : Entry) → Contains page row → Contains (main_entry ∷ (page ++ entries_of_pages pages)) row =
-      λ row there. member_tail main_entry _ _ (Contains-append_left _ (entries_of_pages pages) _ there) in
+      λ row there. member_tail _ _ _ (Contains-append_left _ _ _ there) in
       let same = page_is _ _ _ are inside proper says is in
       never front last same
-      (λ row there. subst (λ (es : List Entry). Contains es row) joined (inside row (subst (λ (es : List Entry). Contains es row) (sym same) there)))
+      (λ row there. subst (λ es. Contains es row) joined (inside row (subst (λ es. Contains es row) (sym same) there)))
 
   first_page : {after : Option (List ℕ)} {pages : List (List Entry)} → HasRows (entries_of_pages pages) → entries_of_pages pages ≡ rows_with_a
       → HasPage after (main_entry ∷ []) → HasPage (Some (codes "m")) known → ArePrintedPages run main.path 1 after pages → ⊥
   first_page are joined first second (no_row says) = cc joined
   first_page are joined first second (one_page {pages} front last says more) =
       let page = front ++ last ∷ [] in
-      let same = page_is _ _ _ are (λ row there. Contains-append_left _ (entries_of_pages pages) _ there) m_proper says first in
-      let path : path_of main.path last.0 ≡ codes "m" = ap (λ (row : Entry). path_of main.path row.0) (same_from_push front [] last main_entry same).1 ∙ own in
-      second_page (rw same at are) (ap (λ (es : List Entry). es ++ entries_of_pages pages) (sym same) ∙ joined) second (rw path at more)
+      let same = page_is _ _ _ are (λ row there. Contains-append_left _ _ _ there) m_proper says first in
+      let path : path_of main.path last.0 ≡ codes "m" = ap (λ row. path_of main.path row.0) (same_from_push _ [] _ _ same).1 ∙ own in
+      second_page (rw same at are) (ap (λ es. es ++ entries_of_pages pages) (sym same) ∙ joined) second (rw path at more)
 
 no_pages : (known : List Entry) → AreProperRows known → AreNoPage known → (run : Given) → ListEnds None (Some 1) run (text_outcome (codes "m\n"))
     → ListEnds (Some (codes "m")) (Some 1) run (text_outcome (list_text (codes "m") known)) → JoinsPages 1 run list_of_a → ⊥

@@ -60,7 +60,7 @@ undone_is_formatted operations put file edited_to formatted are fit targets one 
           says ∙ taken_turn 1 _ (are.second ∷ []) lines _ are.puts fit
           ∙ taken_turn 2 are.second [] (lines_after put lines) are.undo are.drops undo_fits
           ∙ ap text_outcome (drop-undoes-layout put are.undo lines ((are.first, are.puts), fit, sound.0, sound.1) are.undoes absent) in
-          (states ∙ fmt_is _ _ _ main.0 other.0, layout (plain_lines lines), states)
+          (states ∙ fmt_is _ _ _ main.0 other.0, layout _, states)
     ]
 
 -- ---- two operations in either order

@@ -58,12 +58,12 @@ pub data IsTurn (text : List ℕ) : Type 0 where
   is_taken : (operation : Operation) → edit_in text ≡ Some operation → is_fit operation ≡ true → IsTurn text
 
 pub turn_of : (text : List ℕ) → IsTurn text
-turn_of text = by_operation (edit_in text) refl
+turn_of text = by_operation _ refl
   where
     by_operation : (read : Option Operation) → edit_in text ≡ read → IsTurn text
-    by_operation None written = is_refused (codes "Spelling") (ap refusal_of written)
-    by_operation (Some operation) written = elim (cases_Bool (is_fit operation)) [
-      | inl fit ↦ is_taken operation written fit
+    by_operation None written = is_refused _ (ap refusal_of written)
+    by_operation (Some operation) written = elim (cases_Bool _) [
+      | inl fit ↦ is_taken _ written fit
       | inr misfit ↦ is_refused (codes "Misfit") (rw (written, misfit) refl)
     ]
 
@@ -71,7 +71,7 @@ pub refused_turn : (number : ℕ) (kind text : List ℕ) (texts : List (List ℕ
     → refusal_of (edit_in text) ≡ Some kind → outcome_from number (text ∷ texts) lines
     ≡ refusal_outcome (edit_line (number, kind))
 refused_turn number kind text texts lines is =
-    ap (λ (k : Option (List ℕ)). edits_outcome (option_to_list (option_map (λ (why : List ℕ). (number, why)) k)
+    ap (λ k. edits_outcome (option_to_list (option_map (λ why. (number, why)) k)
     ++ refusals_from (number + 1) texts) (turned (text ∷ texts) lines)) is
 
 pub taken_turn : (number : ℕ) (text : List ℕ) (texts : List (List ℕ)) (lines : List (Line Placed))
@@ -94,7 +94,7 @@ IsNext first texts text lines operation = (edit_in first ≡ Some operation) × 
 next : (first : List ℕ) (texts : List (List ℕ)) (text : List ℕ) (lines : List (Line Placed))
     → PrintsFrom (first ∷ texts) text lines → (operation : Operation) × IsNext first texts text lines operation
 next first texts text lines from = elim (turn_of first) [
-  | is_refused kind is ↦ absurd (not_refused _ _ (sym from.prints ∙ refused_turn from.number _ _ texts lines is) refl)
+  | is_refused kind is ↦ absurd (not_refused _ _ (sym from.prints ∙ refused_turn from.number _ _ _ lines is) refl)
   | is_taken operation written fit ↦
       let edit : IsEditOf operation lines = ((first, written), fit, from.sound.0, from.sound.1) in
       let prints = sym (taken_turn from.number _ texts lines _ written fit) ∙ from.prints in
@@ -114,7 +114,7 @@ after_all [] rest text lines from = from
 after_all (first ∷ earlier) rest text lines from =
     let (operation, is) = next _ _ _ _ from in
     let turn : turned (first ∷ earlier) lines ≡ turned earlier (lines_after operation lines) = rw is.0 refl in
-    subst (PrintsFrom rest text) (sym turn) (after_all earlier rest text (lines_after operation lines) is.2)
+    subst (PrintsFrom rest text) (sym turn) (after_all earlier _ text _ is.2)
 
 -- ---- what `edit` prints
 
@@ -124,16 +124,16 @@ pub edited_from : (operations : Vec (String Global)) (earlier rest : List (List 
     → (lines : List (Line Placed)) × IsMainOf file lines × PrintsFrom rest text (turned earlier lines)
 edited_from operations earlier rest file text given prints = elim (rw given at prints.0) [
   | bad_main place malformed says ↦ absurd (not_refused _ _ says refl)
-  | applied lines main says ↦ (lines, main, after_all earlier rest text lines (record { sound = read_sound _ _ main; number = 1; prints = sym says }))
+  | applied lines main says ↦ (lines, main, after_all _ _ _ _ (record { sound = read_sound _ _ main; number = 1; prints = sym says }))
 ]
 
 -- a text that is the layout of sound lines reads as lines that hold the same directives
 pub text_lines : (lines : List (Line Placed)) (text : List ℕ) → PrintsFrom [] text lines → IsUtf8 text → length text ≤ longest
     → (doc : List (Line Placed)) × IsMainOf text doc × (directives_of doc ≡ directives_of lines)
 text_lines lines text from utf8 short =
-    let is : layout (plain_lines lines) ≡ text = ap (λ (o : Outcome). o.text) from.prints in
+    let is : layout (plain_lines lines) ≡ text = ap (λ o. o.text) from.prints in
     let read = layout_read _ from.sound.0 (subst IsUtf8 (sym is) utf8) (rw is short) in
-    let parsed : IsParsedAs text (Ok read.doc) = subst (λ (t : List ℕ). IsParsedAs t (Ok read.doc)) is read.parsed in (
+    let parsed : IsParsedAs text (Ok read.doc) = subst (λ t. IsParsedAs t (Ok read.doc)) is read.parsed in (
       read.doc,
       (parsed, no_fault_again _ _ read.same_filled from.sound.1),
       same_said (plain_lines lines) (plain_lines read.doc) read.same_filled,

@@ -77,10 +77,10 @@ module _ (text : List ℕ) (later : List (List ℕ)) where
 
 -- ---- the laws
 
-runs_alike : (once twice : Vec (String Global)) (file : List ℕ) (first second : Outcome)
+runs_alike : {once twice : Vec (String Global)} {file : List ℕ} {first second : Outcome}
     (repeats : RepeatsOne once twice) → Ends (Edit once) file None [] first → Ends (Edit twice) file None [] second
     → AreAlike repeats.later (length repeats.earlier + 1) first second
-runs_alike once twice file first second repeats one two = elim (rw repeats.given_once at one) [
+runs_alike repeats one two = elim (rw repeats.given_once at one) [
   | bad_main place malformed says ↦
       let same = edit_once _ _ _ _ (bad_main _ malformed says) two in
       ((λ nothing. same), inl same)
@@ -91,7 +91,7 @@ runs_alike once twice file first second repeats one two = elim (rw repeats.given
 ]
 
 pub twice_prints_as_once : TwicePrintsAsOnce
-twice_prints_as_once once twice file first second repeats one two prints = elim (runs_alike _ _ _ _ _ repeats one.0 two.0).1 [
+twice_prints_as_once once twice file first second repeats one two prints = elim (runs_alike repeats one.0 two.0).1 [
   | inl same ↦ same
   | inr later ↦ absurd (elim prints [
     | inl is ↦ not_refused _ _ later.refused_once is
@@ -100,7 +100,7 @@ twice_prints_as_once once twice file first second repeats one two prints = elim 
 ]
 
 pub last_twice_is_once : LastTwiceIsOnce
-last_twice_is_once once twice file first second repeats last one two = (runs_alike _ _ _ _ _ repeats one.0 two.0).0 last
+last_twice_is_once once twice file first second repeats last one two = (runs_alike repeats one.0 two.0).0 last
 
 pub twice_is_once_or_refused : TwiceIsOnceOrRefused
-twice_is_once_or_refused once twice file first second repeats one two = (runs_alike _ _ _ _ _ repeats one.0 two.0).1
+twice_is_once_or_refused once twice file first second repeats one two = (runs_alike repeats one.0 two.0).1

@@ -49,11 +49,11 @@ module _ (requirements : List ModuleVersion) where
   file_is_top name (answered reply may at is) file same = names_equal _ _ (cond_some _ _ _ at).0
 
   top_requires : Requires run top_one mid_ten
-  top_requires = (top_file, top_says, member_head mid_ten [])
+  top_requires = (top_file, top_says, member_head _ [])
 
   requires_is : (x y : ModuleVersion) → Requires run x y → (x ≡ top_one) × (y ≡ mid_ten)
   requires_is x y (file, says, there) =
-      let is : x ≡ top_one = ap own (file_is_top _ (says_file says file refl) file refl) in
+      let is : x ≡ top_one = ap own (file_is_top _ (says_file says _ refl) _ refl) in
       let same = file_same (rw is at says) top_says in
       (is, sym (one_member _ y (rw same at there)))
 
@@ -68,14 +68,14 @@ HasEdge s y = Contains edges (edge s y)
 edge_member : (s : Step) (y : ModuleVersion) → IsEdge top_run s y → HasEdge s y
 edge_member FromMain y top = each_of (HasEdge FromMain) (top_one ∷ low_one ∷ []) ((1, omega arith, refl), ((0, omega arith, refl), tt)) y top
 edge_member (Of x) y (opens, requires) =
-    let (from, to) = requires_is (top_one ∷ low_one ∷ []) x y requires in
+    let (from, to) = requires_is _ x y requires in
     rw from (subst (HasEdge (Of top_one)) (sym to) (2, omega arith, refl))
 
 abbrev Leads : Edge → Type 0
 Leads one = IsEdge top_run one.from one.to
 
 top_is_top : IsTop top_run top_one
-top_is_top = member_head top_one (low_one ∷ [])
+top_is_top = member_head _ (low_one ∷ [])
 
 member_leads : (one : Edge) → Contains edges one → Leads one
 member_leads = each_of Leads edges ((1, omega arith, refl), (top_is_top, ((inl top_is_top, top_requires (top_one ∷ low_one ∷ [])), tt)))
@@ -83,7 +83,7 @@ member_leads = each_of Leads edges ((1, omega arith, refl), (top_is_top, ((inl t
 edges_are : AreEdges top_run edges
 edges_are = record {
   ascending = pairs_of (λ (a b : Edge). edge_cmp a b ≡ Less) edges ((refl, (refl, tt)), ((refl, tt), (tt, tt)));
-  each = λ one. (member_leads one, edge_member one.from one.to);
+  each = λ one. (member_leads _, edge_member _ one.to);
 }
 
 -- ---- a main module that requires nothing opens nothing
@@ -91,20 +91,20 @@ edges_are = record {
 none_at_top : (run : Run) → run.main.requirements ≡ [] → (x : ModuleVersion) → IsTop run x → ⊥
 none_at_top run none x top = no_member x (rw none at top)
 
-pub none_opened : (run : Run) → run.main.requirements ≡ [] → (x : ModuleVersion) → IsOpened run x → ⊥
-none_opened run none x (inl top) = none_at_top run none x top
-none_opened run none x (inr (from_main unpruned top)) = none_at_top run none x top
-none_opened run none y (inr (from_top {x = x} file top says unpruned there)) = none_at_top run none x top
-none_opened run none y (inr (from_deep {x = x} deep requires)) = none_opened _ none x (inr deep)
+pub none_opened : {run : Run} → run.main.requirements ≡ [] → (x : ModuleVersion) → IsOpened run x → ⊥
+none_opened {run} none x (inl top) = none_at_top run none x top
+none_opened {run} none x (inr (from_main unpruned top)) = none_at_top run none x top
+none_opened {run} none y (inr (from_top {x = x} file top says unpruned there)) = none_at_top run none x top
+none_opened none y (inr (from_deep {x = x} deep requires)) = none_opened none x (inr deep)
 
-pub none_leads : (run : Run) → run.main.requirements ≡ [] → (x : ModuleVersion) → IsVertex run x → ⊥
-none_leads run none x (FromMain, top) = none_at_top run none x top
-none_leads run none x (Of y, (opens, requires)) = none_opened _ none y opens
+pub none_leads : {run : Run} → run.main.requirements ≡ [] → (x : ModuleVersion) → IsVertex run x → ⊥
+none_leads {run} none x (FromMain, top) = none_at_top run none x top
+none_leads none x (Of y, (opens, requires)) = none_opened none y opens
 
 pub three_edges_lead : ThreeEdgesLead
 three_edges_lead = record {
   are = edges_are;
   by_source = refl;
   idle_requires = top_requires [];
-  not_unopened = λ leads. none_opened _ refl _ leads.0;
+  not_unopened = λ leads. none_opened refl _ leads.0;
 }

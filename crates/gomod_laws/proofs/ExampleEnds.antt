@@ -51,27 +51,27 @@ lone = run_of (main_requiring []) None []
 
 none_few : (xs : List ModuleVersion) → AreOpened lone xs → length xs ≤ 65536
 none_few [] are = omega arith
-none_few (x ∷ xs) are = absurd (none_opened _ refl x (are.each x (member_head x xs)))
+none_few (x ∷ xs) are = absurd (none_opened refl x (are.each x (member_head x xs)))
 
 none_rows : AreRows lone (main_entry ∷ [])
 none_rows = record {
   selected = [];
   entries_are = refl;
   ascending = pairs_of (λ (a b : ModuleVersion). path_cmp a b ≡ Less) [] tt;
-  each = λ x. ((λ there. absurd (no_member x there)), λ is. absurd (none_leads _ refl x is.is_end));
+  each = λ x. ((λ there. absurd (no_member x there)), λ is. absurd (none_leads refl x is.is_end));
 }
 
 none_faulty : AreFaults lone []
 none_faulty = record {
   ascending = pairs_of (λ (a b : Fault). pair_cmp a.vertex b.vertex ≡ Less) [] tt;
-  each = λ one. ((λ there. absurd (no_member _ there)), λ is. absurd (none_opened _ refl _ is.0));
+  each = λ one. ((λ there. absurd (no_member _ there)), λ is. absurd (none_opened refl _ is.0));
 }
 
 none_settled : IsSettled lone []
 none_settled = record {
   read = λ name reply at. absurd (cc at);
   once = nothing_twice;
-  needed = λ name. ((λ there. absurd (no_member _ there)), λ need. absurd (none_opened _ refl _ need.1));
+  needed = λ name. ((λ there. absurd (no_member _ there)), λ need. absurd (none_opened refl _ need.1));
   few = none_few;
 }
 
@@ -134,9 +134,9 @@ module _ (asked : List (Name × Reply)) (silent : IsSilent (run_with asked)) whe
   one_at_most [] are = omega arith
   one_at_most (x ∷ []) are = omega arith
   one_at_most (x ∷ y ∷ xs) are =
-      let first : x ≡ top_one = opened_is x (are.each x (member_head x (y ∷ xs))) in
-      let second : y ≡ top_one = opened_is y (are.each y (1, omega arith, refl)) in
-      let same : pair_eq x y ≡ true = subst (λ (z : ModuleVersion). pair_eq x z ≡ true) (first ∙ sym second) (pair-self x) in
+      let first = opened_is x (are.each x (member_head x (y ∷ xs))) in
+      let second = opened_is y (are.each y (1, omega arith, refl)) in
+      let same : pair_eq x y ≡ true = subst (λ z. pair_eq x z ≡ true) (first ∙ sym second) (pair-self x) in
       absurd (false≢true (sym (IsDistinct-head pair_eq x (y ∷ xs) are.once).0 ∙ same))
 
   one_few : (xs : List ModuleVersion) → AreOpened run xs → length xs ≤ 65536
@@ -182,7 +182,7 @@ module _ (asked : List (Name × Reply)) (refusals : List Name) (silent : IsSilen
 
   not_found : (again : Main) (table : Option Sums) (faults : List Fault) → AreFound (example.run_without_sums requiring asked refusals) again table faults → ⊥
   not_found again table faults found =
-      not_settled (here (λ (r : Run). IsSettled r (names_in asked)) _ _ found.read found.settled) found.none_failed
+      not_settled (here (λ r. IsSettled r (names_in asked)) _ _ found.read found.settled) found.none_failed
 
   no_outcome : HasNoOutcome asked refusals
   no_outcome outcome (bad_main place misread none says) = misread_or_main _ _ _ misread files_are_read.two
@@ -251,20 +251,20 @@ once_asked = (tt, tt)
 top_not_due : (name : Name) → IsDue (run_with told) name → top_name ∷ [] ≡ name ∷ [] → ⊥
 top_not_due name due failed =
     let unasked : (run_with told).answers top_name ≡ None =
-    subst (λ (n : Name). (run_with told).answers n ≡ None) (sym ((same_from_push [] [] top_name name failed).1)) due.unasked in
+    subst (λ n. (run_with told).answers n ≡ None) (sym ((same_from_push [] [] _ _ failed).1)) due.unasked in
     cc unasked
 
 missing_settled : IsSettled (run_with told) (top_name ∷ [])
 missing_settled = record {
   read = λ name reply at. (Err Missing, rw (told_absent name reply at) refl);
   once = once_asked;
-  needed = λ name. (each_of (IsNeeded (run_with told)) (top_name ∷ []) (top_needed told, tt) name, λ need. subst (Contains (top_name ∷ [])) (need_is told missing_silent _ need) (member_head top_name []));
+  needed = λ name. (each_of (IsNeeded (run_with told)) (top_name ∷ []) (top_needed told, tt) name, λ need. subst (Contains (top_name ∷ [])) (need_is told missing_silent _ need) (member_head _ []));
   few = one_few told missing_silent;
 }
 
 top_is_missing : Says (run_with told) top_one (Err Missing)
 unfolding is_fetchable
-top_is_missing = says_fault (answered absent refl refl refl)
+top_is_missing = says_fault (answered _ refl refl refl)
 
 abbrev fault_with : ModuleVersion → Class → Fault
 fault_with x class = record { vertex = x; class = class }
@@ -290,21 +290,21 @@ missing_faulty = record {
 files : FilesReadAs requiring None main None
 files = record { main_file = files_are_read.two; sums = tt }
 
-some_failed : (name : Name) → name ∷ [] ≡ [] → ⊥
-some_failed name e = cc e
+some_failed : {name : Name} → name ∷ [] ≡ [] → ⊥
+some_failed e = cc e
 
 none_failed : (name : Name) → [] ≡ name ∷ [] → ⊥
 none_failed name e = cc e
 
 pub required_is_asked : RequiredIsAsked
 required_is_asked = record {
-  missing = faulty main None top_fault []
+  missing = faulty _ _ _ []
       (record { read = files; settled = missing_settled; faults_are = missing_faulty; none_failed = refl }) refl;
-  device = device _ _ top_name files
+  device = device _ _ _ files
       (record { calls = record { read = λ name reply at. absurd (cc at); needed = top_needed [] }; unasked = refl }) refl refl;
   unasked = no_outcome [] [] unanswered_silent (λ settled none. not_asked settled) (λ name due failed. none_failed _ failed);
-  undue = no_outcome [] (low_name ∷ []) unanswered_silent (λ settled none. some_failed _ none) low_not_due;
-  answered = no_outcome told (top_name ∷ []) missing_silent (λ settled none. some_failed _ none) top_not_due;
-  no_more = no_outcome (two low_name) [] (two_silent low_name) (λ settled none. low_not_needed settled) (λ name due failed. none_failed _ failed);
-  not_twice = no_outcome (two top_name) [] (two_silent top_name) (λ settled none. top_not_twice settled) (λ name due failed. none_failed _ failed);
+  undue = no_outcome [] (low_name ∷ []) unanswered_silent (λ settled none. some_failed none) low_not_due;
+  answered = no_outcome told (top_name ∷ []) missing_silent (λ settled none. some_failed none) top_not_due;
+  no_more = no_outcome (two low_name) [] (two_silent _) (λ settled none. low_not_needed settled) (λ name due failed. none_failed _ failed);
+  not_twice = no_outcome (two top_name) [] (two_silent _) (λ settled none. top_not_twice settled) (λ name due failed. none_failed _ failed);
 }

@@ -75,7 +75,7 @@ folder_parsed = laid_parsed folder_text folder_lines refl refl refl (omega arith
 -- ---- names
 
 m_path : is_path (codes "m") ≡ true
-m_path = (path-tested (codes "m")).1 m_is_path
+m_path = (path-tested _).1 m_is_path
 
 top_path : is_path (codes "top.org") ≡ true
 unfolding is_path is_element is_dotted_name has_outer_dot is_reserved stem is_shortened
@@ -90,30 +90,30 @@ unfolding is_path is_element is_dotted_name has_outer_dot is_reserved stem is_sh
 low_path = refl
 
 one_zero_version : is_version (codes "v1.0.0") ≡ true
-one_zero_version = (version-tested (codes "v1.0.0")).1 one_zero_is
+one_zero_version = (version-tested _).1 one_zero_is
 
 one_one_version : is_version (codes "v1.1.0") ≡ true
-one_one_version = (version-tested (codes "v1.1.0")).1 one_one_is
+one_one_version = (version-tested _).1 one_one_is
 
 one_ten_version : is_version (codes "v1.10.0") ≡ true
-one_ten_version = (version-tested (codes "v1.10.0")).1 one_ten_is
+one_ten_version = (version-tested _).1 one_ten_is
 
 -- a version of these parts fits a path without a suffix
-fits_plain : (parts : Parts) (minor : ℕ) → parts ≡ (1, minor, 0, [], [])
+fits_plain : {parts : Parts} (minor : ℕ) → parts ≡ (1, minor, 0, [], [])
     → (if nat_lt parts.0 2 then length parts.4 == 0 else bytes_eq parts.4 (codes "incompatible")) ≡ true
-fits_plain parts minor is = rw is refl
+fits_plain minor is = rw is refl
 
 one_zero_fits_top : does_fit (codes "top.org") (codes "v1.0.0") ≡ true
 unfolding does_fit
-one_zero_fits_top = fits_plain _ 0 one_zero_parts
+one_zero_fits_top = fits_plain 0 one_zero_parts
 
 one_ten_fits_mid : does_fit (codes "mid.org") (codes "v1.10.0") ≡ true
 unfolding does_fit
-one_ten_fits_mid = fits_plain _ _ one_ten_parts
+one_ten_fits_mid = fits_plain _ one_ten_parts
 
 one_one_fits_low : does_fit (codes "low.org") (codes "v1.1.0") ≡ true
 unfolding does_fit
-one_one_fits_low = fits_plain _ 1 one_one_parts
+one_one_fits_low = fits_plain 1 one_one_parts
 
 -- ---- what the files say
 
@@ -173,7 +173,7 @@ unfolding lines_of
 empty_reads = refl
 
 empty_parsed : IsParsedAs [] (Ok [])
-empty_parsed = reading_parsed [] (Ok []) ((omega arith, IsUtf8-nil), reading_of [] [] Whole empty_reads)
+empty_parsed = reading_parsed [] (Ok []) ((omega arith, IsUtf8-nil), reading_of [] [] _ empty_reads)
 
 empty_has_none : fault_of Strict [] ≡ Some (0, NoModule)
 unfolding fault_of faults

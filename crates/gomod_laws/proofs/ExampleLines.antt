@@ -59,7 +59,7 @@ word_is text some paths elements = ((text, (is_bare, refl)), lacks 10 _ refl _ e
     is_bare = record {
       filled = some;
       word_bytes = word_bytes _ paths;
-      no_comment = no_comment _ (lacks 47 _ refl _ elements);
+      no_comment = no_comment _ (lacks _ _ refl _ elements);
       no_arrow = no_arrow _ paths;
     }
 
@@ -113,8 +113,8 @@ all_below : (text : List ℕ) → list_all (λ b. nat_lt b 128) text ≡ true �
 all_below [] all = tt
 all_below (b ∷ text) all = (byte_below b (first_so _ _ all), all_below text (second_so _ _ all))
 
-pub ascii_utf8 : (text : List ℕ) → list_all (λ b. nat_lt b 128) text ≡ true → IsUtf8 text
-ascii_utf8 text all = IsUtf8-from_ascii _ (ascii _ (all_below _ all))
+pub ascii_utf8 : {text : List ℕ} → list_all (λ b. nat_lt b 128) text ≡ true → IsUtf8 text
+ascii_utf8 all = IsUtf8-from_ascii _ (ascii _ (all_below _ all))
 
 -- plain lines are what their text is read as, if they are laid out as it
 pub laid_parsed : (text : List ℕ) (texts : List (List (List ℕ))) → list_all is_plain_line texts ≡ true
@@ -129,4 +129,4 @@ laid_parsed text texts plain laid same short ascii =
     let reads : ReadsLines start (lines_of text) (plain_lines (placeless ls)) Whole =
     rw (plain_placeless ls)
     read in
-    reading_parsed text (Ok (placeless ls)) ((short, ascii_utf8 _ ascii), reading_of _ _ _ reads)
+    reading_parsed text (Ok (placeless ls)) ((short, ascii_utf8 ascii), reading_of _ _ _ reads)

@@ -1,5 +1,5 @@
 -- What becomes of small outputs, and of files that are read.
-use Rattle.std.proofs.Common.{rules, ◌≡◌, ◌⊎◌, ◌∙◌, ◌∷◌, ◌<◌, ℕ, Bool, List, [], Option, None, Some, Result, ap, arith, codes, drop, false, inl, inr, length, min, refl, subst, sym, take, take_all, true}
+use Rattle.std.proofs.Common.{rules, ◌≡◌, ◌⊎◌, ◌∙◌, ◌∷◌, ◌<◌, ℕ, Bool, List, [], None, Some, Result, ap, arith, codes, drop, false, inl, inr, length, min, refl, subst, sym, take, take_all, true}
 use Rattle.std.proofs.lemmas.List.{length-take}
 use Rattle.std.specs.Global.{Vec}
 use Rattle.std.proofs.lemmas.Str.{IsUtf8-nil, is_utf8-from_IsUtf8}
@@ -36,7 +36,7 @@ tells = search rules
 
 pub end_is_stated : EndIsStated
 end_is_stated = record {
-  prints = record { outcome = text_outcome text; as_stated = inl refl; utf8 = ascii_utf8 text refl; written = prints };
+  prints = record { outcome = text_outcome text; as_stated = inl refl; utf8 = ascii_utf8 refl; written = prints };
   no_memory = record { outcome = out_of_memory; as_stated = inr refl; utf8 = IsUtf8-nil; written = tells };
   other_text = λ status. not_ended _ _ status (search rules) (search rules);
   reports = λ status. not_ended _ _ status (search rules) (search rules);
@@ -46,28 +46,28 @@ end_is_stated = record {
 
 -- ---- a file is read
 
-limit_of : (bytes : List ℕ) → length bytes < 10 → take 16777217 bytes ≡ bytes
-limit_of bytes short = take_all 16777217 _ (omega (arith, short))
+limit_of : {bytes : List ℕ} → length bytes < 10 → take 16777217 bytes ≡ bytes
+limit_of short = take_all 16777217 _ (omega (arith, short))
 
-not_given : (bytes known : List ℕ) → length known < 10 → ¬ (bytes ≡ known) → ¬ (bytes ≡ take 16777217 known)
-not_given bytes known short differ is = differ (is ∙ limit_of _ short)
+not_given : {bytes known : List ℕ} → length known < 10 → ¬ (bytes ≡ known) → ¬ (bytes ≡ take 16777217 known)
+not_given short differ is = differ (is ∙ limit_of short)
 
-other_differs : (bytes : List ℕ) → bytes ≡ other → ¬ (bytes ≡ text)
-other_differs bytes own same = search rules
+other_differs : {bytes : List ℕ} → bytes ≡ other → ¬ (bytes ≡ text)
+other_differs own same = search rules
 
-cut_differs : (bytes : List ℕ) → bytes ≡ codes "m" → ¬ (bytes ≡ text)
-cut_differs bytes own same = search rules
+cut_differs : {bytes : List ℕ} → bytes ≡ codes "m" → ¬ (bytes ≡ text)
+cut_differs own same = search rules
 
 too_many : (all bytes : List ℕ) → 16777217 < length all → bytes ≡ all → ¬ (bytes ≡ take 16777217 all)
 too_many all bytes many own is =
-    let lengths : length all ≡ min 16777217 (length all) = ap length (sym own ∙ is) ∙ length-take 16777217 all in
+    let lengths : length all ≡ min 16777217 (length all) = ap length (sym own ∙ is) ∙ length-take _ _ in
     omega (arith, many, lengths)
 
 pub file_is_read : FileIsRead
 file_is_read = record {
-  given = λ bytes is. is ∙ sym (limit_of text (omega arith));
-  another = λ bytes is. not_given _ _ (omega arith) (other_differs _ is);
-  cut = λ bytes is. not_given _ _ (omega arith) (cut_differs _ is);
+  given = λ bytes is. is ∙ sym (limit_of (omega arith));
+  another = λ bytes is. not_given (omega arith) (other_differs is);
+  cut = λ bytes is. not_given (omega arith) (cut_differs is);
   too_many = λ all bytes many is. too_many _ _ many is;
   fails = refl;
   unfailing = search rules;
@@ -82,12 +82,12 @@ file_is_read = record {
 -- ---- standard input
 
 -- what reading it came to if it was taken
-read_of : (may_fail : Bool) (read : Result (Vec ℕ) ReadFault) → MayRead (WithInput may_fail (codes "-")) read → IsReadFrom (opened (Some text) may_fail) read
-read_of may_fail read (opening, inl (dash, is), comes) = rw is at comes
-read_of may_fail read (opening, inr (isnt, any), comes) = absurd (isnt refl)
+read_of : {may_fail : Bool} {read : Result (Vec ℕ) ReadFault} → MayRead (WithInput may_fail (codes "-")) read → IsReadFrom (opened (Some text) may_fail) read
+read_of (opening, inl (dash, is), comes) = rw is at comes
+read_of (opening, inr (isnt, any), comes) = absurd (isnt refl)
 
 unfailing : ¬ (IsUnread (WithInput false) (Some (codes "-")) (failure_outcome (codes "gomod: cannot read -\n")))
-unfailing unread = let wrong = read_of _ _ unread.0 in cc wrong
+unfailing unread = let wrong = read_of unread.0 in cc wrong
 
 no_memory_line : ¬ (out_of_memory ≡ failure_outcome (codes "gomod: cannot read -\n"))
 no_memory_line same = search rules
@@ -97,19 +97,19 @@ other_line same = search rules
 
 pub input_is_unread : InputIsUnread
 input_is_unread = record {
-  device = ((opened (Some text) true, inl (refl, refl), refl), refl);
+  device = ((opened (Some _) true, inl (refl, refl), refl), refl);
   no_memory = λ unread. no_memory_line unread.1;
   unfailing = unfailing;
   other_name = λ unread. other_line unread.1;
-  other_status = λ unread. let is : 1 ≡ 3 = ap (λ (o : Outcome). o.status) unread.1 in omega (arith, is);
-  prints = λ unread. let is : 0 ≡ 3 = ap (λ (o : Outcome). o.status) unread.1 in omega (arith, is);
+  other_status = λ unread. let is : 1 ≡ 3 = ap (λ o. o.status) unread.1 in omega (arith, is);
+  prints = λ unread. let is : 0 ≡ 3 = ap (λ o. o.status) unread.1 in omega (arith, is);
 }
 
 pub input_is_held : InputIsHeld
 input_is_held = record {
-  given = λ list is. (opened (Some text) false, inl (refl, refl), is ∙ sym (limit_of text (omega arith)));
-  another = λ list is read. not_given _ _ (omega arith) (other_differs _ is) (read_of _ _ read);
-  cut = λ list is read. not_given _ _ (omega arith) (cut_differs _ is) (read_of _ _ read);
+  given = λ list is. (opened (Some _) false, inl (refl, refl), is ∙ sym (limit_of (omega arith)));
+  another = λ list is read. not_given (omega arith) (other_differs is) (read_of read);
+  cut = λ list is read. not_given (omega arith) (cut_differs is) (read_of read);
   nothing = λ never. never;
   unnamed = λ list never. never;
   held = λ list. refl;
@@ -122,7 +122,7 @@ input_is_held = record {
 
 -- ASCII is UTF-8, and a byte 255 is not
 version_readable : first_unreadable (version_flag ∷ []) ≡ None
-version_readable = rw (is_utf8-from_IsUtf8 _ (ascii_utf8 version_flag refl)) refl
+version_readable = rw (is_utf8-from_IsUtf8 _ (ascii_utf8 refl)) refl
 
 byte_unreadable : (words : List (List ℕ)) → first_unreadable (unreadable ∷ words) ≡ Some unreadable
 unfolding is_utf8 chars
@@ -134,42 +134,42 @@ ends_by words outcome (given, same, ends) = rw same at ends
 
 version_ends : (outcome : Outcome) → EndsBy (version_flag ∷ []) outcome → (outcome ≡ text_outcome version_line) ⊎ (outcome ≡ out_of_memory)
 version_ends outcome ends = version_is_printed _ _ _ (inl refl)
-    (subst (λ (found : Option (List ℕ)). IsOutcomeUnless anything any_input (version_flag ∷ []) found outcome)
+    (subst (λ found. IsOutcomeUnless anything any_input (version_flag ∷ []) found outcome)
     version_readable (ends_by _ _ ends))
 
 not_dropped : (outcome : Outcome) → outcome.status ≡ 2 → ¬ (EndsBy (version_flag ∷ []) outcome)
 not_dropped outcome usage ends = elim (version_ends _ ends) [
-  | inl is ↦ let wrong : 2 ≡ 0 = sym usage ∙ ap (λ (o : Outcome). o.status) is in omega (arith, wrong)
-  | inr is ↦ let wrong : 2 ≡ 3 = sym usage ∙ ap (λ (o : Outcome). o.status) is in omega (arith, wrong)
+  | inl is ↦ let wrong : 2 ≡ 0 = sym usage ∙ ap (λ o. o.status) is in omega (arith, wrong)
+  | inr is ↦ let wrong : 2 ≡ 3 = sym usage ∙ ap (λ o. o.status) is in omega (arith, wrong)
 ]
 
 not_made_up : (line : List ℕ) → ¬ (line ≡ []) → ¬ (EndsBy [] (text_outcome line))
-not_made_up line some ends = elim (nothing_is_printed _ _ (ends_by [] (text_outcome line) ends)) [
+not_made_up line some ends = elim (nothing_is_printed _ _ (ends_by _ _ ends)) [
   | inl none ↦ some none.0
-  | inr is ↦ let wrong : 0 ≡ 3 = ap (λ (o : Outcome). o.status) is in omega (arith, wrong)
+  | inr is ↦ let wrong : 0 ≡ 3 = ap (λ o. o.status) is in omega (arith, wrong)
 ]
 
-shown_status : (words : List (List ℕ)) (word : List ℕ) (outcome : Outcome) → first_unreadable words ≡ Some word
+shown_status : {words : List (List ℕ)} {word : List ℕ} {outcome : Outcome} → first_unreadable words ≡ Some word
     → EndsBy words outcome → outcome ≡ usage_error (unreadable_text word)
-shown_status words word outcome first ends = subst (λ (found : Option (List ℕ)).
+shown_status {words} {outcome} first ends = subst (λ found.
     IsOutcomeUnless anything any_input words found outcome) first (ends_by _ _ ends)
 
 not_passed_over : ¬ (EndsBy (unreadable ∷ version_flag ∷ []) (text_outcome version_line))
 not_passed_over ends =
-    let wrong : 0 ≡ 2 = ap (λ (o : Outcome). o.status) (shown_status _ _
-    _ (byte_unreadable (version_flag ∷ [])) ends) in omega (arith, wrong)
+    let wrong : 0 ≡ 2 = ap (λ o. o.status) (shown_status
+    (byte_unreadable (version_flag ∷ [])) ends) in omega (arith, wrong)
 
 unreadable_shown : IsOutcomeUnless anything any_input (unreadable ∷ version_flag ∷ [])
     (first_unreadable (unreadable ∷ version_flag ∷ [])) (usage_error (unreadable_text unreadable))
-unreadable_shown = rw (byte_unreadable (version_flag ∷ [])) refl
+unreadable_shown = rw (byte_unreadable _) refl
 
 -- their reports differ in a digit of the byte
 not_last : ¬ (EndsBy (unreadable ∷ also_unreadable ∷ []) (usage_error (unreadable_text also_unreadable)))
 unfolding lib.Utf8.encode
 not_last ends =
-    let same = shown_status _ _
-    _ (byte_unreadable (also_unreadable ∷ [])) ends in
-    let digit = heads _ _ _ _ (ap (λ (o : Outcome). drop 20 o.report) same) in omega (arith, digit)
+    let same = shown_status
+    (byte_unreadable (also_unreadable ∷ [])) ends in
+    let digit = heads _ _ _ _ (ap (λ o. drop 20 o.report) same) in omega (arith, digit)
 
 pub words_are_given : WordsAreGiven
 words_are_given = record {

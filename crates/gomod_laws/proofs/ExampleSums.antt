@@ -4,7 +4,6 @@ use Rattle.std.specs.List.{starts_with}
 use Rattle.std.proofs.lemmas.Bool.{false≢true}
 use Rattle.gm_store_sums.specs.Sums.{IsSum, SaysOfHash}
 use Rattle.gm_store_sums.specs.declared.sum_table.Sum.{Sum}
-use Rattle.gm_store_sums.specs.declared.sum_table.Sum.TheVariants.{Good, Differs}
 use Rattle.gm_graph_select.proofs.Ascending.{member_cases, no_member}
 use Rattle.gomod_texts.proofs.OneRead.{one_says}
 use Rattle.gomod_run.proofs.ListLines.{heads}
@@ -35,14 +34,14 @@ abbrev third : List (List ℕ) → List ℕ
 third (path ∷ name ∷ hash ∷ rest) = hash
 third _ = []
 
-not_blank : (name hash : List ℕ) → [] ≡ row name hash → ⊥
-not_blank name hash e = let none : 0 ≡ 3 = ap (λ (xs : List (List ℕ)). length xs) e in omega (arith, none)
+not_blank : {name hash : List ℕ} → [] ≡ row name hash → ⊥
+not_blank e = let none : 0 ≡ 3 = ap (λ xs. length xs) e in omega (arith, none)
 
-row_is : (name hash other_name other : List ℕ) → Contains (rows name hash) (row other_name other) → row name hash ≡ row other_name other
-row_is name hash other_name other there = elim (member_cases _ _ ([] ∷ []) there) [
+row_is : {name hash other_name other : List ℕ} → Contains (rows name hash) (row other_name other) → row name hash ≡ row other_name other
+row_is there = elim (member_cases _ _ ([] ∷ []) there) [
   | inl same ↦ same
-  | inr later ↦ elim (member_cases [] (row other_name other) [] later) [
-    | inl same ↦ absurd (not_blank _ _ same)
+  | inr later ↦ elim (member_cases [] _ [] later) [
+    | inl same ↦ absurd (not_blank same)
     | inr none ↦ absurd (no_member _ none)
   ]
 ]
@@ -53,7 +52,7 @@ listed : IsSum one_sum (codes "a.b") (codes "v1.0.0") (codes "h1:A")
 listed = record { line = (0, omega arith, refl); kind = refl }
 
 no_other : (other : List ℕ) → IsSum one_sum (codes "a.b") (codes "v1.0.0") other → other ≡ codes "h1:A"
-no_other other is = sym (ap third (row_is _ _ _ _ is.line))
+no_other other is = sym (ap third (row_is is.line))
 
 letters_differ : codes "h1:A" ≡ codes "h1:B" → ⊥
 letters_differ e = let letter = heads _ _ _ _ (ap (drop 3) e) in omega (arith, letter)
@@ -61,7 +60,7 @@ letters_differ e = let letter = heads _ _ _ _ (ap (drop 3) e) in omega (arith, l
 no_later : (other : List ℕ) → IsSum one_sum (codes "a.b") (codes "v1.1.0") other → ⊥
 no_later other is =
     let name : codes "v1.0.0/go.mod" ≡ codes "v1.1.0/go.mod" =
-    ap second (row_is _ _ _ _ is.line) in
+    ap second (row_is is.line) in
     let digit = heads _ _ _ _ (ap (drop 3) name) in omega (arith, digit)
 
 -- ---- two lines, and lines that are passed over
@@ -72,19 +71,19 @@ also_listed = record { line = (1, omega arith, refl); kind = refl }
 not_of_files : (other : List ℕ) → IsSum (codes "a.b v1.0.0 h1:A\n") (codes "a.b") (codes "v1.0.0") other → ⊥
 not_of_files other is =
     let name : codes "v1.0.0" ≡ codes "v1.0.0/go.mod" =
-    ap second (row_is _ _ _ _ is.line) in
-    let size : 6 ≡ 13 = ap (λ (text : List ℕ). length text) name in omega (arith, size)
+    ap second (row_is is.line) in
+    let size : 6 ≡ 13 = ap (λ text. length text) name in omega (arith, size)
 
 not_other_kind : (other : List ℕ) → IsSum (codes "a.b v1.0.0/go.mod h2:A\n") (codes "a.b") (codes "v1.0.0") other → ⊥
 not_other_kind other is =
-    let hash : codes "h2:A" ≡ other = ap third (row_is _ _ _ _ is.line) in
-    false≢true (subst (λ (text : List ℕ). starts_with nat_eq text (codes "h1:") ≡ true) (sym hash) is.kind)
+    let hash : codes "h2:A" ≡ other = ap third (row_is is.line) in
+    false≢true (subst (λ text. starts_with nat_eq text (codes "h1:") ≡ true) (sym hash) is.kind)
 
 pub sums_say : SumsSay
 sums_say = record {
-  good = says_only one_sum (codes "v1.0.0") (codes "h1:A") Good (listed, no_other);
-  differs = says_only one_sum (codes "v1.0.0") (codes "h1:B") Differs (codes "h1:A", listed, letters_differ);
-  also_differs = says_only two_sums (codes "v1.0.0") (codes "h1:A") Differs (codes "h1:B", also_listed, λ e. letters_differ (sym e));
+  good = says_only _ _ _ _ (listed, no_other);
+  differs = says_only _ _ _ _ (codes "h1:A", listed, letters_differ);
+  also_differs = says_only _ _ _ _ (codes "h1:B", also_listed, λ e. letters_differ (sym e));
   unlisted = says_only _ _ _ _ no_later;
   of_files = says_only _ _ _ _ not_of_files;
   other_kind = says_only _ _ _ _ not_other_kind;

@@ -21,7 +21,7 @@ use Rattle.gm_file.specs.declared.misreading.Misreading.TheVariants as misreadin
 use Rattle.gm_file_edit.specs.Edits.{Edit as Change, edit_in}
 use Rattle.gm_file_edit.proofs.Places.{edited-same}
 use Rattle.gm_store_sums.specs.Sums.{Sums}
-use Rattle.gomod_outcomes.specs.Edit.{EditEnds, applied, bad_main, edits_outcome, lines_after_all, refusals_from}
+use Rattle.gomod_outcomes.specs.Edit.{EditEnds, applied, bad_main, edits_outcome, lines_after_all}
 use Rattle.gomod_outcomes.specs.Fmt.{FmtEnds, bad_syntax, laid_out}
 use Rattle.gomod_texts.specs.Outcome.{Outcome, refusal_outcome, text_outcome}
 use Rattle.gomod_texts.specs.Queries.{AreInvalidSums, AreSums}
@@ -68,7 +68,7 @@ MadeOf make content made = (form : Form) × HasForm content form × (make (meani
 
 made_once : {A : Type 0} (make : Meaning → A) (content : List ℕ) (a b : A) → MadeOf make content a → MadeOf make content b → a ≡ b
 made_once make content a b (form, is, says) (other, be, tells) =
-    sym says ∙ ap (λ (f : Form). make (meaning_of f)) (one_form _ _ _ is be) ∙ tells
+    sym says ∙ ap (λ f. make (meaning_of f)) (one_form _ _ _ is be) ∙ tells
 
 -- ---- `fmt`
 
@@ -78,7 +78,7 @@ fmt_of (Err place) = refusal_outcome (main_line place)
 
 placed : {outcome : Outcome} (here place : FaultPlace) → ◌≡◌ {A = Option FaultPlace} (Some here) (Some place) → outcome ≡ refusal_outcome (main_line place)
     → refusal_outcome (main_line here) ≡ outcome
-placed here place same says = ap (λ (p : FaultPlace). refusal_outcome (main_line p)) (same_Some _ _ same) ∙ sym says
+placed here place same says = ap (λ p. refusal_outcome (main_line p)) (same_Some _ _ same) ∙ sym says
 
 formatted : (file : List ℕ) (outcome : Outcome) → FmtEnds file outcome → MadeOf fmt_of file outcome
 formatted file outcome (laid_out lines parsed says) = (Ended (plain_lines lines) Whole, parsed, sym says)
@@ -102,10 +102,10 @@ strict_of (Ok lines) = unless_faulty lines (fault_of Strict lines)
 strict_of (Err place) = Err place
 
 misread_at : (number : ℕ) (kind : Misreading) → number ≡ 0 → ◌≡◌ {A = Meaning} (Err (0, kind)) (Err (number, kind))
-misread_at number kind none = ap (λ (n : ℕ). Err (n, kind)) (sym none)
+misread_at number kind none = ap (λ n. Err (n, kind)) (sym none)
 
 misread : (content : List ℕ) (place : FaultPlace) → IsMisread Strict content place.0 place.1 → MadeOf strict_of content (Err place)
-misread content (number, misreading.TooMany) is = (Long, is.1, misread_at _ misreading.TooMany is.0)
+misread content (number, misreading.TooMany) is = (Long, is.1, misread_at _ _ is.0)
 misread content (number, misreading.NotUtf8) is = (Garbled, is.1, misread_at _ misreading.NotUtf8 is.0)
 misread content (number, misreading.Syntax kind) is = (Ended is.1 (Faulty number kind), (is.0, is.2), refl)
 misread content (number, misreading.Directive kind) is = (Ended (plain_lines is.0) Whole, is.1, ap (unless_faulty (plain_lines is.0)) is.2)
@@ -129,11 +129,11 @@ misread_or_main content place main is (lines, other, says) = misread_or_lines _ 
 pub in_turn_same : (edits : List Change) (one other : List (Line Placed)) → plain_lines one ≡ plain_lines other
     → plain_lines (lines_after_all edits one) ≡ plain_lines (lines_after_all edits other)
 in_turn_same [] one other same = same
-in_turn_same (edit ∷ edits) one other same = in_turn_same edits _ _ (edited-same edit _ _ same)
+in_turn_same (edit ∷ edits) one other same = in_turn_same edits _ _ (edited-same _ _ _ same)
 
 printed_same : (refusals : List (ℕ × List ℕ)) (one other : List (Line Placed)) → plain_lines one ≡ plain_lines other
     → edits_outcome refusals one ≡ edits_outcome refusals other
-printed_same [] one other same = ap (λ (ls : List (Line Word)). text_outcome (layout ls)) same
+printed_same [] one other same = ap (λ ls. text_outcome (layout ls)) same
 printed_same (refusal ∷ later) one other same = refl
 
 pub edit_once : (texts : List (List ℕ)) (file : List ℕ) (one other : Outcome) → EditEnds texts file one → EditEnds texts file other → one ≡ other
@@ -143,7 +143,7 @@ edit_once texts file one other (bad_main here misread says) (applied lines main 
 edit_once texts file one other (applied lines main says) (bad_main there read tells) = absurd (misread_or_lines _ _ _ read main)
 edit_once texts file one other (applied lines main says) (applied others again tells) =
     let edits = filter_map edit_in texts in
-    says ∙ printed_same (refusals_from 1 texts) _ _ (in_turn_same edits _ _ (same_lines _ _ _ main.0 again.0)) ∙ sym tells
+    says ∙ printed_same _ _ _ (in_turn_same edits _ _ (same_lines _ _ _ main.0 again.0)) ∙ sym tells
 
 -- ---- a go.sum
 

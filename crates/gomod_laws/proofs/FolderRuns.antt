@@ -14,7 +14,7 @@ use Rattle.gm_graph.specs.declared.fault.Fault.{Fault}
 use Rattle.gm_graph.specs.Run as graph
 use Rattle.gm_graph_cache.specs.Sayings as sayings
 use Rattle.gm_graph.specs.Run.{AreFaults, AskedInTurn, IsSettled}
-use Rattle.gm_graph_cache.specs.Sayings.{FileSays, run_of}
+use Rattle.gm_graph_cache.specs.Sayings.{run_of}
 use Rattle.gm_graph.proofs.Exactly.{names_push}
 use Rattle.gm_graph.proofs.RunLemmas.{needed}
 use Rattle.gomod_texts.specs.QueryLaws.{AnswerAlike}
@@ -55,8 +55,8 @@ needed_in_turn needs grows graph.nothing one there = absurd (no_member _ there)
 needed_in_turn needs grows (graph.more {pairs} {name} reply asks need unasked) one there =
     let longer = pairs ++ (name, reply) ∷ [] in
     let still =
-    grows (answer_in pairs) (answer_in longer) (λ n r e. answer_stays _ ((name, reply) ∷ []) n r e) in
-    elim (Contains-push_cases _ _ _ (rw (names_push pairs name reply) at there)) [
+    grows (answer_in pairs) (answer_in longer) (λ n r e. answer_stays _ _ n r e) in
+    elim (Contains-push_cases _ _ _ (rw (names_push _ _ _) at there)) [
       | inl before ↦ still one (needed_in_turn _ grows asks _ before)
       | inr same ↦ subst (needs (answer_in longer)) same (still name need)
     ]
@@ -66,7 +66,7 @@ none_asked : {asked : Pairs} → AskedInTurn (λ answers name. ⊥) asked → (n
 none_asked turn name there = needed_in_turn (λ answers name. ⊥) (λ one other keeps n need. need) turn _ there
 
 pub answered_name : (asked : Pairs) (name : Name) (reply : Reply) → answer_in asked name ≡ Some reply → Contains (names_in asked) name
-answered_name asked name reply e = in_mapped (λ (pair : Name × Reply). pair.0) _ _ (answered_in _ _ _ e)
+answered_name asked name reply e = in_mapped (λ pair. pair.0) _ _ (answered_in _ _ _ e)
 
 -- ---- an answer that was read is a file
 
@@ -85,10 +85,10 @@ abbrev NeedsLatest : List ℕ → Bool → AnswersByName → Name → Type 0
 NeedsLatest path all answers name =
     (versions : List (List ℕ)) × (latest : List ℕ) × (name ≡ mod_file path latest) × IsLatestListed path all answers versions latest
 
-latest_again : (path : List ℕ) (all : Bool) (one other : AnswersByName) (name : Name)
+latest_again : {path : List ℕ} {all : Bool} (one other : AnswersByName) {name : Name}
     → ((list : List ℕ) → one (list_file path) ≡ Some (bytes list) → other (list_file path) ≡ Some (bytes list))
     → NeedsLatest path all one name → NeedsLatest path all other name
-latest_again path all one other name moved (versions, latest, same, is) = (
+latest_again one other moved (versions, latest, same, is) = (
   versions,
   latest,
   same,
@@ -106,7 +106,7 @@ latest_again path all one other name moved (versions, latest, same, is) = (
 
 pub versions_grow : (path : List ℕ) (all : Bool) → Grows (VersionsNeed path all)
 versions_grow path all one other keeps name (inl list) = inl list
-versions_grow path all one other keeps name (inr need) = inr (latest_again _ _ _ other _ (λ list. keeps (list_file path) (bytes list)) need)
+versions_grow path all one other keeps name (inr need) = inr (latest_again _ other (λ list. keeps (list_file path) (bytes list)) need)
 
 module _ (path : List ℕ) (all : Bool) (told : AnswersByName) (outcome : Outcome) (prints : HasPrinted outcome)
     (ends : VersionsEnds path all told [] outcome) where
@@ -123,16 +123,16 @@ module _ (path : List ℕ) (all : Bool) (told : AnswersByName) (outcome : Outcom
 
   pub needed_is_file : (name : Name) (reply : Reply) → VersionsNeed path all told name → told name ≡ Some reply → IsFile reply
   needed_is_file name reply (inl (fetchable, same)) answered = list_is_file _ (rw same at answered)
-  needed_is_file name reply (inr (versions, latest, same, is)) answered = by shown are
+  needed_is_file name reply (inr (versions, latest, same, is)) answered = by _ are
     where
       by : (these : List (List ℕ)) → AreShown path all told these → IsFile reply
       by these (all_listed listed every) =
-          absurd (none_needed path _ told _ _ latest (one_listed _ all _ _ (alike_itself path all told) is.listed listed) every is)
+          absurd (none_needed _ _ told _ _ latest (one_listed _ all _ _ (alike_itself path all told) is.listed listed) every is)
       by these (not_retracted others last other file intervals says retracted hidden) =
           let latest_same = (one_latest _ _ _ _ (alike_itself path all told) _ _ _ _ is says.chosen).1 in
           let again : told (mod_file path last) ≡ Some reply = rw (same ∙ ap (mod_file path) latest_same) at answered in
-          let (content, content_is) = read_is_file None (mod_file path last) other file says.says in
-          (content, same_answer (told (mod_file path last)) reply other again says.answered ∙ content_is)
+          let (content, content_is) = read_is_file None (mod_file path last) _ file says.says in
+          (content, same_answer _ _ _ again says.answered ∙ content_is)
 
   -- the same files are needed over answers that name the same list
   needed_again : (other : AnswersByName) (name : Name) → ((a b : Reply) → other (list_file path) ≡ Some a → told (list_file path) ≡ Some b → a ≡ b)
@@ -140,7 +140,7 @@ module _ (path : List ℕ) (all : Bool) (told : AnswersByName) (outcome : Outcom
   needed_again other name alike (inl list) = inl list
   needed_again other name alike (inr need) =
       let (others, listed) = shown_listed _ _ _ _ are in
-      inr (latest_again _ _ _ told _ (λ list answered.
+      inr (latest_again _ _ (λ list answered.
       listed.answered ∙ ap Some (sym (alike (bytes list) (bytes listed.list) answered listed.answered))) need)
 
 -- ---- queries
@@ -150,29 +150,29 @@ pub no_fault_read : (main : Main) (table : Option Sums) (asked : Pairs) → IsSe
     → AreFaults (run_of main table asked) [] → (name : Name) (reply : Reply) (class : Class) → answer_in asked name ≡ Some reply
     → IsFileReading table name reply (Err class) → ⊥
 no_fault_read main table asked settled none name reply class at is =
-    let (x, opens, file, askable) = (settled.needed name).0 (answered_name _ _ _ at) in
+    let (x, opens, file, askable) = (settled.needed _).0 (answered_name _ _ _ at) in
     let one : Fault = record { vertex = x; class = class } in
     let says = sayings.answered reply askable at is in
     no_member _ ((none.each one).1 (opens, sayings.faulty (rw file says)))
 
 -- what was asked for was read
-asked_is_file : (file : List ℕ) (sums : Option (List ℕ)) (asked : Pairs) (main : Main) (table : Option Sums)
+asked_is_file : {file : List ℕ} {sums : Option (List ℕ)} {asked : Pairs} {main : Main} {table : Option Sums}
     → AreFound (run_over file sums asked) main table [] → (name : Name) (reply : Reply) → answer_in asked name ≡ Some reply → IsFile reply
-asked_is_file file sums asked main table found name reply e = let (said, is) = found.settled.read name reply e in by said is
+asked_is_file {table} found name reply e = let (said, is) = found.settled.read name reply e in by _ is
   where
     by : (said : Result Dependency Class) → IsFileReading table name reply said → IsFile reply
-    by (Ok content) is = read_is_file table name reply content is
-    by (Err class) is = absurd (no_fault_read main table asked found.settled found.faults_are name reply class e is)
+    by (Ok content) is = read_is_file _ name _ content is
+    by (Err class) is = absurd (no_fault_read _ _ _ found.settled found.faults_are name _ _ e is)
 
 -- runs over answers that are alike ask for the same files
-names_into : (file : List ℕ) (sums : Option (List ℕ)) (asked told : Pairs) (main again : Main) (t u : Option Sums) → AnswerAlike asked told
+names_into : {file : List ℕ} {sums : Option (List ℕ)} {asked told : Pairs} {main again : Main} (t u : Option Sums) → AnswerAlike asked told
     → AreFound (run_over file sums asked) main t [] → AreFound (run_over file sums told) again u [] → (name : Name)
     → Contains (names_in asked) name → Contains (names_in told) name
-names_into file sums asked told main again t u alike found also name there =
+names_into {file} {sums} {asked} t u alike found also name there =
     let agrees =
     stores_agree (run_over file sums asked) _ _ _ t u
     (record { file = refl; sums = refl; answers = alike; failed = refl }) found.read also.read also.settled in
-    (also.settled.needed name).1 (needed _ (run_of again u told) agrees _ ((found.settled.needed name).0 there))
+    (also.settled.needed _).1 (needed _ (run_of _ u _) agrees _ ((found.settled.needed _).0 there))
 
 -- ---- any command
 
@@ -195,8 +195,8 @@ module _ (main : List ℕ) (sums : Option (List ℕ)) where
       → Ends command main sums asked outcome → HasPrinted outcome
       → (name : Name) (reply : Reply) → answer_in asked name ≡ Some reply → IsFile reply
   query_is_file command asked outcome query run prints name reply e =
-      let (says, table, found) = valid_files _ _ _ _ _ query run prints in
-      asked_is_file _ _ _ _ _ found _ _ e
+      let (says, table, found) = valid_files _ _ _ _ query run prints in
+      asked_is_file found _ _ e
 
   -- a run that prints was answered with a file wherever it asked
   pub each_is_file : (command : Command) (asked : Pairs) (outcome : Outcome) → HasAskedAndPrinted command main sums asked outcome
@@ -220,9 +220,9 @@ module _ (main : List ℕ) (sums : Option (List ℕ)) where
       let (reply, answered) = done_answers (Versions path all) (run_over main sums told) b again.ends again.prints name too in
       answered_name _ _ _ answered
   names_in_other command asked told a b alike run again name there =
-      let (says, t, found) = valid_files command main sums _ a refl run.ends run.prints in
-      let (tells, u, too) = valid_files command _ _ _ b refl again.ends again.prints in
-      names_into _ _ _ _ _ _ t u alike found too _ there
+      let (says, t, found) = valid_files command main sums a refl run.ends run.prints in
+      let (tells, u, too) = valid_files command _ _ b refl again.ends again.prints in
+      names_into t u alike found too _ there
 
   pub same_names : (command : Command) (asked told : Pairs) (a b : Outcome) → AnswerAlike asked told
       → HasAskedAndPrinted command main sums asked a → HasAskedAndPrinted command main sums told b

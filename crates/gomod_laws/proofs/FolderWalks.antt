@@ -18,9 +18,9 @@ use Rattle.gomod_laws.specs.FolderLaws.{HasOneMore, FolderMayAnswer}
 -- a request that goes on after a folder goes on as before
 goes_again : (marks : List Mark) (mark : Mark) (k : ℕ) (seen : Seen) → step_of seen (slice_get marks k) ≡ Go
     → step_of seen (slice_get (marks ++ mark ∷ []) k) ≡ Go
-goes_again [] mark k seen goes = absurd (unmarked seen goes)
+goes_again [] mark k seen goes = absurd (unmarked _ goes)
 goes_again (first ∷ marks) mark zero seen goes = goes
-goes_again (first ∷ marks) mark (suc k) seen goes = goes_again marks mark k seen goes
+goes_again (first ∷ marks) mark (suc k) seen goes = goes_again marks _ k _ goes
 
 -- only a file that was found is the answer
 only_found : (content : List ℕ) (last : Seen) (mark : Option Mark) → Some (bytes content) ≡ outcome_of last (step_of last mark) → last ≡ found content
@@ -33,10 +33,10 @@ only_found content failed (Some Bar) e = cc e
 only_found content failed (Some Comma) e = cc e
 
 found_takes : (content : List ℕ) (last : Seen) (mark : Option Mark) → last ≡ found content → step_of last mark ≢ Go
-found_takes content last mark is goes = let takes : Take ≡ Go = sym (ap (λ (s : Seen). step_of s mark) is) ∙ goes in cc takes
+found_takes content last mark is goes = let takes : Take ≡ Go = sym (ap (λ s. step_of s mark) is) ∙ goes in cc takes
 
 found_answers : (content : List ℕ) (last : Seen) (mark : Option Mark) → last ≡ found content → Some (bytes content) ≡ outcome_of last (step_of last mark)
-found_answers content last mark is = sym (ap (λ (s : Seen). outcome_of s (step_of s mark)) is)
+found_answers content last mark is = sym (ap (λ s. outcome_of s (step_of s mark)) is)
 
 stops_again : (looks : List Seen) (marks : List Mark) (content : List ℕ) (failures : ℕ) (look : Seen) (mark : Mark)
     → StopsAt looks marks (Some (bytes content)) failures
@@ -47,8 +47,8 @@ stops_again looks marks content failures look mark stop =
       passed = stop.passed;
       last = stop.last;
       rest = stop.rest ++ look ∷ [];
-      in_order = ap (λ (seen : List Seen). seen ++ look ∷ []) stop.in_order ∙ append_assoc stop.passed (stop.last ∷ stop.rest) (look ∷ []);
-      goes = λ k seen e. goes_again _ mark k _ (stop.goes k seen e);
+      in_order = ap (λ seen. seen ++ look ∷ []) stop.in_order ∙ append_assoc _ _ (look ∷ []);
+      goes = λ k seen e. goes_again _ _ k _ (stop.goes k seen e);
       stops = found_takes _ _ _ is;
       answers = found_answers _ _ _ is;
       counted = stop.counted;
@@ -68,15 +68,15 @@ module _ (folders others : FoldersInMemory) (marks more : List Mark) (one : HasO
   in_proxies name content reply failures count stop again =
       let look : MemoryFolder → Seen = λ shelf. result_at shelf name in
       let longer : map look others.proxies.items ≡ map look folders.proxies.items ++ look one.folder ∷ [] =
-      ap (map look) one.proxies ∙ map-append look folders.proxies.items (one.folder ∷ []) in
-      one_reply _ _ _ _ _ _ (stops_again _ _ _ _ (look one.folder) one.mark stop) (rw longer at (rw one.marks_are at again))
+      ap (map look) one.proxies ∙ map-append _ _ (one.folder ∷ []) in
+      one_reply _ _ _ _ _ _ (stops_again _ _ _ _ _ _ stop) (rw longer at (rw one.marks_are at again))
 
   beside_main : (name : Name) (content : List ℕ) (reply : Reply) (failures count : ℕ)
       → StopsAt (result_at folders.beside name ∷ []) [] (Some (bytes content)) failures
       → StopsAt (result_at others.beside name ∷ []) [] (Some reply) count
       → reply ≡ bytes content
   beside_main name content reply failures count stop again =
-      one_reply (result_at folders.beside name ∷ []) [] (bytes content) reply failures count stop (rw one.beside at again)
+      one_reply _ _ _ _ _ _ stop (rw one.beside at again)
 
   -- the one answer to the name of a file that was found is that file
   pub found_again : (name : Name) (content : List ℕ) (reply : Reply)
@@ -85,12 +85,12 @@ module _ (folders others : FoldersInMemory) (marks more : List Mark) (one : HasO
   found_again (mod_file path version) content reply (failures, may) (count, could) =
       let name = mod_file path version in
       in_proxies name _ _ _ _
-      (held_stop folders name marks (Some (bytes content)) failures may) (held_stop others name more (Some reply) count could)
+      (held_stop folders name marks (Some _) failures may) (held_stop others name more (Some _) count could)
   found_again (list_file path) content reply (failures, may) (count, could) =
       let name = list_file path in
       in_proxies name _ _ _ _
-      (held_stop folders name marks (Some (bytes content)) failures may) (held_stop others name more (Some reply) count could)
+      (held_stop folders name marks (Some _) failures may) (held_stop others name more (Some _) count could)
   found_again (folder_file text) content reply (failures, may) (count, could) =
       let name = folder_file text in
       beside_main name _ _ _ _
-      (held_stop folders name [] (Some (bytes content)) failures may) (held_stop others name [] (Some reply) count could)
+      (held_stop folders name [] (Some _) failures may) (held_stop others name [] (Some _) count could)

@@ -33,7 +33,7 @@ layout_main file lines main parsed utf8 short (others, (read, sound), says) =
     let layout_is = parsed_layout _ _ parsed utf8 short in
     let same = same_lines _ _ _ read parsed in
     let none = rw same at sound in
-    let said : directives Strict (plain_lines layout_is.doc) ≡ directives Strict (plain_lines others) =
+    let said =
     same_said (plain_lines lines) (plain_lines layout_is.doc) layout_is.same_filled ∙ ap (directives Strict) (sym same) in
     (layout_is.doc, (layout_is.parsed, no_fault_again _ _ layout_is.same_filled none), ap main_said said ∙ says)
 
@@ -46,7 +46,7 @@ pub record IsLayoutOf (file text : List ℕ) : Type 0 where
   pub text_is : text ≡ layout (plain_lines lines)
 
 laid : (file text : List ℕ) → FmtEnds file (text_outcome text) → IsLayoutOf file text
-laid file text (laid_out lines parsed says) = record { lines = lines; parsed = parsed; text_is = ap (λ (o : Outcome). o.text) says }
+laid file text (laid_out lines parsed says) = record { lines = lines; parsed = parsed; text_is = ap (λ o. o.text) says }
 laid file text (bad_syntax fault place parsed named says) = absurd (not_refused _ _ says refl)
 
 pub fmt_printed : (file text : List ℕ) → IsFormatted file text → IsLayoutOf file text
@@ -57,7 +57,7 @@ formatting_changes_no_build command file text main sums asked answered before af
     let found = fmt_printed _ _ formatted in
     let low : length (layout (plain_lines found.lines)) ≤ longest = rw found.text_is at short in
     let also : IsMainFile text main = rw found.text_is (layout_main _ _ _ found.parsed (subst IsUtf8 found.text_is formatted.1) low is) in
-    same_outcome _ _ _ _ _ _ _ _ query (queries_move file text sums main main is also (says_itself main)) alike one.0 two.0
+    same_outcome _ _ _ _ _ _ _ _ query (queries_move file text sums main main is also (says_itself _)) alike one.0 two.0
 
 -- the only outcome of `fmt` is the layout of the lines
 pub fmt_is : (file : List ℕ) (lines : List (Line Placed)) (outcome : Outcome) → IsParsedAs file (Ok lines)

@@ -16,24 +16,24 @@ use Rattle.gomod_texts.proofs.FolderNames.{read_document}
 
 -- ---- lines whose words have no places
 
-plain_words : (words : List Word) → map (λ (t : Placed). t.word) (map unplaced_word words) ≡ words
+plain_words : (words : List Word) → map (λ t. t.word) (map unplaced_word words) ≡ words
 plain_words [] = refl
-plain_words (w ∷ words) = ap (λ (ws : List Word). w ∷ ws) (plain_words words)
+plain_words (w ∷ words) = ap (λ ws. w ∷ ws) (plain_words _)
 
 plain_line : (line : Line Word) → plain (map_line unplaced_word line) ≡ line
 plain_line Blank = refl
 plain_line (Comment text) = refl
 plain_line (Open verb suffix) = refl
 plain_line (Close suffix) = refl
-plain_line (Entry words suffix) = ap (λ (ws : List Word). Entry ws suffix) (plain_words words)
+plain_line (Entry words suffix) = ap (λ ws. Entry ws suffix) (plain_words _)
 
 abbrev pub placeless : List (Line Word) → List (Line Placed)
-placeless lines = map (λ (line : Line Word). map_line unplaced_word line) lines
+placeless lines = map (λ line. map_line unplaced_word line) lines
 
 pub plain_placeless : (lines : List (Line Word)) → plain_lines (placeless lines) ≡ lines
 plain_placeless [] = refl
 plain_placeless (line ∷ lines) =
-    ap (λ (l : Line Word). l ∷ plain_lines (placeless lines)) (plain_line line) ∙ ap (λ (ls : List (Line Word)). line ∷ ls) (plain_placeless lines)
+    ap (λ l. l ∷ plain_lines (placeless lines)) (plain_line _) ∙ ap (λ ls. line ∷ ls) (plain_placeless _)
 
 -- ---- the layout of a document
 
@@ -49,13 +49,13 @@ layout_read lines document utf8 short =
     let laid = layout_lines initial_state lines in
     let stable = is_stable _ document in
     let doc = placeless laid in
-    let back = plain_placeless laid in
+    let back = plain_placeless _ in
     let reads : ReadsLines start (lines_of (layout lines)) (plain_lines doc) Whole =
     rw back
     stable.reads in
     record {
       doc = doc;
-      parsed = reading_parsed (layout lines) (Ok doc) ((short, utf8), reading_of _ _ _ reads);
+      parsed = reading_parsed _ (Ok doc) ((short, utf8), reading_of _ _ _ reads);
       same_filled = ap filled_lines back ∙ stable.same_lines;
       same_layout = ap layout back ∙ stable.same_bytes;
     }

@@ -31,9 +31,9 @@ one_one = codes "v1.1.0"
 
 -- ---- versions by their digits
 
-digits : (x y z : List ℕ) (a b c : ℕ) → x ≡ a ∷ [] → y ≡ b ∷ [] → z ≡ c ∷ []
+digits : {x y z : List ℕ} {a b c : ℕ} → x ≡ a ∷ [] → y ≡ b ∷ [] → z ≡ c ∷ []
     → 118 ∷ (a ∷ (46 ∷ (b ∷ (46 ∷ (c ∷ []))))) ≡ 118 ∷ (x ++ (46 ∷ (y ++ (46 ∷ (z ++ [])))))
-digits x y z a b c e f g = rw (e, f, g) refl
+digits e f g = rw (e, f, g) refl
 
 zero_is : decimal 0 ≡ 48 ∷ []
 zero_is = decimal_digit 0 (lit< tt)
@@ -42,7 +42,7 @@ one_is : decimal 1 ≡ 49 ∷ []
 one_is = decimal_digit 1 (lit< tt)
 
 one_zero_text : one_zero ≡ version_text (1, 0, 0, [], [])
-one_zero_text = digits _ _ _ _ _ _ one_is zero_is zero_is
+one_zero_text = digits one_is zero_is zero_is
 
 pub one_zero_is : IsVersion one_zero
 one_zero_is = ((1, 0, 0, [], []), (lit< tt, lit< tt, lit< tt, refl, refl), inl refl, one_zero_text)
@@ -51,7 +51,7 @@ pub one_zero_parts : parts_in one_zero ≡ (1, 0, 0, [], [])
 one_zero_parts = parts-spelled _ _ (lit< tt, lit< tt, lit< tt, refl, refl) one_zero_text
 
 one_one_text : one_one ≡ version_text (1, 1, 0, [], [])
-one_one_text = digits _ _ _ _ _ _ one_is one_is zero_is
+one_one_text = digits one_is one_is zero_is
 
 pub one_one_is : IsVersion one_one
 one_one_is = ((1, 1, 0, [], []), (lit< tt, lit< tt, lit< tt, refl, refl), inl refl, one_one_text)
@@ -69,10 +69,10 @@ nine_is : decimal 9 ≡ 57 ∷ []
 nine_is = decimal_digit 9 (lit< tt)
 
 ten_is : decimal 10 ≡ 49 ∷ 48 ∷ []
-ten_is = decimal_step 10 (omega arith) (omega arith) ∙ ap (λ (front : List ℕ). front ++ (48 ∷ [])) one_is
+ten_is = decimal_step _ (omega arith) (omega arith) ∙ ap (λ front. front ++ (48 ∷ [])) one_is
 
 one_nine_text : one_nine ≡ version_text (1, 9, 0, [], [])
-one_nine_text = digits _ _ _ _ _ _ one_is nine_is zero_is
+one_nine_text = digits one_is nine_is zero_is
 
 one_nine_parts : parts_in one_nine ≡ (1, 9, 0, [], [])
 one_nine_parts = parts-spelled _ _ (lit< tt, lit< tt, lit< tt, refl, refl) one_nine_text
@@ -117,7 +117,7 @@ no_slash [] z e = let wrong = heads _ _ _ _ e in omega (arith, wrong)
 no_slash (_ ∷ []) z e = let wrong = heads _ _ _ _ (ap (drop 1) e) in omega (arith, wrong)
 no_slash (_ ∷ _ ∷ []) z e = let wrong = heads _ _ _ _ (ap (drop 2) e) in omega (arith, wrong)
 no_slash (_ ∷ _ ∷ _ ∷ x) z e =
-    let size : 0 ≡ length ((x ++ codes "/v") ++ z) = ap (λ (t : List ℕ). length t) (ap (drop 3) e) in
+    let size : 0 ≡ length ((x ++ codes "/v") ++ z) = ap (λ t. length t) (ap (drop 3) e) in
     let inner = length-append x (codes "/v") in
     let outer = length-append (x ++ codes "/v") z in
     omega (arith, size, inner, outer)
@@ -136,9 +136,9 @@ one_zero_fits = (NoSuffix, no_suffix, inl (low, none))
 
 no_pseudo : IsPseudoVersion one_zero → ⊥
 no_pseudo (form, time, revision, (front, is, stamp)) =
-    let pre : (parts_in one_zero).3 ≡ [] = ap (λ (p : Parts). p.3) one_zero_parts in
+    let pre : (parts_in one_zero).3 ≡ [] = ap (λ p. p.3) one_zero_parts in
     let whole : [] ≡ ((front ++ time) ++ codes "-") ++ revision = sym pre ∙ stamp.joined in
-    let size : 0 ≡ length (((front ++ time) ++ codes "-") ++ revision) = ap (λ (t : List ℕ). length t) whole in
+    let size : 0 ≡ length (((front ++ time) ++ codes "-") ++ revision) = ap (λ t. length t) whole in
     let one = length-append ((front ++ time) ++ codes "-") revision in
     let some = stamp.some in
     omega (arith, size, one, some)
@@ -155,11 +155,11 @@ pub one_zero_listed : IsListed (codes "a.b") both_listed one_zero
 one_zero_listed = record { named = (0, omega arith, refl); listable = one_zero_listable }
 
 one_one_counts : counts true one_one ≡ true
-one_one_counts = ap (λ (p : Parts). length p.3 == 0) one_one_parts
+one_one_counts = ap (λ p. length p.3 == 0) one_one_parts
 
 pub one_one_is_latest : IsLatest (one_zero ∷ one_one ∷ []) one_one
 one_one_is_latest = inl (record {
-  listed = member_tail one_zero one_one (one_one ∷ []) (member_head one_one []);
+  listed = member_tail _ _ (one_one ∷ []) (member_head _ []);
   counted = one_one_counts;
   greatest = λ other there counted. each_of (λ v. is_gt (version_cmp v one_one) ≡ false) (one_zero ∷ one_one ∷ [])
       (ap is_gt one_zero_is_below, (not_above_itself (version_cmp one_one one_one) (version_total.antisymm one_one one_one), tt)) other there;

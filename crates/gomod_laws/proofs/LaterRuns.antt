@@ -35,7 +35,7 @@ files_stay asked later adds files name a b e f = sym (file_stays _ _ adds _ a b 
 versions_again : (path : List ℕ) (all : Bool) (asked later : Pairs) (one other : Outcome) → HasPrinted one → OnlyAddsAnswers asked later
     → VersionsEnds path all (answer_in asked) [] one → VersionsEnds path all (answer_in later) [] other → one ≡ other
 versions_again path all asked later one other prints adds ends also =
-    versions_once path all (answer_in asked) (answer_in later)
+    versions_once _ _ _ (answer_in later)
     (λ name a b need e f. sym (file_stays _ _ adds _ a b (needed_is_file _ _ _ one prints ends _ a need e) e f))
     [] one other ends also
 
@@ -56,7 +56,7 @@ later_prints_the_same command main sums asked later one other run prints adds ag
 pub later_asks_the_same : LaterAsksTheSame
 later_asks_the_same command main sums asked later one other run prints adds again name =
     let same = later_prints_the_same command main sums asked later one other run.ends prints adds again.ends in
-    let also : HasPrinted other = ap (λ (o : Outcome). o.status) same ∙ prints in
+    let also : HasPrinted other = ap (λ o. o.status) same ∙ prints in
     let first : HasAskedAndPrinted command main sums asked one = record { ends = run.ends.0; in_turn = run.in_turn; prints = prints } in
     let second : HasAskedAndPrinted command main sums later other = record { ends = again.ends.0; in_turn = again.in_turn; prints = also } in
     let alike = files_stay _ _ adds (each_is_file _ _ _ _ _ first) in

@@ -9,7 +9,7 @@ use Rattle.gm_syntax_words.specs.Tokens.{Placed}
 use Rattle.gm_syntax.specs.Document.{Line}
 use Rattle.gm_syntax.specs.LineViews.{plain_lines}
 use Rattle.gm_file.specs.Directives.{Strict, Directive, DeclaresModule, DeclaresGo, Replaces, Left, Replacing, directives, left_with, left_without}
-use Rattle.gm_file.specs.Faults.{fault_of, go_in, is_same_left, is_same_right}
+use Rattle.gm_file.specs.Faults.{fault_of, go_in, is_same_left}
 use Rattle.gm_file.specs.Pairwise.{do_clash}
 use Rattle.gm_file.proofs.Pairwise.{AreApart, clash-mutual, faultless-apart}
 use Rattle.gm_file.specs.Fields.{as_exclusion, as_go, as_module, as_replacing, as_requirement, first, right_for}
@@ -32,12 +32,12 @@ one_of_two [] d e apart here there clash = absurd (no_member d here)
 one_of_two (x ∷ ds) d e apart here there clash = by_places (member_cases x d _ here) (member_cases x e ds there) (λ a b. one_of_two ds d e apart.1 a b clash)
   where
     never : (y : Directive) → Contains ds y → do_clash x y ≡ true → ⊥
-    never y inside holds = false≢true (sym apart.0 ∙ list_any-from_Any (do_clash x) ds (inside.0, y, inside.1, inside.2, holds))
+    never y inside holds = false≢true (sym apart.0 ∙ list_any-from_Any _ ds (inside.0, y, inside.1, inside.2, holds))
 
     by_places : (x ≡ d) ⊎ Contains ds d → (x ≡ e) ⊎ Contains ds e → (Contains ds d → Contains ds e → d ≡ e) → d ≡ e
     by_places (inl a) (inl b) rest = sym a ∙ b
-    by_places (inl a) (inr b) rest = absurd (never e b (ap (λ (y : Directive). do_clash y e) a ∙ clash))
-    by_places (inr a) (inl b) rest = absurd (never d a (ap (λ (y : Directive). do_clash y d) b ∙ clash-mutual e d ∙ clash))
+    by_places (inl a) (inr b) rest = absurd (never e b (ap (λ y. do_clash y e) a ∙ clash))
+    by_places (inr a) (inl b) rest = absurd (never d a (ap (λ y. do_clash y d) b ∙ clash-mutual e d ∙ clash))
     by_places (inr a) (inr b) rest = rest a b
 
 -- ---- lists with the same members
@@ -62,13 +62,13 @@ module _ {X : Type 0} (part : Directive → Option X) where
   part_of : (ds : List Directive) (d : Directive) (x : X) → Contains ds d → part d ≡ Some x → Contains (filter_map part ds) x
   part_of [] d x there is = absurd (no_member d there)
   part_of (e ∷ ds) d x there is = elim (member_cases e d _ there) [
-    | inl same ↦ let here : part e ≡ Some x = ap part same ∙ is in rw here (member_head x (filter_map part ds))
-    | inr later ↦ behind (part e) (part_of ds d x later is)
+    | inl same ↦ let here : part e ≡ Some x = ap part same ∙ is in rw here (member_head x _)
+    | inr later ↦ behind _ (part_of ds d x later is)
   ]
     where
       behind : (o : Option X) → Contains (filter_map part ds) x → Contains (cons_option o (filter_map part ds)) x
       behind None inside = inside
-      behind (Some y) inside = member_tail y x (filter_map part ds) inside
+      behind (Some y) inside = member_tail y x _ inside
 
   parts_into : (ds es : List Directive) → AreMembers ds es → AreMembers (filter_map part ds) (filter_map part es)
   parts_into ds es into x there = let (d, inside, is) = some_part _ x there in part_of _ d x (into d inside) is
@@ -76,7 +76,7 @@ module _ {X : Type 0} (part : Directive → Option X) where
 -- a member that is found passes the test
 found_passes : {X : Type 0} (test : X → Bool) (xs : List X) (x : X) → find test xs ≡ Some x → test x ≡ true
 found_passes test [] x e = absurd cc
-found_passes {X} test (y ∷ xs) x e = by_test (test y) refl e (found_passes test xs x)
+found_passes {X} test (y ∷ xs) x e = by_test _ refl e (found_passes _ xs x)
   where
     by_test : (b : Bool) → test y ≡ b → cond b (Some y) (find test xs) ≡ Some x → (find test xs ≡ Some x → test x ≡ true) → test x ≡ true
     by_test true is f rest = let same : y ≡ x = cc in rw same at is
@@ -84,7 +84,7 @@ found_passes {X} test (y ∷ xs) x e = by_test (test y) refl e (found_passes tes
 
 not_found : {X : Type 0} (test : X → Bool) (xs : List X) (x : X) → find test xs ≡ None → Contains xs x → test x ≡ true → ⊥
 not_found test [] x e there holds = no_member x there
-not_found {X} test (y ∷ xs) x e there holds = by_test (test y) refl e (member_cases y x xs there) (λ f later. not_found test xs x f later holds)
+not_found {X} test (y ∷ xs) x e there holds = by_test _ refl e (member_cases y x xs there) (λ f later. not_found _ xs x f later holds)
   where
     by_test : (b : Bool) → test y ≡ b → cond b (Some y) (find test xs) ≡ None → (y ≡ x) ⊎ Contains xs x → (find test xs ≡ None → Contains xs x → ⊥) → ⊥
     by_test true is f place rest = cc
@@ -96,10 +96,10 @@ not_found {X} test (y ∷ xs) x e there holds = by_test (test y) refl e (member_
 one_found : {X Y : Type 0} (says : X → Y) (test : X → Bool) (xs ys : List X) → AreMembers xs ys → AreMembers ys xs
     → ((x y : X) → Contains ys x → Contains ys y → test x ≡ true → test y ≡ true → says x ≡ says y)
     → option_map says (find test xs) ≡ option_map says (find test ys)
-one_found {X} says test xs ys into back one = by_found (find test xs) (find test ys) refl refl
+one_found {X} says test xs ys into back one = by_found _ _ refl refl
   where
     is : (zs : List X) (z : X) → find test zs ≡ Some z → Contains zs z × (test z ≡ true)
-    is zs z e = (found_among test zs z e, found_passes test zs z e)
+    is zs z e = (found_among _ _ z e, found_passes test _ z e)
 
     by_found : (a b : Option X) → find test xs ≡ a → find test ys ≡ b → option_map says a ≡ option_map says b
     by_found None None e f = refl
@@ -111,13 +111,13 @@ one_found {X} says test xs ys into back one = by_found (find test xs) (find test
         ap Some (one x y (into x here.0) there.0 here.1 there.1)
 
 -- the first member is the first that passes a test which all pass
-first_found : {X : Type 0} (xs : List X) → option_map (λ (x : X). x) (find (λ x. true) xs) ≡ first xs
+first_found : {X : Type 0} (xs : List X) → option_map (λ x. x) (find (λ x. true) xs) ≡ first xs
 first_found [] = refl
 first_found (x ∷ xs) = refl
 
 one_first : {X : Type 0} (xs ys : List X) → AreMembers xs ys → AreMembers ys xs → ((x y : X) → Contains ys x → Contains ys y → x ≡ y) → first xs ≡ first ys
 one_first {X} xs ys into back one =
-    sym (first_found xs) ∙ one_found (λ (x : X). x) (λ x. true) _ _ into back (λ x y here there is also. one x y here there) ∙ first_found ys
+    sym (first_found _) ∙ one_found (λ x. x) (λ x. true) _ _ into back (λ x y here there is also. one x y here there) ∙ first_found _
 
 -- ---- what a directive is, from its part
 
@@ -149,15 +149,15 @@ module _ (ds : List Directive) (are : AreApart ds) where
       → Contains (filter_map as_replacing ds) s → is_same_left left r.0 ≡ true → is_same_left left s.0 ≡ true
       → r.1 ≡ s.1
   one_replaced left r s here there is_r is_s =
-      let lefts : r.0 ≡ s.0 = sym (same-left left r.0 is_r) ∙ same-left left s.0 is_s in
-      elim (cases_Bool (is_same_right r.1 s.1)) [
+      let lefts : r.0 ≡ s.0 = sym (same-left _ _ is_r) ∙ same-left _ _ is_s in
+      elim (cases_Bool _) [
         | inl same ↦ same-right _ _ same
         | inr apart ↦
-            let same : is_same_left r.0 s.0 ≡ true = subst (λ (x : Left). is_same_left r.0 x ≡ true) lefts (left-self r.0) in
+            let same : is_same_left r.0 s.0 ≡ true = subst (λ x. is_same_left r.0 x ≡ true) lefts (left-self r.0) in
             let clash : do_clash (Replaces r) (Replaces s) ≡ true = rw (same, apart) refl in
-            let one = one_said as_replacing Replaces replaces_is r s here there clash in
+            let one = one_said _ _ replaces_is r s here there clash in
             let both : r ≡ s = cc in
-            ap (λ (x : Replacing). x.1) both
+            ap (λ x. x.1) both
       ]
 
 -- ---- two files
@@ -171,14 +171,14 @@ module _ (ds es : List Directive) (one : AreApart ds) (other : AreApart es) (int
 
   rights : (left : Left) → right_for (filter_map as_replacing ds) left ≡ right_for (filter_map as_replacing es) left
   rights left =
-      one_found (λ (r : Replacing). r.1) (λ (r : Replacing). is_same_left left r.0) _ _
+      one_found (λ r. r.1) (λ r. is_same_left left r.0) _ _
       (parts_into as_replacing _ _ into) (parts_into as_replacing _ _ back)
       (λ r s here there is_r is_s. one_replaced _ other _ r s here there is_r is_s)
 
   said_alike : SayTheSame (main_said ds) (main_said es)
   said_alike = record {
-    path = ap (λ (o : Option (List ℕ)). unwrap_or o []) modules;
-    pruned = ap (λ (o : Option (List ℕ)). is_pruned_by (unwrap_or (option_and_then (go_in Strict) o) (1, 16))) versions;
+    path = ap (λ o. unwrap_or o []) modules;
+    pruned = ap (λ o. is_pruned_by (unwrap_or (option_and_then (go_in Strict) o) (1, 16))) versions;
     required = λ x. (
       kept_more (main_said ds) (main_said es) (parts_into as_exclusion _ _ back) _
           _ x (parts_into as_requirement _ _ into x),

@@ -22,7 +22,7 @@ module _ (file other : List ℕ) (sums : Option (List ℕ)) (m n : Main) (is : I
 
     alike : ReadAlike one two
     alike = record {
-      mains = rw (one_main file again m read.main_file is) same;
+      mains = rw (one_main _ _ m read.main_file is) same;
       answers = λ name. refl;
       read = λ name reply said need needs at. (λ reads. reads, λ reads. reads);
     }
@@ -31,7 +31,7 @@ module _ (file other : List ℕ) (sums : Option (List ℕ)) (m n : Main) (is : I
     also_read = record { main_file = also; sums = read.sums }
 
     same_found : (faults : List Fault) → AreFound (given_of file sums told) again table faults → AreFound (given_of other sums told) n table faults
-    same_found faults found = found_to _ _ _ _ _ _ n _ _ alike found.settled.read also_read _ found
+    same_found faults found = found_to _ _ _ _ _ n _ _ alike found.settled.read also_read _ found
 
   pub queries_move : QueriesMove file other sums
   queries_move command told outcome (bad_main place misread none says) = absurd (misread_or_main _ _ m misread is)

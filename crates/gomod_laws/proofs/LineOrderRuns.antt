@@ -22,5 +22,5 @@ pub same_outcome : (command : Command) (file other : List ℕ) (sums : Option (L
     → AnswerAlike asked answered
     → Ends command file sums asked a → Ends command other sums answered b → a ≡ b
 same_outcome command file other sums asked answered a b query moves alike one two =
-    query_once _ _ _ a b (record { file = refl; sums = refl; answers = alike; failed = refl })
+    query_once _ a b (record { file = refl; sums = refl; answers = alike; failed = refl })
     (moves command (answers_of asked []) a (query_ends _ a _ query one)) (query_ends _ b _ query two)

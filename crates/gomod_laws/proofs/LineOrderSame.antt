@@ -50,8 +50,8 @@ module _ (m n : Main) (same : SayTheSame m n) where
   pub without_same : (xs : List ModuleVersion) → without_excluded m xs ≡ without_excluded n xs
   without_same xs =
       let tests =
-      fun_ext (λ (x : ModuleVersion). ap not (excluded_same m n same.excluded x)) in
-      ap (λ (test : ModuleVersion → Bool). filter test xs) tests
+      fun_ext (λ x. ap not (excluded_same m n same.excluded x)) in
+      ap (λ test. filter test xs) tests
 
   pub files_same : (x : ModuleVersion) → file_of m x ≡ file_of n x
   files_same x = ap (file_named x) (same.replaced x)

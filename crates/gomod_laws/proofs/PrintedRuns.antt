@@ -23,16 +23,16 @@ abbrev pub PrintsOver : Prints → Given → Main → Outcome → Type 0
 PrintsOver prints run main outcome = (table : Option Sums) × AreFound run main table [] × prints (run_of main table run.answers.asked) outcome
 
 -- A run that prints, by what its main file is known to say.
-pub printed_by : (prints : Prints) (run : Given) (main : Main) (outcome : Outcome) → IsMainFile run.file main
+pub printed_by : {prints : Prints} {run : Given} {main : Main} {outcome : Outcome} → IsMainFile run.file main
     → QueryEnds prints run outcome → HasPrinted outcome → PrintsOver prints run main outcome
-printed_by prints run main outcome says is ends =
-    let (other, table, found, shows) = printed_run prints run outcome is ends in
-    subst (λ (m : Main). PrintsOver prints run m outcome) (one_main run.file other main found.read.main_file says) (table, found, shows)
+printed_by {prints} {run} {outcome} says is ends =
+    let (other, table, found, shows) = printed_run _ _ outcome is ends in
+    subst (λ (m : Main). PrintsOver prints run m outcome) (one_main run.file _ _ found.read.main_file says) (table, found, shows)
 
 -- what a query that prints is based on
-pub valid_files : (command : Command) (file : List ℕ) (sums : Option (List ℕ)) (asked : Pairs) (outcome : Outcome)
+pub valid_files : (command : Command) (file : List ℕ) (sums : Option (List ℕ)) {asked : Pairs} (outcome : Outcome)
     → is_query command ≡ true → Ends command file sums asked outcome → HasPrinted outcome
     → (main : Main) × (table : Option Sums) × AreFound (run_over file sums asked) main table []
-valid_files command file sums asked outcome query run done =
+valid_files command file sums outcome query run done =
     let (main, table, found, says) = printed_run _ _ _ (query_ends _ _ _ query run) done in
     (main, table, found)

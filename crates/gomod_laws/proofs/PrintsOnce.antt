@@ -1,6 +1,5 @@
 -- A query prints one thing of a run that opens few modules.
 use Rattle.std.proofs.Common.{◌≡◌, ◌≢◌, ◌∙◌, ◌⊎◌, ℕ, List, Option, Some, None, sym, ap, refl, inl, inr}
-use Rattle.std.specs.Str.{bytes_eq}
 use Rattle.std.proofs.lemmas.Bool.{cases_Bool}
 use Rattle.gm_name.proofs.Texts.{bytes_eq-differ, bytes_eq-same}
 use Rattle.gm_file.specs.Main.{Main}
@@ -30,13 +29,13 @@ use Rattle.gomod_texts.proofs.FewOpened.{IsFew, edges_listed}
 
 -- Equality of texts is decidable, so texts are equal if it can't be refuted that they are.
 same_texts : (a b : List ℕ) → ((a ≢ b) → ⊥) → a ≡ b
-same_texts a b is = elim (cases_Bool (bytes_eq a b)) [ inl e ↦ bytes_eq-same a b e | inr e ↦ absurd (is (bytes_eq-differ a b e)) ]
+same_texts a b is = elim (cases_Bool _) [ inl e ↦ bytes_eq-same a b e | inr e ↦ absurd (is (bytes_eq-differ a b e)) ]
 
 -- If few modules are opened, the edges are those of a list, and for a list this is known.
 one_chain_text : (run : Run) → IsFew run → (s : Step) (steps others : List Step) → IsChain (IsEdge run) s steps → IsChain (IsEdge run) s others
     → chain_text run.main.path steps ≡ chain_text run.main.path others
 one_chain_text run few s steps others chain other =
-    same_texts (chain_text run.main.path steps) (chain_text run.main.path others)
+    same_texts _ _
     (λ differ. edges_listed run few (λ edges same.
     let back = same_back _ _ same in
     differ (ap (chain_text run.main.path) (one_chain edges s steps others (same_chain _ _ back chain) (same_chain _ _ back other)))))
@@ -74,11 +73,11 @@ module _ (main : Main) (rows : List Entry) (limit : Option ℕ) where
     where
       -- a path that has a row is listed
       listed : {outcome : Outcome} → ShowsRest path outcome → HasEntryFor main.path rows path
-      listed (others, (entry, at), says) = entry_listed main.path rows path entry.0 (entry, others, at, refl)
+      listed (others, (entry, at), says) = entry_listed main.path rows path _ (entry, others, at, refl)
 
       once : ShowsRest path a → ShowsRest path b → a ≡ b
       once (others, (entry, at), says) (more, (first, begun), tells) =
-          says ∙ ap (λ (es : List Entry). text_outcome (list_text main.path (up_to limit es))) (one_at _ _ _ _ _ _ _ at begun).1 ∙ sym tells
+          says ∙ ap (λ es. text_outcome (list_text main.path (up_to limit es))) (one_at _ _ _ _ _ _ _ at begun).1 ∙ sym tells
 
 module _ (path : List ℕ) (run : Run) (rows : List Entry) (few : IsFew run) where
   -- the steps of a chain to its row are printed
@@ -99,8 +98,8 @@ module _ (path : List ℕ) (run : Run) (rows : List Entry) (few : IsFew run) whe
 
 -- ---- a query
 
-one_edges : (run : Run) (edges others : List Edge) → AreEdges run edges → AreEdges run others → edges ≡ others
-one_edges run edges others is be =
+one_edges : {run : Run} {edges others : List Edge} → AreEdges run edges → AreEdges run others → edges ≡ others
+one_edges is be =
     same_lists edge_total _ _ is.ascending be.ascending (λ e. (
       (λ there. (be.each e).1 ((is.each e).0 there)),
       (λ there. (is.each e).1 ((be.each e).0 there)),
@@ -108,7 +107,7 @@ one_edges run edges others is be =
 
 pub prints_once : (command : Command) (run : Run) (a b : Outcome) → IsFew run → PrintsOf command run a → PrintsOf command run b → a ≡ b
 prints_once Graph run a b few (edges, are, says) (others, be, tells) =
-    says ∙ ap (λ (es : List Edge). text_outcome (graph_text run.main.path es)) (one_edges _ _ _ are be) ∙ sym tells
+    says ∙ ap (λ (es : List Edge). text_outcome (graph_text run.main.path es)) (one_edges are be) ∙ sym tells
 prints_once (Rows after limit) run a b few (rows, are, is) (others, be, other) =
     let same = same_build_lists are be in
     shown_once run.main others limit _ a b (shown _ _ _ _ a (rw same at is)) (shown _ _ _ _ b other)

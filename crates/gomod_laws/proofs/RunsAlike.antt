@@ -17,7 +17,7 @@ use Rattle.gm_graph_cache.proofs.Sayings.{says_if}
 use Rattle.gm_graph_select.specs.declared.step.Edge.{Edge}
 use Rattle.gm_graph_select.specs.declared.step.Step.{Step}
 use Rattle.gm_graph_select.specs.declared.step.Step.TheVariants.{Of}
-use Rattle.gm_graph_select.specs.BuildList.{IsBuildList, entry_of, main_entry}
+use Rattle.gm_graph_select.specs.BuildList.{IsBuildList, main_entry}
 use Rattle.gm_graph.specs.Entries.{Entry}
 use Rattle.gm_graph_select.proofs.Same.{AreSame, same_build_list, same_chain}
 use Rattle.gomod_texts.specs.ListQuery.{list_text, PrintsRows, no_path, path_listed, path_unlisted}
@@ -46,13 +46,13 @@ module _ (r s : Run) (mains : SayTheSame r.main s.main) (edges_same : AreSame (I
 
   rows_to : (rows : List Entry) → AreRows r rows → AreRows s rows
   rows_to rows are =
-      let list = same_build_list (IsEdge r) (IsEdge s) edges_same are in
+      let list = same_build_list _ _ edges_same are in
       let entry : ModuleVersion → Option Right → Entry = λ x right. (Of x, right) in
-      let replaced : entry_of (replacement_in r.main) ≡ entry_of (replacement_in s.main) = fun_ext (λ (x : ModuleVersion). ap (entry x) (mains.replaced x)) in
-      subst (λ (path : List ℕ). IsBuildList path (replacement_in s.main) (IsEdge s) rows) mains.path
+      let replaced = fun_ext (λ x. ap (entry x) (mains.replaced x)) in
+      subst (λ path. IsBuildList path (replacement_in s.main) (IsEdge s) rows) mains.path
       (record {
         selected = list.selected;
-        entries_are = list.entries_are ∙ ap (λ (f : ModuleVersion → Entry). main_entry ∷ map f list.selected) replaced;
+        entries_are = list.entries_are ∙ ap (λ f. main_entry ∷ map f list.selected) replaced;
         ascending = list.ascending;
         each = list.each;
       })
@@ -98,8 +98,8 @@ pub record ReadAlike (r s : Run) : Type 0 where
 alike_back : {r s : Run} → ReadAlike r s → ReadAlike s r
 alike_back alike = record {
   mains = says_back alike.mains;
-  answers = λ name. sym (alike.answers name);
-  read = λ name reply said need needs at. let is = alike.read name reply said needs need (alike.answers name ∙ at) in (is.1, is.0);
+  answers = λ name. sym (alike.answers _);
+  read = λ name reply said need needs at. let is = alike.read _ _ _ needs need (alike.answers _ ∙ at) in (is.1, is.0);
 }
 
 -- ---- what is opened by the one run, the other opens
@@ -108,13 +108,13 @@ module _ (r s : Run) (alike : ReadAlike r s) where
   -- what a module says that both open
   says_to : (x : ModuleVersion) → IsOpened r x → IsOpened s x → (said : Result Dependency Class) → Says r x said → Says s x said
   says_to x opens opened said says =
-      says_if (alike.mains.replaced x) (λ it is. rw (files_same r.main s.main alike.mains x) at (file_to _ is)) says
+      says_if (alike.mains.replaced x) (λ it is. rw (files_same _ s.main alike.mains x) at (file_to _ is)) says
     where
       file_to : (it : Result Dependency Class) → FileSays r (file_of r.main x) it → FileSays s (file_of r.main x) it
       file_to it (unaskable isnt) = unaskable isnt
       file_to it (answered reply ask at is) =
-          answered _ ask (sym (alike.answers (file_of r.main x)) ∙ at) ((alike.read (file_of r.main x) reply it (x, opens, refl, ask)
-          (x, opened, sym (files_same r.main s.main alike.mains x), ask) at).0 is)
+          answered _ ask (sym (alike.answers _) ∙ at) ((alike.read _ _ it (x, opens, refl, ask)
+          (x, opened, sym (files_same _ s.main alike.mains x), ask) at).0 is)
 
   requires_to : RequiresToo r s
   requires_to x y file is be says there = (says_to x is be _ says, rw (without_same r.main s.main alike.mains file.requirements) at there)
@@ -129,7 +129,7 @@ module _ (r s : Run) (alike : ReadAlike r s) where
   opened_to x is = opened_too r s unpruned_to tops_to requires_to x is
 
   needed_to : (name : Name) → IsNeeded r name → IsNeeded s name
-  needed_to name (x, opens, is, ask) = (x, opened_to x opens, sym (files_same r.main s.main alike.mains x) ∙ is, ask)
+  needed_to name (x, opens, is, ask) = (x, opened_to x opens, sym (files_same _ s.main alike.mains x) ∙ is, ask)
 
   edge_to : (step : Step) (y : ModuleVersion) → IsEdge r step y → IsEdge s step y
   edge_to step y is = edge_too r s unpruned_to tops_to requires_to (λ x top. (alike.mains.required x).0 top) _ y is
@@ -144,7 +144,7 @@ module _ (r s : Run) (alike : ReadAlike r s) where
   pub due_to : IsRead s → (name : Name) → IsDue r name → IsDue s name
   due_to read name due = record {
     calls = record { read = read; needed = needed_to r s alike _ due.calls.needed };
-    unasked = sym (alike.answers name) ∙ due.unasked;
+    unasked = sym (alike.answers _) ∙ due.unasked;
   }
 
   pub many_to : AreTooMany r → AreTooMany s
@@ -174,12 +174,12 @@ module _ (r s : Run) (alike : ReadAlike r s) where
   prints_to = printed_by_edges r s alike.mains (λ step y. (edge_to r s alike step y, edge_to s r (alike_back alike) step y))
 
 -- What was found over the one main file and go.sum is found over the other, if the two runs are alike.
-pub found_to : (file other : List ℕ) (sums others : Option (List ℕ)) (told : Answers) (m n : Main) (t u : Option Sums)
+pub found_to : (file other : List ℕ) (sums others : Option (List ℕ)) {told : Answers} (m n : Main) (t u : Option Sums)
     → ReadAlike (run_of m t told.asked) (run_of n u told.asked) → IsRead (run_of n u told.asked) → FilesReadAs other others n u
     → (faults : List Fault) → AreFound (given_of file sums told) m t faults → AreFound (given_of other others told) n u faults
-found_to file other sums others told m n t u alike read files faults found = record {
+found_to file other sums others {told} m n t u alike read files faults found = record {
   read = files;
   settled = settled_to _ _ alike read (names_in told.asked) found.settled;
-  faults_are = faults_to _ (run_of n u told.asked) alike _ found.faults_are;
+  faults_are = faults_to _ (run_of n u _) alike _ found.faults_are;
   none_failed = found.none_failed;
 }

@@ -54,8 +54,8 @@ record BothPrint (prints others : Prints) (a b : Outcome) : Type 0 where
   shows : prints one a
   tells : others other b
 
-one_faults : (r s : Run) (faults others : List Fault) → Agrees r s → Agrees s r → AreFaults r faults → AreFaults s others → faults ≡ others
-one_faults r s faults others into from is be = same_lists faults_total _ _ is.ascending be.ascending (λ f. (
+one_faults : (r s : Run) {faults others : List Fault} → Agrees r s → Agrees s r → AreFaults r faults → AreFaults s others → faults ≡ others
+one_faults r s into from is be = same_lists faults_total _ _ is.ascending be.ascending (λ f. (
   (λ there. (be.each f).1 (fault r s into f ((is.each f).0 there))),
   (λ there. (is.each f).1 (fault s r from f ((be.each f).0 there))),
 ))
@@ -92,8 +92,8 @@ module _ {prints others : Prints} {one other : Given} {a b : Outcome} (alike : A
       → ReportsFaultsOr faults (prints (run_of main table one.answers.asked) a) a
       → ReportsFaultsOr more (others (run_of again next other.answers.asked) b) b → Meet prints others a b
   both_known {main} {again} {table} {next} faults more found finds says tells =
-      let same = one_faults r s _ _ into from found.faults_are finds.faults_are in
-      by more (rw same at found) finds (rw same at says) tells
+      let same = one_faults r s into from found.faults_are finds.faults_are in
+      by _ (rw same at found) finds (rw same at says) tells
     where
       r : Run
       r = run_of main table one.answers.asked
@@ -147,16 +147,16 @@ module _ {prints others : Prints} {one other : Given} {a b : Outcome} (alike : A
 -- ---- a query
 
 -- what a query prints of a run, it prints of one with the same main file and edges
-prints_same : (r s : Run) → r.main ≡ s.main → AreSame (IsEdge r) (IsEdge s) → (command : Command) (outcome : Outcome)
+prints_same : {r s : Run} → r.main ≡ s.main → AreSame (IsEdge r) (IsEdge s) → (command : Command) (outcome : Outcome)
     → PrintsOf command r outcome → PrintsOf command s outcome
-prints_same r s same edges = printed_by_edges r s (subst (SayTheSame r.main) same (says_itself r.main)) edges
+prints_same {r} {s} same edges = printed_by_edges r s (subst (SayTheSame r.main) same (says_itself _)) edges
 
 -- a query ends in one way over stores that answer alike
-pub query_once : (command : Command) (run next : Given) (a b : Outcome) → AreAlike run next
+pub query_once : (command : Command) {run next : Given} (a b : Outcome) → AreAlike run next
     → QueryEnds (PrintsOf command) run a → QueryEnds (PrintsOf command) next b → a ≡ b
-query_once command run next a b alike is be = elim (meet alike is be) [
+query_once command a b alike is be = elim (meet alike is be) [
   | inl refuse ↦ refuse.0
-  | inr both ↦ prints_once _ _ a b both.few (prints_same _ _ both.main_is both.edges _ a both.shows) both.tells
+  | inr both ↦ prints_once _ _ a b both.few (prints_same both.main_is both.edges _ a both.shows) both.tells
 ]
 
 -- ---- a command
@@ -167,10 +167,10 @@ one_for_stores (Edit operations) run next a b alike is be = edit_once _ _ a b (r
 one_for_stores (Versions path all) run next a b alike is be =
     versions_once _ _ _ _ (λ name x y need. alike.answers name x y)
     _ a b (rw alike.failed at is) be
-one_for_stores command run next a b alike is be = query_once command _ _ a b alike is be
+one_for_stores command run next a b alike is be = query_once command a b alike is be
 
 pub one_outcome : OneOutcome
-one_outcome command run a b is be = one_for_stores command run run a b (itself run) is be
+one_outcome command run a b is be = one_for_stores command run run a b (itself _) is be
 
 -- ---- several queries over one run
 
@@ -180,15 +180,15 @@ also_printed : (command : Command) (run : Given) (main : Main) (table : Option S
 also_printed command run main table outcome found is =
     elim (meet {prints = λ r it. r ≡ run_of main table run.answers.asked} {a = text_outcome []} (itself run) (no_fault _ _ found refl) is) [
       | inl refuse ↦ absurd (refuse.1 refl)
-      | inr both ↦ rw both.shows at (prints_same _ _ (sym both.main_is) (same_back _ _ both.edges) _ _ both.tells)
+      | inr both ↦ rw both.shows at (prints_same (sym both.main_is) (same_back _ _ both.edges) _ _ both.tells)
     ]
 
 -- if `graph` reports an error, a query reports the same
-refused_too : (command : Command) (run : Given) (graph outcome : Outcome) → QueryEnds PrintsGraph run graph → graph.status ≢ 0
+refused_too : (command : Command) {run : Given} {graph outcome : Outcome} → QueryEnds PrintsGraph run graph → graph.status ≢ 0
     → QueryEnds (PrintsOf command) run outcome → outcome ≡ graph
-refused_too command run graph outcome is bad ends = elim (meet (itself run) is ends) [
+refused_too command is bad ends = elim (meet (itself _) is ends) [
   | inl refuse ↦ sym refuse.0
-  | inr both ↦ (let (edges, are, says) = both.shows in absurd (bad (ap (λ (o : Outcome). o.status) says)))
+  | inr both ↦ (let (edges, are, says) = both.shows in absurd (bad (ap (λ o. o.status) says)))
 ]
 
 pub one_graph : OneGraph
@@ -220,7 +220,7 @@ one_graph after limit path run graph list chain is_graph is_list is_chain ends =
 
 pub graph_refused : OneRefusal
 graph_refused after limit path run graph list chain is_graph is_list is_chain ends =
-    (refused_too (Rows after limit) _ _ _ is_graph ends is_list, refused_too (Chain path) _ _ _ is_graph ends is_chain)
+    (refused_too (Rows after limit) is_graph ends is_list, refused_too (Chain path) is_graph ends is_chain)
 
 pub parts_of_one_list : PartsOfOneList
 parts_of_one_list after limit run whole part is_whole is_part ends =

@@ -16,7 +16,7 @@ use Rattle.gm_graph_select.proofs.Ascending.{member_head, one_member}
 use Rattle.gm_store_sums.specs.Sums.{Sums}
 use Rattle.gomod_texts.specs.Queries.{AreFound, Given}
 use Rattle.gomod_texts.specs.QueryLaws.{IsWalk, further, here}
-use Rattle.gomod_texts.specs.Outcome.{Outcome, text_outcome}
+use Rattle.gomod_texts.specs.Outcome.{text_outcome}
 use Rattle.gomod_texts.specs.PrintedLines.{AreProperEdges, AreProperRows, AreProperSteps, IsProperStep}
 use Rattle.gomod_texts.specs.ChainQuery.{chain_text}
 use Rattle.gomod_texts.specs.GraphQuery.{graph_text}
@@ -30,7 +30,7 @@ use Rattle.gm_file_edit.proofs.NoLineFeeds.{path-plain}
 -- ---- texts
 
 vertex_has_it : (x : ModuleVersion) → Lacks 64 (vertex_text x) → ⊥
-vertex_has_it x none = has_it _ _ _ (subst (Lacks 64) (append_assoc x.0 (codes "@") x.1) none)
+vertex_has_it x none = has_it _ _ _ (subst (Lacks 64) (append_assoc x.0 _ _) none)
 
 step_lacks : (main : List ℕ) (step : Step) → IsPath main → IsProperStep step → Lacks 32 (step_text main step)
 step_lacks main FromMain is proper = path_has_no_blank _ is
@@ -39,10 +39,10 @@ step_lacks main (Of x) is proper = vertex_lacks 32 (record { at = λ e. omega (a
 -- the first lines of a list, a graph and a chain
 pub first_row : (main : List ℕ) (rows : List Entry) → list_text main (main_entry ∷ rows) ≡ main ++ (10 ∷ list_text main rows)
 first_row main rows =
-    append_assoc (main ++ []) (codes "\n") (list_text main rows) ∙ append_assoc main [] (10 ∷ list_text main rows)
+    append_assoc _ (codes "\n") _ ∙ append_assoc main [] _
 
 first_step : (main : List ℕ) (steps : List Step) → chain_text main (FromMain ∷ steps) ≡ main ++ (10 ∷ chain_text main steps)
-first_step main steps = append_assoc main (codes "\n") (chain_text main steps)
+first_step main steps = append_assoc main _ _
 
 abbrev after_first : List ℕ → ModuleVersion → List Edge → List ℕ
 after_first main y edges = vertex_text y ++ (10 ∷ graph_text main edges)
@@ -50,13 +50,13 @@ after_first main y edges = vertex_text y ++ (10 ∷ graph_text main edges)
 first_edge : (main : List ℕ) (s : Step) (y : ModuleVersion) (edges : List Edge)
     → graph_text main (edge s y ∷ edges) ≡ step_text main s ++ (32 ∷ after_first main y edges)
 first_edge main s y edges =
-    append_assoc ((step_text main s ++ codes " ") ++ vertex_text y) (codes "\n") (graph_text main edges)
-    ∙ append_assoc (step_text main s ++ codes " ") (vertex_text y) (10 ∷ graph_text main edges)
-    ∙ append_assoc (step_text main s) (codes " ") (after_first main y edges)
+    append_assoc _ (codes "\n") _
+    ∙ append_assoc _ (vertex_text y) _
+    ∙ append_assoc _ (codes " ") _
 
 some_text : (a b : List ℕ) (c : ℕ) → [] ≡ a ++ (c ∷ b) → ⊥
 some_text a b c e =
-    let size : 0 ≡ length (a ++ (c ∷ b)) = ap (λ (t : List ℕ). length t) e in
+    let size : 0 ≡ length (a ++ (c ∷ b)) = ap (λ t. length t) e in
     let parts = length-append a (c ∷ b) in
     omega (arith, size, parts)
 
@@ -65,7 +65,7 @@ step_is_main main path FromMain none is = is
 step_is_main main path (Of x) none is = absurd (vertex_has_it x (subst (Lacks 64) (sym is) none))
 
 pub same_text : (a b : List ℕ) → text_outcome a ≡ text_outcome b → a ≡ b
-same_text a b is = ap (λ (o : Outcome). o.text) is
+same_text a b is = ap (λ o. o.text) is
 
 -- ---- walks
 
@@ -73,7 +73,7 @@ module _ (E : Edges) where
   pub walk_begins : {s : Step} {steps : List Step} → IsWalk E s steps → (rest : List Step) × (steps ≡ FromMain ∷ rest)
   walk_begins here = ([], refl)
   walk_begins (further {s} {y} {steps} walk is) =
-      let (rest, begins) = walk_begins walk in (rest ++ Of y ∷ [], ap (λ (ss : List Step). ss ++ Of y ∷ []) begins)
+      let (rest, begins) = walk_begins walk in (rest ++ Of y ∷ [], ap (λ ss. ss ++ Of y ∷ []) begins)
 
   -- an edge leads to each step other than the main module
   pub walk_step : {s : Step} {steps : List Step} → IsWalk E s steps → (x : ModuleVersion) → Contains steps (Of x) → (t : Step) × E t x
@@ -101,10 +101,10 @@ module _ (run : Given) (main : Main) (table : Option Sums) (found : AreFound run
   rows_are path rows more none proper are text =
       let others = map (entry_of (replacement_in main)) are.selected in
       let own = (cut_at _ _ _ _ _ (path-plain _ own_path) none
-      (sym (first_row main.path others) ∙ ap (list_text main.path) (sym are.entries_are) ∙ text ∙ first_row path more)).0 in (
+      (sym (first_row _ _) ∙ ap (list_text _) (sym are.entries_are) ∙ text ∙ first_row _ _)).0 in (
         own,
         text_says_rows _ own_path rows (main_entry ∷ more) (run_has_proper_rows run main table rows found.read are) proper
-            (text ∙ ap (λ (m : List ℕ). list_text m (main_entry ∷ more)) (sym own)),
+            (text ∙ ap (λ m. list_text m (main_entry ∷ more)) (sym own)),
       )
 
   -- the same of edges,

@@ -68,19 +68,19 @@ module _ (main : List ℕ) (one other : Option (List ℕ)) (asked others : List 
   same_read : IsRead one_run → (name : Name) (reply : Reply) → IsNeeded one_run name → answer_in asked name ≡ Some reply
       → (reading : Result Dependency Class) → IsFileReading t name reply reading ↔ IsFileReading u name reply reading
   same_read read name reply needed at reading =
-      let same = λ (content : List ℕ) (is : reply ≡ bytes content). are.finds said t u files sums read name needed content (at ∙ ap Some is) in
-      (read_with t u _ _ reading same, read_with u t name reply reading (λ content is. sym (same content is)))
+      let same = λ (content : List ℕ) (is : reply ≡ bytes content). are.finds _ t u files sums read _ needed _ (at ∙ ap Some is) in
+      (read_with t u _ _ _ same, read_with u t _ reply reading (λ content is. sym (same content is)))
 
   alike_with : IsRead one_run → ReadAlike one_run (run_of said u asked)
   alike_with read = record {
-    mains = says_itself said;
+    mains = says_itself _;
     answers = λ name. refl;
     read = λ name reply reading need needs at. same_read read _ _ need at reading;
   }
 
   found_too : (faults : List Fault) → AreFound (run_over main one asked) said t faults → AreFound (run_over main other asked) said u faults
   found_too faults found =
-      found_to _ main _ other _ _ _ t u (alike_with found.settled.read) read_too
+      found_to _ main _ other _ _ t u (alike_with found.settled.read) read_too
       (record { main_file = files.main_file; sums = sums }) _ found
     where
       read_too : IsRead (run_of said u asked)
@@ -148,20 +148,20 @@ module _ (command : Command) (main : List ℕ) (one other : Option (List ℕ)) (
 
   finish : QueryEndsOver command main other asked a → a ≡ b
   finish is =
-      query_once _ _ _ a b (record { file = refl; sums = refl; answers = alike; failed = refl }) is be
+      query_once _ a b (record { file = refl; sums = refl; answers = alike; failed = refl }) is be
 
   same_runs : QueryEndsOver command main one asked a → a ≡ b
   same_runs (bad_main place misread none says) = finish (bad_main _ misread none says)
-  same_runs (bad_sums said report reads invalid none says) = absurd (are.valid report invalid)
-  same_runs (device said t name files due failed says) = absurd (let none : [] ≡ name ∷ [] = failed in cc none)
+  same_runs (bad_sums said report reads invalid none says) = absurd (are.valid _ invalid)
+  same_runs (device said t name files due failed says) = absurd (let none = failed in cc none)
   same_runs (too_many said t files all many none says) = many_both said t files all many says be
   same_runs (faulty said t first more found says) =
       let (u, sums) = table found.read.main_file in
       finish (faulty _ u _ _ (found_too _ _ other _ others alike are _ t u found.read sums _ found) says)
   same_runs (no_fault said t found shows) =
       let (u, sums) = table found.read.main_file in
-      finish (no_fault _ u (found_too main one other asked others alike are said t u found.read sums [] found)
-      (prints_to _ (run_of said u asked)
+      finish (no_fault _ u (found_too _ one other asked others alike are said t u found.read sums [] found)
+      (prints_to _ _
       (alike_with main one _ asked others alike are said t u found.read sums found.settled.read) _ a shows))
 
 pub same_query : (command : Command) → is_query command ≡ true
@@ -220,7 +220,7 @@ module _ (main one other : List ℕ) (asked : List (Name × Reply)) (are : HasNe
   by_needed = record {
     valid = no_invalid _ are.short are.valid;
     other_valid = no_invalid _ are.other_short are.other_valid;
-    finds = λ said t u files sums read name needed content at. same_fault t u files.sums sums name content
+    finds = λ said t u files sums read name needed content at. same_fault t u files.sums sums _ _
         (record { main = said; table = t; read = files; calls = record { read = read; needed = needed } });
   }
 

@@ -2,7 +2,7 @@
 use Rattle.std.proofs.Common.{◌≡◌, ◌∙◌, List, [], Option, Some, None, ap, sym, refl, true, ℕ}
 use Rattle.gm_store_parts.specs.Asked.{Name, Reply, answer_in, bytes, folder_file, list_file, mod_file}
 use Rattle.gm_store_sums.specs.Hash.{file_hash}
-use Rattle.gm_store_sums.specs.Sums.{Sums, check_in}
+use Rattle.gm_store_sums.specs.Sums.{Sums}
 use Rattle.gm_store_sums.specs.declared.sum_table.Sum.TheVariants.{Good}
 use Rattle.gm_graph_files.specs.declared.class.Class.{Class}
 use Rattle.gm_file.specs.Main.{Main}
@@ -30,7 +30,7 @@ module _ (main sums : List ℕ) (asked : List (Name × Reply)) (said : Main) (ta
     (found : AreFound (run_over main (Some sums) asked) said table []) where
   -- the go.sum found nothing wrong in an answer, since that would be a fault
   no_sum_fault : (name : Name) (content : List ℕ) → answer_in asked name ≡ Some (bytes content) → sum_fault table name content ≡ None
-  no_sum_fault name content at = by (sum_fault table name content) refl
+  no_sum_fault name content at = by _ refl
     where
       by : (its : Option Class) → sum_fault table name content ≡ its → its ≡ None
       by None is = refl
@@ -66,7 +66,7 @@ module _ (main sums : List ℕ) (asked : List (Name × Reply)) (right : AreRight
   right_fault None None reads tells name content needs at = absurd tells
   right_fault None (Some u) reads tells (mod_file path version) content needs at =
       let hash = file_hash content in
-      ap class_of_sum (one_says sums path version hash Good (check_in u path version hash) (right.listed path version content needs at) (tells.2 path version hash))
+      ap class_of_sum (one_says _ _ _ _ Good _ (right.listed path version content needs at) (tells.2 path version hash))
   right_fault None (Some u) reads tells (folder_file folder) content needs at = refl
   right_fault None (Some u) reads tells (list_file path) content needs at = refl
 

@@ -16,15 +16,15 @@ spaced [] = []
 spaced (version ∷ versions) = 32 ∷ (version ++ spaced versions)
 
 joined : (path : List ℕ) (versions : List (List ℕ)) → join_with_byte 32 (path ∷ versions) ≡ path ++ spaced versions
-joined path [] = sym (append-nil path)
-joined path (version ∷ versions) = ap (λ (text : List ℕ). path ++ (32 ∷ text)) (joined version versions)
+joined path [] = sym (append-nil _)
+joined path (version ∷ versions) = ap (λ text. path ++ (32 ∷ text)) (joined _ versions)
 
 -- they end where the line ends
 abbrev ended : List (List ℕ) → List ℕ
 ended versions = spaced versions ++ (10 ∷ [])
 
 line_is : (path : List ℕ) (versions : List (List ℕ)) → versions_line path versions ≡ path ++ ended versions
-line_is path versions = ap (λ (text : List ℕ). text ++ codes "\n") (joined path versions) ∙ append_assoc path (spaced versions) (10 ∷ [])
+line_is path versions = ap (λ text. text ++ codes "\n") (joined _ _) ∙ append_assoc _ _ (10 ∷ [])
 
 stops : (versions : List (List ℕ)) → IsStop (ended versions)
 stops [] = (10, [], refl, inr refl)
@@ -42,14 +42,14 @@ same_versions [] (other ∷ others) p q e = let wrong = heads _ _ _ _ e in absur
 same_versions (version ∷ versions) [] p q e = let wrong = heads _ _ _ _ e in absurd (omega (arith, wrong))
 same_versions (version ∷ versions) (other ∷ others) p q e =
     let inner : version ++ ended versions ≡ other ++ ended others =
-    sym (append_assoc version (spaced versions) (10 ∷ [])) ∙ tails _ _ _ _ e ∙ append_assoc other (spaced others) (10 ∷ []) in
+    sym (append_assoc version _ _) ∙ tails _ _ _ _ e ∙ append_assoc other _ _ in
     let same = cut_whole _ _ _ _
     (whole _ (p version (member_head version versions))) (whole _ (q other (member_head other others))) (stops versions) (stops others) inner in
-    let rest : ended versions ≡ ended others =
-    append_cancel_left other (ended versions) (ended others) (ap (λ (v : List ℕ). v ++ ended versions) (sym same) ∙ inner) in
+    let rest =
+    append_cancel_left other _ _ (ap (λ v. v ++ ended versions) (sym same) ∙ inner) in
     ap₂ (λ (v : List ℕ) (vs : List (List ℕ)). v ∷ vs) same
     (same_versions _ _ (λ v there. p v (member_tail version v _ there)) (λ v there. q v (member_tail other v _ there)) rest)
 
 pub line_says_versions : LineSaysVersions
 line_says_versions path versions others p q e =
-    same_versions _ _ p q (append_cancel_left path (ended versions) (ended others) (sym (line_is path versions) ∙ e ∙ line_is path others))
+    same_versions _ _ p q (append_cancel_left _ _ _ (sym (line_is _ _) ∙ e ∙ line_is path _))

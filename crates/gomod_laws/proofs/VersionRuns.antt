@@ -39,19 +39,19 @@ module _ (path : List ℕ) (answers : AnswersByName) (list : List ℕ) (versions
   has_list : (answer : Option Reply) → ((reply : Reply) → answer ≡ Some reply → reply ≡ bytes list) → list_refusal path true answer ≡ Some outcome → ⊥
   has_list None same is = cc is
   has_list (Some reply) same is =
-      let e : None ≡ Some outcome = sym (ap (λ (r : Reply). list_refusal path true (Some r)) (same reply refl)) ∙ is in cc e
+      let e : None ≡ Some outcome = sym (ap (λ r. list_refusal path true (Some r)) (same reply refl)) ∙ is in cc e
 
   all_shown : (shown : List (List ℕ)) → AreShown path true answers shown → shown ≡ versions
   all_shown shown (all_listed is every) =
-      listed_once _ _ _ _ (subst (λ (r : Reply). AreListed path (bytes_in r) shown) (same (bytes is.list) is.answered) is.listed) listed
+      listed_once _ _ _ _ (subst (λ r. AreListed path (bytes_in r) shown) (same (bytes is.list) is.answered) is.listed) listed
   all_shown shown (not_retracted others latest reply file intervals says retracted hidden) = absurd (false≢true (sym says.chosen.filtered))
 
   all_printed : is_fetchable path ≡ true → VersionsEnds path true answers [] outcome → outcome ≡ text_outcome (versions_line path versions)
   all_printed fetchable (device name need unanswered failed says) = absurd (cc failed)
   all_printed fetchable (no_list refused none) =
-      absurd (has_list _ same (subst (λ (b : Bool). list_refusal path b (answers (list_file path)) ≡ Some outcome) fetchable refused))
+      absurd (has_list _ same (subst (λ b. list_refusal path b (answers (list_file path)) ≡ Some outcome) fetchable refused))
   all_printed fetchable (bad_file others latest reply class says none told) = absurd (false≢true (sym says.chosen.filtered))
-  all_printed fetchable (printed shown are none told) = told ∙ ap (λ (vs : List (List ℕ)). text_outcome (versions_line path vs)) (all_shown _ are)
+  all_printed fetchable (printed shown are none told) = told ∙ ap (λ vs. text_outcome (versions_line path vs)) (all_shown _ are)
 
 pub retracted_are_left_out : RetractedAreLeftOut
 retracted_are_left_out path main sums asked told one other run prints also alike =

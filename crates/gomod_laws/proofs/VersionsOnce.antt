@@ -81,7 +81,7 @@ module _ (path : List ℕ) (all : Bool) (answers : AnswersByName) (outcome : Out
 
   -- the list was answered, if a proxy can have one
   heard : Ends path all answers outcome → is_fetchable path ≡ true → (reply : Reply) × (answers (list_file path) ≡ Some reply)
-  heard (inl refused) fetchable = replied _ (sym (ap (λ (b : Bool). list_refusal path b (answers (list_file path))) fetchable) ∙ refused)
+  heard (inl refused) fetchable = replied _ (sym (ap (λ b. list_refusal path b (answers (list_file path))) fetchable) ∙ refused)
   heard (inr (versions, is, ends)) fetchable = (bytes is.list, is.answered)
 
 -- ---- two runs
@@ -89,7 +89,7 @@ module _ (path : List ℕ) (all : Bool) (answers : AnswersByName) (outcome : Out
 tells_once : (path : List ℕ) (versions : List (List ℕ)) (latest : List ℕ) (reply : Reply) (reading : Result Dependency Class) (a b : Outcome)
     → Tells path versions latest reply reading a → Tells path versions latest reply reading b → a ≡ b
 tells_once path versions latest reply (Ok file) a b (intervals, retracted, says) (more, also, tells) =
-    says ∙ ap (λ (is : List VersionInterval). text_outcome (versions_line path (shown_of is versions))) (one_retracted _ _ _ retracted also)
+    says ∙ ap (λ is. text_outcome (versions_line path (shown_of is versions))) (one_retracted _ _ _ retracted also)
     ∙ sym tells
 tells_once path versions latest reply (Err class) a b says tells = says ∙ sym tells
 
@@ -105,14 +105,14 @@ module _ (path : List ℕ) (all : Bool) (told next : AnswersByName) (alike : Nee
 
   listed_once : (a b : Outcome) → EndsListed path all told a → EndsListed path all next b → a ≡ b
   listed_once a b (versions, is, inl (every, says)) (others, be, inl (also, tells)) =
-      says ∙ ap (λ (vs : List (List ℕ)). text_outcome (versions_line path vs)) (one_listed _ all _ _ alike is be) ∙ sym tells
+      says ∙ ap (λ (vs : List (List ℕ)). text_outcome (versions_line path vs)) (one_listed _ _ _ _ alike is be) ∙ sym tells
   listed_once a b (versions, is, inl (every, says)) (others, be, inr (last, s, other, says_too, tells)) =
-      absurd (none_needed path _ next _ _ last (sym (one_listed _ all _ _ alike is be)) every says_too.chosen)
+      absurd (none_needed _ _ _ _ _ last (sym (one_listed _ all _ _ alike is be)) every says_too.chosen)
   listed_once a b (versions, is, inr (latest, r, reading, says, tells)) (others, be, inl (every, also)) =
-      absurd (none_needed path _ told _ _ latest (one_listed _ all _ _ alike is be) every says.chosen)
+      absurd (none_needed _ _ _ _ _ latest (one_listed _ all _ _ alike is be) every says.chosen)
   listed_once a b (versions, is, inr (latest, r, reading, says, tells)) (others, be, inr (last, s, other, says_too, also)) =
       let same = one_says says says_too in
-      tells_once path others last s _ a b (rw (same.0, same.1, same.2, same.3) at tells) also
+      tells_once _ others last s _ a b (rw (same.0, same.1, same.2, same.3) at tells) also
 
   -- that there is no list, and why, is one thing
   one_refusal : {x y : Option Reply} (fetchable : Bool) → (fetchable ≡ true → x ≡ y) → list_refusal path fetchable x ≡ list_refusal path fetchable y
@@ -136,8 +136,8 @@ module _ (path : List ℕ) (all : Bool) (told next : AnswersByName) (alike : Nee
 
       by : Ends path all told a → Ends path all next b → a ≡ b
       by (inl refused) (inl also) = same_Some a b (sym refused ∙ refusals ∙ also)
-      by (inl refused) (inr (others, it, ends)) = absurd (unrefused path it.list next a it.fetchable it.answered (sym refusals ∙ refused))
-      by (inr (versions, it, ends)) (inl refused) = absurd (unrefused path it.list told b it.fetchable it.answered (refusals ∙ refused))
+      by (inl refused) (inr (others, it, ends)) = absurd (unrefused _ _ next a it.fetchable it.answered (sym refusals ∙ refused))
+      by (inr (versions, it, ends)) (inl refused) = absurd (unrefused _ _ told b it.fetchable it.answered (refusals ∙ refused))
       by (inr listed) (inr also) = listed_once a b listed also
 
   pub versions_once : (failed : List Name) (a b : Outcome) → VersionsEnds path all told failed a → VersionsEnds path all next failed b → a ≡ b

@@ -57,7 +57,7 @@ module _ (run next : Given) (first second : Main) (table : Option Sums) (found :
     prints_too (bad_sums main report is misread none text) = absurd (misread_or_sums _ _ _ (rw sums at misread) found.read.sums)
     prints_too (device main t name are due one text) = absurd (let names : name ∷ [] ≡ [] = sym one ∙ sound in cc names)
     prints_too (too_many main t are read many none text) =
-        absurd (not_many t are.sums (rw (one_main run.file main first are.main_file says) at many))
+        absurd (not_many t are.sums (rw (one_main run.file _ _ are.main_file says) at many))
     prints_too (faulty main t one others is text) =
         let fault = (is.faults_are.each one).0 (member_head one others) in
         absurd (not_faulty t is.read.sums _ (subst (λ (m : Main). IsFault (run_of m t run.answers.asked) one)

@@ -14,4 +14,4 @@ Pairs R (x ∷ xs) = AllByRecursion (R x) xs × Pairs R xs
 
 pub pairs_of : {X : Type 0} (R : X → X → Type 0) (xs : List X) → Pairs R xs → AllPairs R xs
 pairs_of R [] h = λ i j d lt below. absurd (omega (arith, below))
-pairs_of R (x ∷ xs) h = AllPairs-cons R x xs (All-from_recursion (R x) xs h.0) (pairs_of R xs h.1)
+pairs_of R (x ∷ xs) h = AllPairs-cons R x xs (All-from_recursion _ xs h.0) (pairs_of R xs h.1)
