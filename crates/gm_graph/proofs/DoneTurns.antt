@@ -2,7 +2,6 @@
 use Rattle.std.proofs.Common.{◌≡◌, ◌↔◌, ◌+◌, ◌≤◌, not, Bool, true, false, List, [], Ok, ◌++◌, length, Contains, ap, map, refl, inl, inr, arith, length-append, Result}
 use Rattle.std.specs.List.{IsDistinct}
 use Rattle.std.proofs.lemmas.List.{length-map}
-use Rattle.std.proofs.lemmas.Map.Made.{length-le_from_is_member, is_member-Decides}
 use Rattle.std.proofs.lemmas.List.Elements.{Contains-append_left, Contains-append_right}
 use Rattle.gm_name.specs.ModuleVersion.{ModuleVersion}
 use Rattle.gm_file.specs.Fields.{Dependency}
@@ -15,10 +14,10 @@ use Rattle.gm_graph.specs.declared.worklist.Worklist.{Worklist}
 use Rattle.gm_graph.specs.Run.{AreTurns, IsDeep, IsOpened, IsTop, TakesTurn, from_deep, from_main, from_top}
 use Rattle.gm_graph_cache.specs.Sayings.{Run, Says}
 use Rattle.gm_graph_files.specs.Turns.{same_turn, turn, leads_on}
-use Rattle.gm_graph.specs.Private.Turns.{AddsAll, HasTurn, depth_by, led_to}
+use Rattle.gm_graph.specs.Private.Turns.{AddsAll, depth_by, led_to}
 use Rattle.gm_graph.specs.Private.Worklists.{IsWorklist, turn_of, turns_of}
 use Rattle.gm_name_table.specs.Listed.{BeginsWith}
-use Rattle.gm_graph.proofs.Sameness.{same_turn-Decides, turns_equivalence}
+use Rattle.gm_graph.proofs.Sameness.{at_most_as_many, same_turn-Decides}
 use Rattle.gm_graph_cache.proofs.Sayings.{one_said}
 use Rattle.gm_graph_select.proofs.RankedLists.{in_mapped}
 
@@ -54,12 +53,10 @@ length-both_turns vertices = simp (length-append, length-map)
 pub few_turns : {modules : List ModuleVersion} {worklist : Worklist} → IsWorklist modules worklist → length worklist.turns.items ≤ 131072
 few_turns {modules} {worklist} is =
     let turns = turns_of modules worklist in
-    let most : length turns ≤ length (both_turns is.opened) = length-le_from_is_member turns_equivalence turns (both_turns is.opened) is.turns.turns_once
-    (λ q h. let there = (is_member-Decides same_turn-Decides turns q).0 h in
-    (is_member-Decides same_turn-Decides (both_turns is.opened) q).1
-    (among_both is.opened q.vertex q.depth ((is.turns.each q.vertex).1 (q.depth, there)))) in
+    let most = at_most_as_many same_turn-Decides turns (both_turns is.opened) is.turns.turns_once
+    (λ q there. among_both is.opened q.vertex q.depth ((is.turns.each q.vertex).1 (q.depth, there))) in
     let twice = length-both_turns is.opened in
-    omega (arith, is.counted, worklist.few, length-map worklist.turns.items (turn_of modules))
+    omega (arith, most, is.counted, worklist.few, length-map worklist.turns.items (turn_of modules))
 
 pub along : (old new : List Turn) (one : Turn) → BeginsWith old new → Contains old one → Contains new one
 along old new one (more, e) h = rw e (Contains-append_left old more one h)
@@ -75,6 +72,11 @@ first_taken run x false is top = from_main is top
 
 pub takes_first : (run : Run) (x : ModuleVersion) → IsTop run x → TakesTurn run x (depth_by (is_pruned_by run.main.go))
 takes_first run x top = first_taken run x (is_pruned_by run.main.go) refl top
+
+-- Every opened vertex takes a turn.
+pub takes_some : (run : Run) (x : ModuleVersion) → IsOpened run x → (d : Depth) × TakesTurn run x d
+takes_some run x (inl top) = (depth_by (is_pruned_by run.main.go), takes_first run x top)
+takes_some run x (inr deep) = (Deep, deep)
 
 -- Turns of what the main file requires, and no others, are the first ones.
 pub first_visited : (run : Run) (turns : List Turn)
@@ -107,11 +109,6 @@ module _ {run : Run} {turns : List Turn} (visited : AreVisited run turns turns) 
   deep_among (from_main {x} p t) = rw p at visited.tops x t
   deep_among (from_top {x} {y} file t says u c) = led x _ (visited.tops x t) file says (leads_first file (is_pruned_by run.main.go) u) y c
   deep_among (from_deep {x} {y} d (file, says, c)) = led x Deep (deep_among d) file says refl y c
-
-  -- Every opened vertex has a turn.
-  pub has_turn_of : (x : ModuleVersion) → IsOpened run x → HasTurn turns x
-  has_turn_of x (inl top) = (depth_by (is_pruned_by run.main.go), visited.tops x top)
-  has_turn_of x (inr deep) = (Deep, deep_among deep)
 
   turns_exactly : (x : ModuleVersion) (d : Depth) → Contains turns (turn x d) ↔ TakesTurn run x d
   turns_exactly x Top = ((λ h. visited.valid (turn x Top) h), (λ h. rw h.0 at visited.tops x h.1))

@@ -5,11 +5,10 @@ use Rattle.std.specs.List.{IsDistinct}
 use Rattle.std.proofs.lemmas.Bool.{false≢true}
 use Rattle.std.proofs.lemmas.Map.Keys.{IsDistinct-push}
 use Rattle.std.proofs.lemmas.Map.Views.{Contains-from_any}
-use Rattle.std.proofs.lemmas.Map.Made.{length-le_from_is_member, is_member-Decides}
 use Rattle.std.proofs.lemmas.List.Elements.{Contains-push_cases}
 use Rattle.std.proofs.lemmas.List.{map_push}
 use Rattle.gm_name.specs.ModuleVersion.{ModuleVersion}
-use Rattle.gm_name.specs.Private.ModuleVersion.{pair_eq-Decides, pairs-equivalence}
+use Rattle.gm_name.specs.Private.ModuleVersion.{pair_eq-Decides}
 use Rattle.gm_file.specs.Fields.{Dependency}
 use Rattle.gm_file.specs.Main.{Main}
 use Rattle.gm_store_parts.specs.Asked.{Name, Reply, names_in, same_name}
@@ -17,13 +16,13 @@ use Rattle.gm_store_parts.proofs.NameOrder.{names_equal}
 use Rattle.gm_store_sums.specs.Sums.{Sums}
 use Rattle.gm_graph_files.specs.declared.class.Class.{Class}
 use Rattle.gm_graph_files.specs.declared.depth.Turn.{Turn}
-use Rattle.gm_graph_files.specs.declared.depth.Depth.TheVariants.{Deep}
 use Rattle.gm_graph_files.specs.Reading.{file_of, is_askable}
 use Rattle.gm_graph.specs.Run.{AreOpened, AreTurns, AskedInTurn, IsNeeded, IsOpened, IsRead, IsSettled, LoadingNeeds, more, nothing}
 use Rattle.gm_graph_cache.specs.Sayings.{FileSays, Run, Says, answered, faulty, run_of, sound, unaskable, wrong_path}
 use Rattle.gm_graph.specs.Private.Turns.{AreTurnsOf}
 use Rattle.gm_graph.proofs.RunLemmas.{answered_any, keeps_agree, names_equivalence, needed as needed_too}
-use Rattle.gm_graph.proofs.DoneTurns.{takes_first}
+use Rattle.gm_graph.proofs.DoneTurns.{takes_some}
+use Rattle.gm_graph.proofs.Sameness.{at_most_as_many}
 use Rattle.gm_graph_cache.proofs.Sayings.{says_more}
 
 pub names_push : (pairs : List (Name × Reply)) (n : Name) (r : Reply) → names_in (pairs ++ (n, r) ∷ []) ≡ names_in pairs ++ n ∷ []
@@ -80,12 +79,9 @@ module _ (main : Main) (sums : Option Sums) (pairs : List (Name × Reply)) (asks
 module _ (run : Run) (vertices : List ModuleVersion) (turns : List Turn) (few : length vertices ≤ 65536) (are : AreTurnsOf vertices turns)
     (exact : AreTurns run turns) where
   opened_there : (x : ModuleVersion) → IsOpened run x → Contains vertices x
-  opened_there x (inl top) = (are.each x).1 (_, (exact.each x _).1 (takes_first run x top))
-  opened_there x (inr deep) = (are.each x).1 (Deep, (exact.each x Deep).1 deep)
+  opened_there x is = let (d, taken) = takes_some run x is in (are.each x).1 (d, (exact.each x d).1 taken)
 
   pub few_opened : (xs : List ModuleVersion) → AreOpened run xs → length xs ≤ 65536
   few_opened xs opened =
-      let fewer : length xs ≤ length vertices = length-le_from_is_member pairs-equivalence xs vertices opened.once
-      (λ q h. let there = (is_member-Decides pair_eq-Decides xs q).0 h in
-      (is_member-Decides pair_eq-Decides vertices q).1 (opened_there q (opened.each q there))) in
-      omega (arith, few)
+      let fewer = at_most_as_many pair_eq-Decides xs vertices opened.once (λ q there. opened_there q (opened.each q there)) in
+      omega (arith, fewer, few)

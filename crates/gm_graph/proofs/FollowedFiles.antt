@@ -9,9 +9,9 @@ use Rattle.gm_graph_files.specs.declared.depth.Depth.TheVariants.{Deep}
 use Rattle.gm_graph_files.specs.declared.depth.Turn.{Turn}
 use Rattle.gm_graph_cache.specs.declared.cache.visit.Required.{Required}
 use Rattle.gm_graph_cache.specs.declared.cache.visit.Visit.TheVariants as visit
-use Rattle.gm_graph_cache.specs.Cached.{IsSound, run_in, table_in, Follows}
+use Rattle.gm_graph_cache.specs.Cached.{run_in, table_in, Follows}
 use Rattle.gm_store_parts.specs.Asked.{Name, Reply}
-use Rattle.gm_graph_cache.specs.Sayings.{Requires, Run}
+use Rattle.gm_graph_cache.specs.Sayings.{Run}
 use Rattle.gm_graph_files.specs.Turns.{turn}
 use Rattle.gm_graph.specs.declared.followed.Followed.{Followed}
 use Rattle.gm_graph.specs.declared.worklist.Worklist.{Worklist}
@@ -22,11 +22,7 @@ use Rattle.gm_graph_cache.proofs.Lending.{LendsList}
 use Rattle.gm_graph_cache.specs.Lent.{lent_table, lent_modules}
 use Rattle.gm_graph.proofs.Growing.{turns_over}
 use Rattle.gm_graph_cache.proofs.Sayings.{required_of, requires_before}
-
--- The lists of the files were followed: what a vertex that has such a file requires has turns at full depth.
-abbrev pub AreFollowedIn : Cache → Run → List Turn → Followed → Type 0
-AreFollowedIn cache run turns followed = (file : ℕ) → followed_at followed file ≡ true
-    → (x : ModuleVersion) × IsSound cache run x file × ((y : ModuleVersion) → Requires run x y → Contains turns (turn y Deep))
+use Rattle.gm_graph.specs.Private.TurnVisits.{AreFollowedIn}
 
 -- What was lent over them has turns, if its file was followed.
 pub has_its_turns : (old : Cache) (run : Run) (worklist : Worklist) (followed : Followed) (required : Required)

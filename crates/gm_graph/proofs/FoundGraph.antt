@@ -31,6 +31,9 @@ use Rattle.gm_graph.proofs.RunLemmas.{value_of}
 use Rattle.gm_graph_files.proofs.SharedLists.{own_there}
 use Rattle.gm_graph_select.proofs.RankedLists.{edges_each, edges_only, from_mapped, in_mapped}
 use Rattle.gm_graph_cache.proofs.Sayings.{class_same, file_same, not_both}
+use Rattle.gm_graph_files.specs.Turns.{turn}
+use Rattle.gm_graph.proofs.DoneTurns.{opened_from, takes_some}
+use Rattle.gm_graph.proofs.FoundFiles.{found_turn}
 
 -- ---- what was found, by the parts of the cache
 
@@ -51,7 +54,7 @@ module _ {run : Run} {cache : Cache} {worklist : Worklist} {findings : Findings}
   -- The numbers are those of modules, and the places those of files.
   pub found_places : AreFilePlaces parts places
   found_places number place e =
-      let (below, sound) = opened.found.files number place e in rw (are.modules, are.files) (below, sound.within)
+      let (below, _, sound) = opened.found.files number place e in rw (are.modules, are.files) (below, sound.within)
 
   pub found_faults : All (λ one. one.number < length modules) findings.faults.items
   found_faults k d below =
@@ -60,6 +63,10 @@ module _ {run : Run} {cache : Cache} {worklist : Worklist} {findings : Findings}
 
   number_module : (number : ℕ) → module_at modules number ≡ module_numbered cache number
   number_module number = rw are.modules
+
+  -- Something was found of each opened vertex.
+  opened_found : (x : ModuleVersion) → IsOpened run x → (number : ℕ) × WasVisited findings number × (module_numbered cache number ≡ x)
+  opened_found x is = let (d, taken) = takes_some run x is in opened.found.each (turn x d) ((opened.turns.each x d).1 taken)
 
   -- ---- the lists
 
@@ -71,9 +78,9 @@ module _ {run : Run} {cache : Cache} {worklist : Worklist} {findings : Findings}
 
   -- The list at the place that was found is what the vertex requires.
   file_list : (number place : ℕ) (e : place_at places number ≡ Some place)
-      → modules_at modules (list_at lists (place + 1)) ≡ without_excluded run.main (opened.found.files number place e).1.file.requirements
+      → modules_at modules (list_at lists (place + 1)) ≡ without_excluded run.main (opened.found.files number place e).2.file.requirements
   file_list number place e =
-      let (below, sound) = opened.found.files number place e in
+      let (below, _, sound) = opened.found.files number place e in
       let own = own_there cache.files.files.items place sound.span sound.own in
       let next : place + 1 ≡ suc place = omega arith in
       rw next
@@ -83,23 +90,23 @@ module _ {run : Run} {cache : Cache} {worklist : Worklist} {findings : Findings}
 
   -- So its file says.
   file_says : (number place : ℕ) (e : place_at places number ≡ Some place)
-      → Says run (module_at modules number) (Ok (opened.found.files number place e).1.file)
-  file_says number place e = rw are.modules (opened.found.files number place e).1.says
+      → Says run (module_at modules number) (Ok (opened.found.files number place e).2.file)
+  file_says number place e = rw are.modules (opened.found.files number place e).2.says
 
   -- Each opened vertex says something.
   pub known : (x : ModuleVersion) → IsOpened run x → (said : Result Dependency Class) × Says run x said
-  known x is = let (number, w, same) = opened.each x is in rw⁻¹ same (by number w)
+  known x is = let (number, w, same) = opened_found x is in rw⁻¹ same (by number w)
     where
       by : (number : ℕ) → WasVisited findings number → (said : Result Dependency Class) × Says run (module_numbered cache number) said
       by number (inl some) =
           let (place, e) = value_of (place_at places number) some in
-          let sound = (opened.found.files number place e).1 in (Ok sound.file, sound.says)
-      by number (inr (class, h)) = (Err class, (opened.found.faults number class h).1)
+          let sound = (opened.found.files number place e).2 in (Ok sound.file, sound.says)
+      by number (inr (class, h)) = (Err class, (opened.found.faults number class h).2)
 
   -- ---- the edges
 
   is_opened : (number : ℕ) → WasVisited findings number → IsOpened run (module_at modules number)
-  is_opened number w = rw are.modules (opened.opened number w)
+  is_opened number w = let (_, has) = found_turn opened.found number w in rw are.modules (opened_from run _ has.0 ((opened.turns.each _ has.0).0 has.1))
 
   has_place : (number place : ℕ) → place_at places number ≡ Some place → WasVisited findings number
   has_place number place e = inl (rw e)
@@ -110,7 +117,7 @@ module _ {run : Run} {cache : Cache} {worklist : Worklist} {findings : Findings}
   source_edge : (one : Source) → Contains (gathered_sources places) one → LeadsOn one
   source_edge = each_source LeadsOn places (λ y h. rw main_list at h) (λ k place e y h. (
     is_opened k (has_place k place e),
-    ((opened.found.files k place e).1.file, file_says k place e, rw (file_list k place e) at h),
+    ((opened.found.files k place e).2.file, file_says k place e, rw (file_list k place e) at h),
   ))
 
   listed_edge : (one : Source) (y : ModuleVersion) → Contains (gathered_sources places) one
@@ -127,12 +134,12 @@ module _ {run : Run} {cache : Cache} {worklist : Worklist} {findings : Findings}
       let (place, e) = value_of (place_at places number) some in
       let same = file_same r.1 (file_says number place e) in
       listed_edge (file_source number place) y (source_there places number place e) (rw (file_list number place e) (rw⁻¹ same r.2))
-  found_edge number y (inr f) r = absurd (not_both (opened.found.faults number f.0 f.1).1 (rw are.modules at r.1))
+  found_edge number y (inr f) r = absurd (not_both (opened.found.faults number f.0 f.1).2 (rw are.modules at r.1))
 
   complete : (s : Step) (y : ModuleVersion) → IsEdge run s y → Contains (edges_of modules steps) (edge s y)
   complete FromMain y t = listed_edge main_source y (0, omega arith, refl) (rw main_list t)
   complete (Of x) y e =
-      let (number, w, is) = opened.each x e.0 in
+      let (number, w, is) = opened_found x e.0 in
       let same = number_module number ∙ is in
       rw⁻¹ same (found_edge number y w (rw same e.1))
 
@@ -163,7 +170,7 @@ module _ {run : Run} {cache : Cache} {worklist : Worklist} {findings : Findings}
 
   fault_is : (x : ModuleVersion) (class : Class) → HasFaultOf modules findings.faults.items x class → IsFault run (fault x class)
   fault_is x class (number, h, is) =
-      rw⁻¹ is (is_opened number (inr (class, h)), rw are.modules (opened.found.faults number class h).1)
+      rw⁻¹ is (is_opened number (inr (class, h)), rw are.modules (opened.found.faults number class h).2)
 
   -- The faults are exactly those of the opened vertices.
   pub faults_exactly : (list : List Fault) → AreFaultsOf modules findings.faults.items list → AreFaults run list
@@ -171,7 +178,7 @@ module _ {run : Run} {cache : Cache} {worklist : Worklist} {findings : Findings}
     ascending = of.ascending;
     each = λ one. (
       (λ h. fault_is one.vertex one.class (of.only one h)),
-      (λ is. let (number, w, at) = opened.each one.vertex is.0 in listed one is.1 number w (number_module number ∙ at)),
+      (λ is. let (number, w, at) = opened_found one.vertex is.0 in listed one is.1 number w (number_module number ∙ at)),
     );
   }
     where

@@ -1,7 +1,6 @@
 -- What loading asks a store for and what it visits, turn by turn.
 use Rattle.std.proofs.Common.{◌≡◌, ◌∙◌, arith, take, ◌+◌, ◌<◌, ◌++◌, ◌∷◌, [], ℕ, true, List, Option, ap, append-nil, get_or, inl, inr, length, refl, sym}
 use Rattle.std.proofs.lemmas.List.{get_or-map, length-map, take_more, take-append-le}
-use Rattle.std.proofs.lemmas.List.Elements.{Contains-push_cases}
 use Rattle.gm_name.specs.ModuleVersion.{ModuleVersion}
 use Rattle.gm_store_parts.specs.Asked.{Name, Reply}
 use Rattle.gm_store_parts.specs.States.{StoreState}
@@ -17,9 +16,9 @@ use Rattle.gm_graph.specs.declared.worklist.NumberedTurn.{NumberedTurn}
 use Rattle.gm_graph.specs.Private.Asking.{AsksInTurn}
 use Rattle.gm_graph_cache.specs.Asking.{AsksFor, AsksOne, IsAskableFile}
 use Rattle.gm_graph.specs.Private.Worklists.{turn_of, turns_of}
-use Rattle.gm_graph_cache.specs.Cached.{main_in, module_numbered, run_in, sums_in, table_in, turns_in}
+use Rattle.gm_graph_cache.specs.Cached.{main_in, module_numbered, run_in, sums_in, table_in}
 use Rattle.gm_graph_files.specs.Reading.{file_of, is_askable}
-use Rattle.gm_graph.specs.Run.{AreTooMany, AskedInTurn, CallsFor, IsDue, IsOpened, IsRead, LoadingNeeds, TakesTurn, more, nothing}
+use Rattle.gm_graph.specs.Run.{AreTooMany, AskedInTurn, CallsFor, IsDue, IsRead, LoadingNeeds, TakesTurn, more, nothing}
 use Rattle.gm_graph_cache.specs.Sayings.{KeepsSayings, Run, run_of}
 use Rattle.gm_graph.specs.Private.TurnVisits.{IsTurnVisited}
 use Rattle.gm_graph_files.specs.Turns.{turn}
@@ -28,11 +27,10 @@ use Rattle.gm_graph.specs.Private.Visiting.{OverflowsAt}
 use Rattle.gm_graph_cache.proofs.AskedFile.{asks_for, lacks_still}
 use Rattle.gm_graph_cache.proofs.Sayings.{says_asked}
 use Rattle.gm_graph.proofs.FoundFiles.{same_module}
-use Rattle.gm_graph_cache.proofs.NumberedModules.{number_below}
 use Rattle.gm_graph.proofs.Growing.{turns_over}
-use Rattle.gm_graph.proofs.Queueing.{many_followed, opened_kept, takes_kept, visited_more}
+use Rattle.gm_graph.proofs.Queueing.{many_followed, takes_kept, visited_more}
 use Rattle.gm_graph.proofs.DoneTurns.{opened_from}
-use Rattle.gm_graph.proofs.Stepping.{AreFound, IsAt, answers_read, by_run, number_here}
+use Rattle.gm_graph.proofs.Stepping.{IsAt, answers_read, by_run, number_here}
 
 -- Nothing was asked for.
 pub nothing_asked : (main : Main) (sums : Option Sums) (may : Name → Option Reply → Type 0) (state : StoreState) → state.asked ≡ []
@@ -52,8 +50,8 @@ in_turn_by same sums_same is asks = rw⁻¹ (same, sums_same, is) asks
 
 -- ---- one more turn
 
-module _ {main : Main} {sums : Option Sums} {cache : Cache} {worklist : Worklist} {findings : Findings} {at : ℕ} {before after : Name → Option Reply → Type 0}
-    {old new : StoreState} {failed : List Name} (one : NumberedTurn) (state : IsAt main sums cache old.asked worklist findings at)
+module _ {main : Main} {sums : Option Sums} {cache : Cache} {worklist : Worklist} {at : ℕ} {before after : Name → Option Reply → Type 0}
+    {old new : StoreState} {failed : List Name} (one : NumberedTurn) (state : IsAt main sums cache old.asked worklist at)
     (below : at < length worklist.turns.items) (here : one ≡ get_or worklist.turns.items at one)
     (asks : AsksOne (IsAskableFile (main_in cache) (module_numbered cache one.number)) before after old new failed) where
   abbrev vertex : ModuleVersion
@@ -126,20 +124,12 @@ module _ {main : Main} {sums : Option Sums} {cache : Cache} {worklist : Worklist
 
   -- It was visited.
   module _ {end : Cache} {made : Worklist} {marks : Followed} {found : Findings}
-      (is : IsTurnVisited cache end old.asked new.asked worklist made marks findings found one) where
+      (is : IsTurnVisited cache end old.asked new.asked worklist made marks found one) where
     abbrev after_it : List Turn
     after_it = turns_of (table_in end) made
 
     within : one.number < length (table_in cache)
     within = number_here one state.worklist_is below here
-
-    -- The vertices that were visited have their numbers still, and are opened.
-    opened_still : (number : ℕ) → number < length (table_in cache) → IsOpened later (module_numbered cache number)
-        → (number < length (table_in end)) × IsOpened later (module_numbered end number)
-    opened_still number lower opened = (
-      number_below (table_in cache) (table_in end) number is.has.follows.numbered lower,
-      rw⁻¹ (same_module cache end number is.has.follows.numbered lower) opened,
-    )
 
     main_is : main_in end ≡ main
     main_is = is.has.follows.main ∙ state.main_is
@@ -152,29 +142,7 @@ module _ {main : Main} {sums : Option Sums} {cache : Cache} {worklist : Worklist
         (rw (same_module cache end one.number is.has.follows.numbered within)
         (rw⁻¹ (turns_over (table_in cache) (table_in end) worklist state.worklist_is is.has.follows.numbered) is.adds.follows))
 
-    found_more : AreFound end later found
-    found_more = record {
-      opened = λ n w. elim ((is.adds.finds n).0 w) [
-        | inl was ↦ (let before_it = state.found.opened n was in
-            opened_still n before_it.0 (opened_kept old.asked new.asked keeps (module_numbered cache n) before_it.1))
-        | inr same ↦ rw same (opened_still one.number within (opened_from later vertex one.depth still_takes))
-      ];
-      each = λ next in_end.
-          elim (Contains-push_cases (turns_in cache) (turn vertex one.depth) next (rw⁻¹ is.has.turns in_end)) [
-            | inl was ↦ (let (number, before_it, of) = state.found.each next was in (
-              number,
-              (is.adds.finds number).1 (inl before_it),
-              sym (same_module cache end number is.has.follows.numbered (state.found.opened number before_it).0) ∙ of,
-            ))
-            | inr same ↦ (
-              one.number,
-              (is.adds.finds one.number).1 (inr refl),
-              sym (same_module cache end one.number is.has.follows.numbered within) ∙ ap (λ (t : Turn). t.vertex) same,
-            )
-          ];
-    }
-
-    pub stepped : IsAt main sums end new.asked made found (at + 1)
+    pub stepped : IsAt main sums end new.asked made (at + 1)
     stepped = record {
       worklist_is = is.adds.ready.worklist_is;
       main_is = main_is;
@@ -184,5 +152,4 @@ module _ {main : Main} {sums : Option Sums} {cache : Cache} {worklist : Worklist
           (sym (take-append-le (at + 1) turns visits.adds.extends.0 (omega (arith, inside)) ∙ take_more turns at _ inside
           ∙ ap (λ (t : Turn). take at turns ++ t ∷ []) there));
       visited = rw is.has.turns (visited_more old.asked new.asked keeps vertex one.depth still_takes after_it state.visited visits);
-      found = found_more;
     }

@@ -1,5 +1,5 @@
 -- Vertices and turns that compare as the same are equal.
-use Rattle.std.proofs.Common.{◌≡◌, true, ap₂, refl}
+use Rattle.std.proofs.Common.{◌≡◌, ◌≤◌, Bool, true, List, Contains, ap₂, length, refl}
 use Rattle.std.specs.Bool.{Decides}
 use Rattle.std.specs.Cmp.{IsEquivalence, decided}
 use Rattle.std.proofs.lemmas.Bool.{and_parts}
@@ -10,6 +10,8 @@ use Rattle.gm_graph_files.specs.declared.depth.Turn.{Turn}
 use Rattle.gm_graph_files.specs.declared.depth.Depth.{Depth}
 use Rattle.gm_graph_files.specs.declared.depth.Depth.TheVariants.{Top, Deep}
 use Rattle.gm_graph_files.specs.Turns.{same_turn, same_depth, turn}
+use Rattle.std.specs.List.{IsDistinct}
+use Rattle.std.proofs.lemmas.Map.Made.{length-le_from_is_member, is_member-Decides}
 
 pub exact_depth : (a b : Depth) → same_depth a b ≡ true → a ≡ b
 exact_depth Top Top h = refl
@@ -34,3 +36,9 @@ same_turn-Decides a b = (
 
 pub turns_equivalence : IsEquivalence same_turn
 turns_equivalence = decided same_turn same_turn-Decides
+
+-- Distinct elements that are all in a list are at most as many as it has.
+pub at_most_as_many : {T : Type 0} {same : T → T → Bool} → ((a b : T) → Decides (same a b) (a ≡ b)) → (xs ys : List T) → IsDistinct same xs
+    → ((x : T) → Contains xs x → Contains ys x) → length xs ≤ length ys
+at_most_as_many {same} exact xs ys once inside = length-le_from_is_member (decided same exact) xs ys once
+    (λ q h. (is_member-Decides exact ys q).1 (inside q ((is_member-Decides exact xs q).0 h)))

@@ -1,5 +1,5 @@
 -- The state of a worklist whose first turns were visited: before the first visit, and after the last.
-use Rattle.std.proofs.Common.{◌≡◌, ◌≤◌, ◌<◌, ℕ, Contains, List, [], length, take, get_or, Option, ◌∙◌, sym, refl, subst, arith}
+use Rattle.std.proofs.Common.{◌≡◌, ◌≤◌, ◌<◌, ℕ, List, [], length, take, get_or, Option, ◌∙◌, sym, refl, subst}
 use Rattle.std.proofs.lemmas.List.{length-map, take_all}
 use Rattle.std.proofs.lemmas.List.Elements.{All-contains}
 use Rattle.gm_name.specs.ModuleVersion.{ModuleVersion}
@@ -12,15 +12,14 @@ use Rattle.gm_graph.specs.declared.findings.Findings.{Findings}
 use Rattle.gm_graph.specs.declared.worklist.Worklist.{Worklist}
 use Rattle.gm_graph.specs.declared.worklist.NumberedTurn.{NumberedTurn}
 use Rattle.gm_graph.specs.Private.Worklists.{IsWorklist, turns_of}
-use Rattle.gm_graph_cache.specs.Cached.{Knows, main_in, run_in, sums_in, table_in, turns_in, module_numbered}
-use Rattle.gm_graph.specs.Run.{IsOpened, IsRead}
+use Rattle.gm_graph_cache.specs.Cached.{Knows, main_in, run_in, sums_in, table_in, turns_in}
+use Rattle.gm_graph.specs.Run.{IsRead}
 use Rattle.gm_graph_cache.specs.Sayings.{Run, run_of}
-use Rattle.gm_graph_files.specs.Turns.{turn}
-use Rattle.gm_graph.specs.Private.Findings.{AreFindings, WasVisited}
+use Rattle.gm_graph.specs.Private.Findings.{AreFindings}
 use Rattle.gm_graph.specs.Private.Visiting.{IsFirstWorklist, IsOpenedIn}
 use Rattle.gm_graph.proofs.Growing.{IsOneBelow}
 use Rattle.gm_graph_cache.proofs.Lending.{list_is}
-use Rattle.gm_graph.proofs.DoneTurns.{AreVisited, are_turns, first_visited, has_turn_of}
+use Rattle.gm_graph.proofs.DoneTurns.{AreVisited, are_turns, first_visited}
 
 -- Each answer that a cache knows says something.
 pub answers_read : (cache : Cache) (pairs : List (Name × Reply)) → Knows cache pairs → IsRead (run_in cache pairs)
@@ -32,23 +31,15 @@ pub number_here : {modules : List ModuleVersion} {worklist : Worklist} {at : ℕ
 number_here {modules} {worklist} {at} one is below here =
     All-contains (IsOneBelow (length modules)) worklist.turns.items one is.turned (at, below, sym here)
 
--- The vertices of which something was found are opened, and the turns of the cache are theirs.
-pub record AreFound (cache : Cache) (run : Run) (findings : Findings) : Type 0 where
-  pub opened : (number : ℕ) → WasVisited findings number
-      → (number < length (table_in cache)) × IsOpened run (module_numbered cache number)
-  pub each : (one : Turn) → Contains (turns_in cache) one
-      → (number : ℕ) × WasVisited findings number × (module_numbered cache number ≡ one.vertex)
-
 -- The turns before this position were visited.
 pub record IsAt (main : Main) (sums : Option Sums) (cache : Cache) (pairs : List (Name × Reply)) (worklist : Worklist)
-    (findings : Findings) (at : ℕ) : Type 0 where
+    (at : ℕ) : Type 0 where
   pub worklist_is : IsWorklist (table_in cache) worklist
   pub main_is : main_in cache ≡ main
   pub sums_are : sums_in cache ≡ sums
   pub knows : Knows cache pairs
   pub lent : turns_in cache ≡ take at (turns_of (table_in cache) worklist)
   pub visited : AreVisited (run_of main sums pairs) (turns_of (table_in cache) worklist) (turns_in cache)
-  pub found : AreFound cache (run_of main sums pairs) findings
 
 -- What a cache's run is, if its main file and its go.sum are these.
 pub by_run : (P : Run → Type 0) {main : Main} {sums : Option Sums} (cache : Cache) (pairs : List (Name × Reply)) → main_in cache ≡ main
@@ -56,22 +47,21 @@ pub by_run : (P : Run → Type 0) {main : Main} {sums : Option Sums} (cache : Ca
 by_run P {main} {sums} cache pairs main_is sums_are holds =
     rw⁻¹ main_is (rw⁻¹ sums_are holds)
 
-pub first_step : (cache : Cache) (pairs : List (Name × Reply)) (worklist : Worklist) (findings : Findings) → pairs ≡ []
+pub first_step : (cache : Cache) (pairs : List (Name × Reply)) (worklist : Worklist) → pairs ≡ []
     → Knows cache [] → turns_in cache ≡ [] → IsFirstWorklist (run_in cache []) (table_in cache) worklist
-    → ((number : ℕ) → WasVisited findings number → ⊥) → IsAt (main_in cache) (sums_in cache) cache pairs worklist findings 0
-first_step cache pairs worklist findings none knows lent first unvisited = rw none (record {
+    → IsAt (main_in cache) (sums_in cache) cache pairs worklist 0
+first_step cache pairs worklist none knows lent first = rw none (record {
   worklist_is = first.worklist_is;
   main_is = refl;
   sums_are = refl;
   knows = knows;
   lent = lent;
   visited = rw lent (first_visited (run_in cache []) _ first.adds);
-  found = record { opened = λ number w. absurd (unvisited number w); each = rw lent (λ one nowhere. absurd (omega (arith, nowhere.1))) };
 })
 
 -- All turns were visited.
 pub last_step : {main : Main} {sums : Option Sums} {cache : Cache} {pairs : List (Name × Reply)} {worklist : Worklist}
-    {findings : Findings} {at : ℕ} → IsAt main sums cache pairs worklist findings at → AreFindings cache (run_in cache pairs) findings
+    {findings : Findings} {at : ℕ} → IsAt main sums cache pairs worklist at → AreFindings cache (run_in cache pairs) (turns_in cache) findings
     → length worklist.turns.items ≤ at → IsOpenedIn (run_of main sums pairs) cache worklist findings
 last_step {main} {sums} {cache} {pairs} {worklist} {findings} {at} is found past =
     let turns = turns_of (table_in cache) worklist in
@@ -82,10 +72,7 @@ last_step {main} {sums} {cache} {pairs} {worklist} {findings} {at} is found past
       read = rw⁻¹ is.sums_are (answers_read cache pairs is.knows);
       worklist_is = is.worklist_is;
       turns = are_turns all is.worklist_is.turns.turns_once;
-      found = rw⁻¹ (is.main_is, is.sums_are) found;
+      found = rw⁻¹ (is.main_is, is.sums_are)
+          (subst (λ (ts : List Turn). AreFindings cache (run_in cache pairs) ts findings) to_end found);
       lists = rw⁻¹ (is.main_is, is.sums_are) (λ x place sound. list_is cache pairs x place sound.file is.knows sound sound.says);
-      opened = λ number w. (is.found.opened number w).1;
-      each = λ x opened.
-          let (d, there) = has_turn_of all x opened in
-          is.found.each (turn x d) (subst (λ (ts : List Turn). Contains ts (turn x d)) (sym to_end) there);
     }

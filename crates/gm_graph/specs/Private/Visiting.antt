@@ -10,9 +10,9 @@ use Rattle.gm_graph_files.specs.declared.depth.Depth.{Depth}
 use Rattle.gm_graph_files.specs.declared.depth.Turn.{Turn}
 use Rattle.gm_graph.specs.declared.findings.Findings.{Findings}
 use Rattle.gm_graph.specs.declared.worklist.Worklist.{Worklist}
-use Rattle.gm_graph_cache.specs.Cached.{IsSound, main_in, table_in, module_numbered}
-use Rattle.gm_graph.specs.Private.Findings.{AreFindings, WasVisited}
-use Rattle.gm_graph.specs.Run.{AreTurns, IsOpened, IsRead}
+use Rattle.gm_graph_cache.specs.Cached.{IsSound, main_in, table_in}
+use Rattle.gm_graph.specs.Private.Findings.{AreFindings}
+use Rattle.gm_graph.specs.Run.{AreTurns, IsRead}
 use Rattle.gm_graph_cache.specs.Sayings.{Run, Says}
 use Rattle.gm_graph_files.specs.Summaries.{at_span}
 use Rattle.gm_graph.specs.Private.Turns.{AddsAll, OverflowsWith, depth_by, led_to}
@@ -29,16 +29,13 @@ abbrev pub OverflowsAt : Run → List Turn → ModuleVersion → Depth → Type 
 OverflowsAt run turns x d = IsRead run × ((said : Result Dependency Class) × Says run x said
     × OverflowsWith turns (led_to run.main said d))
 
--- The whole worklist was visited. The turns are those of the opened vertices; those are the vertices of which something
--- was found, each finding is what the run found, and the list of a file is what a vertex with the file requires.
+-- The whole worklist was visited. The turns are those of the opened vertices, each finding is what the run found of one
+-- of them, and the list of a file is what a vertex with the file requires.
 pub record IsOpenedIn (run : Run) (cache : Cache) (worklist : Worklist) (findings : Findings) : Type 0 where
   pub main_is : main_in cache ≡ run.main
   pub read : IsRead run
   pub worklist_is : IsWorklist (table_in cache) worklist
   pub turns : AreTurns run (turns_of (table_in cache) worklist)
-  pub found : AreFindings cache run findings
+  pub found : AreFindings cache run (turns_of (table_in cache) worklist) findings
   pub lists : (x : ModuleVersion) (place : ℕ) (sound : IsSound cache run x place)
       → at_span (modules_of cache.modules) sound.span ≡ without_excluded run.main sound.file.requirements
-  pub opened : (number : ℕ) → WasVisited findings number → IsOpened run (module_numbered cache number)
-  pub each : (x : ModuleVersion) → IsOpened run x
-      → (number : ℕ) × WasVisited findings number × (module_numbered cache number ≡ x)

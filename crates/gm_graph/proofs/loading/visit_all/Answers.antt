@@ -2,7 +2,7 @@ use Rattle.std.proofs.Common.{◌∙◌, [], Err, ap, arith, refl, subst, sym}
 use Rattle.gm_file.specs.Main.{Main, without_excluded}
 use Rattle.gm_graph.specs.Private.Turns.{OverflowsWith}
 use Rattle.gm_graph.proofs.Dues.{refused_same}
-use Rattle.gm_graph.proofs.FoundFiles.{nothing_found, nothing_visited}
+use Rattle.gm_graph.proofs.FoundFiles.{nothing_found}
 use Rattle.gm_graph.proofs.InTurn.{asked_in_turn, in_turn_by, many_in_turn, nothing_asked, stepped}
 use Rattle.gm_graph.proofs.Loads.{too_many_first}
 use Rattle.gm_graph.proofs.DoneTurns.{few_turns}
@@ -11,15 +11,12 @@ use Rattle.gm_graph.proofs.loading.visit_all.Goals as goal
 
 pub turns-init : goal.turns-init
 turns-init g c =
-    let places = c.new-findings.ensures.places in
-    let faults = c.new-findings.ensures.faults in
     record {
-      state = first_step _ _ _ _ c.requires.asked c.requires.knows c.requires.lent c.in_ok-worklist.ensures.first
-          (nothing_visited c.new-findings.result places faults);
+      state = first_step _ _ _ c.requires.asked c.requires.knows c.requires.lent c.in_ok-worklist.ensures.first;
       ready = record {
         worklist_is = c.in_ok-worklist.ensures.first.worklist_is;
         followed = λ file by. absurd (c.new-followed.ensures file by);
-        found = nothing_found c.new-findings.result places faults _ _;
+        found = nothing_found _ c.new-findings.ensures.places c.new-findings.ensures.faults _ _ _ c.requires.lent;
       };
       asks = nothing_asked _ _ _ _ c.requires.asked;
       few = omega (arith, c.requires.none);

@@ -1,6 +1,6 @@
 use Rattle.std.proofs.Common.{Err, Ok, ap, inl}
 use Rattle.gm_graph.proofs.AddFaults.{add_too_many}
-use Rattle.gm_graph.proofs.FoundFiles.{file_finds, file_noted}
+use Rattle.gm_graph.proofs.FoundFiles.{file_noted}
 use Rattle.gm_graph_cache.specs.Lent.{lent_table}
 use Rattle.gm_graph.proofs.Adding.{adds_none}
 use Rattle.gm_graph_cache.specs.Cached.{table_in}
@@ -15,7 +15,7 @@ returns-in_err-follow-clause-too_many c = λ e.
     (c.if-leads.true, c.in_err-follow.ensures.too_many (ap Err many))
 
 pub returns-clause-adds : goal.returns-clause-adds
-returns-clause-adds c = λ cache run ready below is.
+returns-clause-adds c = λ cache run visited ready below is.
     let required = c.args.required in
     let one = c.args.one in
     let old = c.args.worklist.now in
@@ -43,8 +43,7 @@ returns-clause-adds c = λ cache run ready below is.
         worklist_is = here.worklist_is;
         followed = followed_more cache run _ _ marks c.if-leads.followed _ one.depth required is here.adds.extends ready.followed here.files here.followed;
         found = file_noted c.args.findings.now more one.number required.file noted.put noted.others c.record_file.ensures.faults cache run
-            ready.found below sound;
+            visited one.depth ready.found below sound;
       };
       follows = record { said = Ok file; says = says; adds = rw⁻¹ (leads_on, list) here.adds };
-      finds = file_finds c.args.findings.now more one.number required.file noted.put noted.others c.record_file.ensures.faults;
     }

@@ -28,7 +28,7 @@ add_requirements-requires g c =
 pub returns-in-Ok-Required-clause-visited : goal.returns-in-Ok-Required-clause-visited
 returns-in-Ok-Required-clause-visited g c =
     turn_visited c.requires.ready _ _ _ c.add_requirements.result c.requires.below
-    (rw (c.in-Ok-Required.is, c.in-Ok-Required.field-0-is) at c.visit.follows.holds-at-none) (c.add_requirements.ensures.adds _ _)
+    (rw (c.in-Ok-Required.is, c.in-Ok-Required.field-0-is) at c.visit.follows.holds-at-none) (c.add_requirements.ensures.adds _ _ _)
 
 pub returns-in-Ok-Required-clause-too_many : goal.returns-in-Ok-Required-clause-too_many
 returns-in-Ok-Required-clause-too_many g c = λ e.
@@ -44,7 +44,7 @@ returns-in-Ok-Required-clause-asks g c = asks_by (sym c.add_requirements.ensures
 pub returns-in-Ok-Fault-clause-visited : goal.returns-in-Ok-Fault-clause-visited
 returns-in-Ok-Fault-clause-visited g c =
     turn_visited c.requires.ready _ _ _ c.add_fault.result c.requires.below
-    (rw (c.in-Ok-Fault.is, c.in-Ok-Fault.field-0-is) at c.visit.follows.holds-at-none) (c.add_fault.ensures.adds _ _ _ _)
+    (rw (c.in-Ok-Fault.is, c.in-Ok-Fault.field-0-is) at c.visit.follows.holds-at-none) (c.add_fault.ensures.adds _ _ _ _ _)
 
 pub returns-in-Ok-Fault-clause-too_many : goal.returns-in-Ok-Fault-clause-too_many
 returns-in-Ok-Fault-clause-too_many g c = λ e. absurd (c.add_fault.ensures.not_too_many e)
