@@ -7,7 +7,7 @@ use Rattle.gm_name.specs.ModuleVersion.{ModuleVersion, module_at}
 use Rattle.gm_name_table.specs.Listed.{Appends, BeginsWith, NumberedList, modules_of}
 use Rattle.gm_name_table.proofs.Listed.{appends_after}
 use Rattle.gm_file.specs.Private.Requirements.{Requirements, added, items_in}
-use Rattle.gm_file.specs.declared.list_before.ListBefore.{ListBefore}
+use Rattle.core.specs.declared.snapshot.Snapshot.{Snapshot}
 use Rattle.gm_file.specs.declared.required.Destination.TheVariants as place
 
 -- What is put to the end of a list that has grown comes after what was put there earlier.
@@ -59,9 +59,9 @@ nothing_if_cut before list cut more grown modules numbers =
     }
 
 -- What was put to the end of the list before is put to the end of it in any list that is this one.
-pub given_back : {requirements : Requirements} (list given before : NumberedList) (was : ListBefore)
-    → items_in (place.End list was) ≡ requirements → Appends was.list list (added was.list list)
+pub given_back : {requirements : Requirements} (list given before : NumberedList) (was : Snapshot NumberedList)
+    → items_in (place.End list was) ≡ requirements → Appends was.value list (added was.value list)
     → requirements.before ≡ Some before → given ≡ list → Appends before given requirements.items
 given_back list given before was is grown has same =
     subst (λ (r : Requirements). r.before ≡ Some before → Appends before given r.items) is (λ there.
-    subst (λ (b : NumberedList). Appends b given (added was.list list)) (same_Some _ _ there) (rw same grown)) has
+    subst (λ (b : NumberedList). Appends b given (added was.value list)) (same_Some _ _ there) (rw same grown)) has

@@ -31,7 +31,6 @@ mod fault;
 mod fields;
 mod go_version;
 pub mod laws;
-mod list_before;
 mod listed_file;
 mod main_file;
 mod main_module;

@@ -7,12 +7,12 @@ ghost use Rattle.gm_file.specs.Faults.{pair_kinds};
 ghost use Rattle.gm_file.specs.Private.Reading.{KeepsNames, IsPartRead};
 
 use crate::fault::{DirectiveKind, LineFault};
-use crate::list_before::ListBefore;
 use crate::part::pair_of_texts;
 use gm_name::{ModVer, NoMemory};
 use gm_name_table::{KnownNames, ModuleList};
 use std::marker::Model;
 use std::mem;
+use std::snapshot::Snapshot;
 
 /// Where requirements go.
 #[derive(Drop)]
@@ -22,7 +22,7 @@ enum Destination {
     /// The end of a list of modules, which was `before`.
     End {
         list: ModuleList,
-        before: ListBefore,
+        before: Snapshot<ModuleList>,
     },
 }
 
@@ -59,7 +59,7 @@ impl Required {
         ensures before { result.before ≡ Some list }
         ensures items { result.items ≡ [] }
     {
-        let before = ListBefore::of(&list);
+        let before = Snapshot::of(&list);
         Required {
             place: Destination::End { list, before },
         }

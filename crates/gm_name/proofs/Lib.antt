@@ -12,7 +12,6 @@ pub mod PseudoTexts
 pub mod Fronts
 pub mod Words
 pub mod FieldLemmas
-pub mod Empty
 pub mod Logic
 pub mod Texts
 pub mod Prefixes

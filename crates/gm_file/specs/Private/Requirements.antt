@@ -17,9 +17,9 @@ added before list = drop (length before.numbers) (modules_of list)
 -- the requirements in a place
 abbrev pub items_in : Destination → Requirements
 items_in (place.Own pairs) = record { before = None; items = pairs.items }
-items_in (place.End list before) = record { before = Some before.list; items = added before.list list }
+items_in (place.End list before) = record { before = Some before.value; items = added before.value list }
 
 -- A list that requirements are put to the end of is what it was before, with these modules put to its end.
 abbrev pub IsGrownList : Destination → Type 0
 IsGrownList (place.Own pairs) = ⊤
-IsGrownList (place.End list before) = Appends before.list list (added before.list list)
+IsGrownList (place.End list before) = Appends before.value list (added before.value list)

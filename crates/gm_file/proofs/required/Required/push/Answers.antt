@@ -9,6 +9,6 @@ invariant_of-self-2 c = elim c.match-self.branch [
       let here = w.in-End in
       let pushed = w.push-in-End in
       rw w.self-inside-is
-      (grown_if_pushed here.before.list here.list pushed.new.self c.args.pair pushed.result
+      (grown_if_pushed here.before.value here.list pushed.new.self c.args.pair pushed.result
       (rw here.is at c.self.invariant) pushed.ensures.ok pushed.ensures.err)
 ]

@@ -9,6 +9,6 @@ invariant_of-self-2 c = elim c.match-self.branch [
       let here = w.in-End in
       let pushed = w.in_ok-push_known-in-End in
       rw w.self-inside-is
-      (grown_if_known here.before.list here.list w.push_known.new.self (c.args.path.now, c.args.version.now) pushed.field-0
+      (grown_if_known here.before.value here.list w.push_known.new.self (c.args.path.now, c.args.version.now) pushed.field-0
       (rw here.is at c.self.invariant) pushed.ensures.pushed pushed.ensures.unknown)
 ]
