@@ -20,7 +20,7 @@ use Rattle.gm_file_edit.specs.Fates.{without_targets, dropping_from, kept_lines,
 use Rattle.gm_file_edit.specs.Holding.{directive_at, passes, is_there}
 use Rattle.gm_file_edit_laws.specs.Laws.{directives_of}
 use Rattle.gm_file_edit.specs.NewWords.{entry_at, single}
-use Rattle.gm_file_edit_laws.specs.Undone.{DropUndoes, DropUndoesForLayout, undone_by}
+use Rattle.gm_file_edit_laws.specs.UndoingEdits.{DropUndoes, DropUndoesForLayout, undone_by}
 use Rattle.gm_file_edit_laws.proofs.Additions.{edited-added}
 use Rattle.gm_file_edit.proofs.Insertions.{IsAddition, entry-fits, added-after-last, added-at-end, entry_put, last-one, passing-level, passing-verb, there-append}
 use Rattle.gm_file_edit.proofs.EditedSound.{says}

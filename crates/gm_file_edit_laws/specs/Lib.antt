@@ -1,4 +1,4 @@
 pub mod Laws
 pub mod EditLaws
 pub mod GoPlace
-pub mod Undone
+pub mod UndoingEdits

@@ -20,7 +20,7 @@ ghost use Rattle.gm_file_edit_laws.specs.EditLaws.{AdditionFollowsItsVerb, Addit
 ghost use Rattle.gm_file_edit.specs.Edits.{Edit, edit_in};
 ghost use Rattle.gm_file_edit_laws.specs.GoPlace.{GoFollowsModule, GoFollowsModuleBlock};
 ghost use Rattle.gm_file_edit_laws.specs.Laws.{AddedIsThere, DroppedIsGone, EitherOrderLeavesTheSame, OthersStay, SetStandsAlone};
-ghost use Rattle.gm_file_edit_laws.specs.Undone.{DropUndoes, DropUndoesForLayout};
+ghost use Rattle.gm_file_edit_laws.specs.UndoingEdits.{DropUndoes, DropUndoesForLayout};
 
 /// A valid file stays valid. If the lines are a document that strict reading accepts without a fault, so are the
 /// lines after the operation. The operation must be one that some text spells, and the versions that it puts in must

@@ -5,4 +5,4 @@ pub mod Numbering
 pub mod Ranking
 pub mod Searching
 pub mod Spans
-pub mod StepOrder
+pub mod EdgeOrder

@@ -1,4 +1,4 @@
--- The orders of steps and edges are total, and only equal ones compare as equal.
+-- The order of steps is total, and only equal ones compare as equal.
 use Rattle.std.proofs.Common.{◌≡◌, ◌≢◌, Bool, refl, sym, Some}
 use Rattle.std.specs.Cmp.{IsEquivalence, IsPartialOrder, IsTotalOrder, eq_by_cmp_equiv, po}
 use Rattle.std.specs.Ordering.{eq_by_cmp, ordering_reverse}

@@ -16,7 +16,7 @@ use Rattle.gm_file_edit.specs.Edited.{lines_after}
 use Rattle.gm_file_edit.specs.Edits.{Edit as Operation, Set, ModuleIs, GoIs, RequireAt, ReplaceWith, Add, Exclude, Retract, Drop, edit_in}
 use Rattle.gm_file_edit.specs.Kinds.{is_fit}
 use Rattle.gm_file_edit_laws.specs.Laws.{IsEditOf, directives_of}
-use Rattle.gm_file_edit_laws.specs.Undone.{undone_by}
+use Rattle.gm_file_edit_laws.specs.UndoingEdits.{undone_by}
 use Rattle.gm_file_edit_laws.proofs.EitherOrder.{either-order}
 use Rattle.gm_file_edit.proofs.Places.{edited-same}
 use Rattle.gm_file_edit_laws.proofs.UndoingDrops.{drop-undoes-layout}

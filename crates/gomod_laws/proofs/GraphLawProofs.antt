@@ -6,7 +6,7 @@ use Rattle.gm_file.specs.Main.{is_pruned_by}
 use Rattle.gm_graph_select.specs.declared.step.Step.{Step}
 use Rattle.gm_graph_select.specs.declared.step.Step.TheVariants.{Main as FromMain, Of}
 use Rattle.gm_graph_select.specs.Graph.{among, edge}
-use Rattle.gm_graph_select.specs.Private.StepOrder.{edge_total}
+use Rattle.gm_graph_select.specs.Private.EdgeOrder.{edge_total}
 use Rattle.gm_graph_select.proofs.Ascending as ascending
 use Rattle.gm_graph_select.proofs.Lawful as lawful
 use Rattle.gm_graph_select.proofs.Same.{AreSame, same_back, same_build_list}

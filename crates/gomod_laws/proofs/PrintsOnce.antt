@@ -7,7 +7,7 @@ use Rattle.gm_graph_select.specs.declared.step.Step.{Step}
 use Rattle.gm_graph_select.specs.declared.step.Edge.{Edge}
 use Rattle.gm_graph_select.specs.BuildList.{HasEntryFor, IsEntryOf, IsRestAfter}
 use Rattle.gm_graph_select.specs.Chains.{IsChain}
-use Rattle.gm_graph_select.specs.Private.StepOrder.{edge_total}
+use Rattle.gm_graph_select.specs.Private.EdgeOrder.{edge_total}
 use Rattle.gm_graph_select.proofs.Ascending.{same_lists}
 use Rattle.gm_graph_select.proofs.Lawful.{one_chain, same_build_lists}
 use Rattle.gm_graph_select.proofs.RestRows.{entry_listed, one_at, one_entry}

@@ -8,7 +8,7 @@ use Rattle.gm_file_edit.specs.About.{about}
 use Rattle.gm_file_edit.specs.Edits.{Edit as Operation, edit_in}
 use Rattle.gm_file_edit.specs.Kinds.{is_fit}
 use Rattle.gm_file_edit_laws.specs.Laws.{AreApart, directives_of}
-use Rattle.gm_file_edit_laws.specs.Undone.{undone_by}
+use Rattle.gm_file_edit_laws.specs.UndoingEdits.{undone_by}
 use Rattle.gm_store_parts.specs.Asked.{Name, Reply}
 use Rattle.gm_file.specs.Main.{IsMainOf}
 use Rattle.gomod_texts.specs.Outcome.{Outcome, text_outcome}
