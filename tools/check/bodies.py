@@ -27,7 +27,7 @@ LIST, KIND = pathlib.Path("tools/check/bodies.txt"), "bodies that no contract sp
 # what reaches nothing outside the program, and what does without being imported
 INSIDE = re.compile(
     r"std::(?:alloc|collections|fmt|hash|mem|str)(?:::|$)|std::borrow::CowStr|std::cmp::Ordering|std::env::FillError"
-    r"|std::marker::(?:Model|PhantomData)|std::rc::Rc")
+    r"|std::marker::(?:Model|PhantomData)|std::rc::Rc|std::snapshot::Snapshot")
 OUTSIDE = {"HostRuntime", "extern", "print", "println", "eprint", "eprintln", "dbg"}
 FULL_PATH = re.compile(r"\b(?:std|rt|core|alloc)(?:::\w+)+")
 NO_CODE = re.compile(r"\"(?:\\.|[^\"\\])*\"|b?'(?:\\[^\n]{1,8}?|[^\\\n])'", re.S)
