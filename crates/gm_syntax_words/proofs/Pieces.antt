@@ -10,7 +10,7 @@ use Rattle.gm_syntax_words.specs.declared.word.Kind.TheVariants.{Bare, Text, Mar
 use Rattle.gm_syntax_words.specs.declared.scan.Piece.{Piece}
 use Rattle.gm_syntax_words.specs.declared.scan.Piece.TheVariants as piece
 use Rattle.gm_syntax_words.specs.Bytes.{is_blank, is_bracket_or_comma, is_quote, is_bad, is_word_byte}
-use Rattle.gm_syntax_words.specs.Words.{Word, HasShape, IsString, escaped_value}
+use Rattle.gm_syntax_words.specs.Words.{Word, HasShape, IsString}
 use Rattle.gm_syntax_words.specs.Spelling.{IsBareWord, EndsInSlash, MayFollow, BeginsFault}
 use Rattle.gm_syntax_words.specs.Bare.{begins, opens_comment, bare_len}
 use Rattle.gm_syntax_words.specs.Private.Scan.{quoted_len, raw_len, text_piece, piece_of}

@@ -1,4 +1,4 @@
-use Rattle.std.proofs.Common.{◌+◌, sym, ◌∙◌, arith}
+use Rattle.std.proofs.Common.{sym, ◌∙◌, arith}
 use Rattle.gm_syntax_words.proofs.Steps.{plain_counts}
 use Rattle.gm_syntax_words.proofs.scan.plain_end.Goals as goal
 

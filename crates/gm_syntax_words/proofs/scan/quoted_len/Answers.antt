@@ -1,4 +1,4 @@
-use Rattle.std.proofs.Common.{◌+◌, get_or, ap, sym, ◌∙◌, inl, inr, arith}
+use Rattle.std.proofs.Common.{ap, sym, ◌∙◌, inl, inr, arith}
 use Rattle.gm_syntax_words.specs.Private.Scan.{longer}
 use Rattle.gm_syntax_words.proofs.Steps.{quoted_ends_at, quoted_goes_on, quoted_skips, quoted_refuses, quoted_is_cut, quoted_is_open, escape_is, escape_is_not}
 use Rattle.gm_syntax_words.proofs.scan.quoted_len.Goals as goal

@@ -1,4 +1,4 @@
-use Rattle.std.proofs.Common.{◌-◌, length, take, IsUtf8, refl, ap, sym, ◌∙◌}
+use Rattle.std.proofs.Common.{IsUtf8, refl, ap, sym, ◌∙◌}
 use Rattle.std.proofs.iter.FirstChar.{cut}
 use Rattle.gm_syntax_words.specs.Private.Scan.{plain_len}
 use Rattle.gm_syntax_words.proofs.Spelled.{Inside, inside_at, first_boundary, last_boundary, raw_string, in_quotes_of, quoted_string, plain_all}

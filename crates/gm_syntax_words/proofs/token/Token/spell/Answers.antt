@@ -8,7 +8,7 @@ use Rattle.gm_syntax_words.proofs.token.Token.spell.Goals as goal
 
 pub returns-then-can_be_bare-clause-is_new : goal.returns-then-can_be_bare-clause-is_new
 returns-then-can_be_bare-clause-is_new c =
-    let can : can_be_bare c.args.value.now ≡ true = cc in
+    let can : can_be_bare c.args.value.now ≡ true = rw (← c.as_bytes.ensures.value, ← c.can_be_bare.ensures) c.if-can_be_bare.true in
     record {
       bare = λ h. ap (own_word Bare) c.in_ok-from_str.ensures.ok;
       quoted = λ h. absurd (h (is_bare_word _ can));
@@ -16,7 +16,7 @@ returns-then-can_be_bare-clause-is_new c =
 
 pub returns-clause-is_new : goal.returns-clause-is_new
 returns-clause-is_new c =
-    let cannot : can_be_bare c.args.value.now ≡ false = cc in
+    let cannot : can_be_bare c.args.value.now ≡ false = rw (← c.as_bytes.ensures.value, ← c.can_be_bare.ensures) c.if-can_be_bare.false in
     record {
       bare = λ h. absurd (true≢false (sym (bare_word_is _ h) ∙ cannot));
       quoted = λ h. ap (own_word Text) c.in_ok-quoted.ensures;
@@ -24,16 +24,16 @@ returns-clause-is_new c =
 
 pub returns-then-can_be_bare-clause-value : goal.returns-then-can_be_bare-clause-value
 returns-then-can_be_bare-clause-value c =
-    let can : can_be_bare c.args.value.now ≡ true = cc in
+    let can : can_be_bare c.args.value.now ≡ true = rw (← c.as_bytes.ensures.value, ← c.can_be_bare.ensures) c.if-can_be_bare.true in
     rw can (rw c.in_ok-from_str.ensures.ok refl)
 
 pub returns-clause-value : goal.returns-clause-value
 returns-clause-value c =
-    let cannot : can_be_bare c.args.value.now ≡ false = cc in
+    let cannot : can_be_bare c.args.value.now ≡ false = rw (← c.as_bytes.ensures.value, ← c.can_be_bare.ensures) c.if-can_be_bare.false in
     rw cannot (rw c.in_ok-quoted.ensures refl)
 
 pub invariant_of-result : goal.invariant_of-result
 invariant_of-result c =
-    let can : can_be_bare c.args.value.now ≡ true = cc in
+    let can : can_be_bare c.args.value.now ≡ true = rw (← c.as_bytes.ensures.value, ← c.can_be_bare.ensures) c.if-can_be_bare.true in
     rw c.in_ok-from_str.ensures.ok
     (c.args.value.now, (is_bare_word _ can, refl))
