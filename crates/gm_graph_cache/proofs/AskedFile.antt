@@ -13,7 +13,6 @@ use Rattle.gm_graph_cache.specs.Asking.{AsksFor, StillLacks, AsksOne, IsAskableF
 use Rattle.gm_graph_cache.specs.Refusals.{refused_names}
 use Rattle.gm_graph_cache.specs.declared.cache.load_fault.LoadFault.{LoadFault}
 use Rattle.gm_file.specs.Main.{Main}
-use Rattle.gm_graph_files.specs.Reading.{file_of}
 
 -- ---- a call that asks for a name
 
@@ -82,17 +81,6 @@ module _ {A : Name → Type 0} {before after : Name → Option Reply → Type 0}
       → AsksOne A before after old new [] → AsksOne A before after old new (refused_for name result)
   asks_still name (Ok value) given one = absurd given
   asks_still name (Err fault) given one = rw given one
-
--- Out of memory is no failure of the device.
-pub never_device : {T P : Type 0} (result : Result T AskFault) → IsErrAnd result (λ fault. fault ≡ ask.NoMemory) → result ≡ Err ask.Device → P
-never_device (Ok value) given e = absurd given
-never_device (Err fault) given e = absurd (cc (given, e))
-
--- It is that of an equal vertex's file.
-pub asks_same : {before after : Name → Option Reply → Type 0} {old new : StoreState} {failed names : List Name}
-    (main : Main) (x y : ModuleVersion) → x ≡ y → failed ≡ names
-    → AsksOne (IsAskableFile main x) before after old new failed → AsksOne (IsAskableFile main y) before after old new names
-asks_same main x y is e one = asks_by e (asks_wider (λ n file. (file.0 ∙ ap (file_of main) is, file.1)) one)
 
 -- ---- what it means for a vertex
 

@@ -1,10 +1,9 @@
 -- The places of files: of their names, and noted for the numbers of modules.
 use Rattle.std.proofs.Common.{◌≡◌, ◌∙◌, ◌<◌, ℕ, List, [], Option, Some, None, ap, ap₂, length, refl, sym}
-use Rattle.std.specs.Option.{IsSome, option_and_then, option_or}
+use Rattle.std.specs.Option.{IsSome, option_or}
+use Rattle.std.specs.Prelude.{unwrap_or}
 use Rattle.std.proofs.lemmas.Option.{slice_get-get_or}
 use Rattle.gm_name.specs.ModuleVersion.{ModuleVersion, module_at}
-use Rattle.gm_name_table.specs.OptionalPlaces.{place_in}
-use Rattle.gm_name_table.specs.declared.place.OptionalPlace.{OptionalPlace}
 use Rattle.gm_name_table.specs.Private.Lists.{IsAbsent}
 use Rattle.gm_file.specs.Directives.{Right}
 use Rattle.gm_file.specs.Main.{Main, replacement_in}
@@ -36,27 +35,27 @@ module _ (main : Main) (modules : List ModuleVersion) (files : FileTable) (notes
 
   -- If no place is noted for the modules with this file, its place is that of a replacement's file.
   by_replacing : (name : Name) → (replacing_place files name ≡ None → IsUnnoted main modules files name)
-      → place_of files name ≡ option_and_then place_in (replacing_place files name)
+      → place_of files name ≡ unwrap_or (replacing_place files name) None
   by_replacing name unnoted = by (replacing_place files name) refl
     where
-      by : (o : Option OptionalPlace) → replacing_place files name ≡ o → place_of files name ≡ option_and_then place_in o
+      by : (o : Option (Option ℕ)) → replacing_place files name ≡ o → place_of files name ≡ unwrap_or o None
       by None none = notes.others_noted name (unnoted none) none
-      by (Some place) some = sym (notes.replacing_noted name place some)
+      by (Some place) some = notes.replacing_noted name place some
 
   -- So it is for a module without a number.
   pub place_by_absent : (x : ModuleVersion) (name : Name) → IsAbsent modules x → name ≡ file_of main x
-      → place_of files name ≡ option_and_then place_in (replacing_place files name)
+      → place_of files name ≡ unwrap_or (replacing_place files name) None
   place_by_absent x name absent named = by_replacing name (λ none k below also. absurd (absent k
       (slice_get-get_or modules k ([], []) below ∙ ap (λ (y : ModuleVersion). Some y) (sym (one_owner x (module_at modules k) name none named also)))))
 
 -- The place of a file's name is the one noted for its module, or otherwise that of a replacement's file.
 pub place_by : (main : Main) (modules : List ModuleVersion) (files : FileTable) (number : ℕ) (name : Name) → NotesFiles main modules files
     → ((k : ℕ) → k < length modules → module_at modules k ≡ module_at modules number → k ≡ number) → name ≡ file_of main (module_at modules number)
-    → place_of files name ≡ option_or (place_noted files number) (option_and_then place_in (replacing_place files name))
+    → place_of files name ≡ option_or (place_noted files number) (unwrap_or (replacing_place files name) None)
 place_by main modules files number name notes only named = noted (place_noted files number) refl
   where
     noted : (o : Option ℕ) → place_noted files number ≡ o
-        → place_of files name ≡ option_or o (option_and_then place_in (replacing_place files name))
+        → place_of files name ≡ option_or o (unwrap_or (replacing_place files name) None)
     noted None nowhere = by_replacing main modules files notes name (λ none k below also.
         ap (place_noted files) (only k below (one_owner main modules files notes (module_at modules k) (module_at modules number) name none also named))
         ∙ nowhere)

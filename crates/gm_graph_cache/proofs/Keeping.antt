@@ -1,7 +1,8 @@
 -- What stays when more is asked for, and when a cache returns requirements.
 use Rattle.std.proofs.Common.{◌≡◌, ◌∙◌, List, [], ◌++◌, Option, Some, None, Result, Ok, Err, append-nil, arith, length, length-append, sym, ap, refl}
-use Rattle.std.specs.Prelude.{IsErrAnd, OnErr}
+use Rattle.std.specs.Prelude.{IsErrAnd}
 use Rattle.std.specs.Option.{option_and_then}
+use Rattle.std.proofs.lemmas.Option.{option_and_then_some}
 use Rattle.gm_store_parts.specs.Asked.{Name, Reply}
 use Rattle.gm_store_parts.specs.States.{StoreState}
 use Rattle.gm_store_parts.specs.declared.files.AskFault.{AskFault}
@@ -12,7 +13,6 @@ use Rattle.gm_name_table.specs.Listed.{BeginsWith}
 use Rattle.gm_name_table.proofs.Listed.{begins_after}
 use Rattle.gm_graph_cache.specs.declared.cache.Cache.{Cache}
 use Rattle.gm_graph_files.specs.declared.summary.Kept.{Kept}
-use Rattle.gm_graph_files.specs.declared.summary.ListSpan.{ListSpan}
 use Rattle.gm_file.specs.Main.{Main}
 use Rattle.gm_graph_files.specs.Reading.{file_of}
 use Rattle.gm_graph_cache.specs.FileTable.{kept_at}
@@ -28,7 +28,7 @@ use Rattle.gm_graph_cache.specs.declared.cache.load_fault.LoadFault.TheVariants 
 use Rattle.gm_graph_cache.proofs.PuttingPlaces.{same_files}
 use Rattle.gm_graph_cache.proofs.Sayings.{says_asked, says_more}
 use Rattle.gm_graph_files.proofs.SharedLists.{own_still}
-use Rattle.gm_graph_cache.proofs.HeldFiles.{grown_held}
+use Rattle.gm_graph_cache.proofs.HeldFiles.{grown_held, holds_by}
 
 -- ---- the runs of a cache
 
@@ -51,10 +51,6 @@ says_still old new before after x lent asks y said says =
 
 -- ---- places stay
 
-kept_there : (o : Option Kept) (span : ListSpan) → option_and_then listed_span o ≡ Some span → (one : Kept) × (o ≡ Some one)
-kept_there None span e = absurd (cc e)
-kept_there (Some one) span e = (one, refl)
-
 -- If the files are still where they were and what they were found by, and say what they said, what was found at a place
 -- is found there still.
 pub sound_still : (old new : Cache) (earlier later : Run) → new.main.now ≡ old.main.now → BeginsWith old.files.files.items new.files.files.items
@@ -62,13 +58,13 @@ pub sound_still : (old new : Cache) (earlier later : Run) → new.main.now ≡ o
     → KeepsSayings earlier later → KeepsSound old earlier new later
 sound_still old new earlier later main files stay keeps x place sound =
     let same : main_in new ≡ main_in old = main in
-    let one = kept_there (summary_at old (file_of (main_in old) x)) sound.span sound.listed in
     record {
       within = omega (arith, sound.within, ap length files.1, length-append old.files.files.items files.0);
       span = sound.span;
       own = rw files.1 (own_still old.files.files.items files.0 place sound.span sound.own);
       listed = ap (λ (m : Main). option_and_then listed_span (summary_at new (file_of m x))) same
-          ∙ ap (option_and_then listed_span) (stay (file_of (main_in old) x) one.0 one.1 ∙ sym one.1) ∙ sound.listed;
+          ∙ option_and_then_some listed_span (summary_at old (file_of (main_in old) x)) sound.span sound.listed
+          (λ one there listed. ap (option_and_then listed_span) (stay (file_of (main_in old) x) one there) ∙ listed);
       file = sound.file;
       says = keeps x (Ok sound.file) sound.says;
     }
@@ -77,10 +73,7 @@ sound_still old new earlier later main files stay keeps x place sound =
 
 -- A cache that holds the same knows the same.
 pub knows_still : {old new : Cache} (pairs : List (Name × Reply)) → HoldsSame old new → Knows old pairs → Knows new pairs
-knows_still pairs same knows = record {
-  kept = λ name reply e. let got = knows.kept name reply e in (got.0, same.held name ∙ got.1, rw (same.main, same.sums) got.2);
-  only = λ name e. same.held name ∙ knows.only name e;
-}
+knows_still {old} {new} pairs same knows = rw (same_run old new pairs same.main same.sums) (holds_by same.held knows)
 
 -- A cache with the same files holds the same, if its list of modules only grew.
 pub holds_grown : (old new : Cache) → new.main.now ≡ old.main.now → sums_in new ≡ sums_in old → new.files ≡ old.files
@@ -150,10 +143,6 @@ follows_same {old} {new} {pairs} same knows = record {
 }
 
 -- ---- refusals
-
-pub any_err : {T E P : Type 0} (result : Result T E) → P → OnErr result P
-any_err (Ok value) p = tt
-any_err (Err fault) p = p
 
 -- Where memory runs out, no name is refused.
 pub none_refused : {T : Type 0} (result : Result T LoadFault) (old new : List Name)

@@ -19,6 +19,7 @@ use Rattle.gm_graph_cache.specs.declared.cache.visit.Visit.TheVariants as visit
 use Rattle.gm_graph_cache.specs.declared.cache.Cache.{Cache}
 use Rattle.gm_file.specs.Main.{Main, without_excluded}
 use Rattle.gm_graph_cache.specs.Cached.{AreRequirements, IsSound, Knows, file_count, its_requirements, main_in, no_requirements, run_in, summary_at, table_in, Follows, module_numbered}
+use Rattle.gm_graph_cache.specs.FileTable.{place_of}
 use Rattle.gm_graph_cache.specs.Private.Cached.{IsLender}
 use Rattle.gm_graph_cache.specs.Private.FileTable.{IsPlacedAt}
 use Rattle.gm_graph_cache.specs.Private.CacheVisits.{IsVerdict, file_of_verdict, visit_of}
@@ -26,11 +27,12 @@ use Rattle.gm_graph_cache.specs.Visits.{IsVisit}
 use Rattle.gm_graph_cache.specs.Lent.{lent_modules, lent_table}
 use Rattle.gm_graph_cache.specs.Sayings.{FileSays, Run, Says}
 use Rattle.gm_graph_cache.proofs.Holding.{held_says, held_sound}
-use Rattle.gm_graph_files.proofs.SharedLists.{found_own, kept_listed}
+use Rattle.gm_graph_files.proofs.SharedLists.{found_own, list_owned}
 use Rattle.gm_graph_files.proofs.Spans.{span_within}
 use Rattle.gm_graph_files.specs.KeptFiles.{IsWithinList, span_found}
 use Rattle.gm_graph_files.specs.Summaries.{at_span, kept_reading, listed_span, summary_reading}
 use Rattle.gm_graph_files.specs.declared.summary.ListSpan.{ListSpan}
+use Rattle.gm_graph_files.specs.Private.Summaries.{list_place}
 use Rattle.gm_graph_files.specs.Reading.{file_of}
 use Rattle.gm_graph_files.specs.declared.class.Class.{Class}
 use Rattle.gm_graph_files.specs.declared.summary.Summary.{Summary}
@@ -97,6 +99,21 @@ list_is cache pairs x place file knows at says =
     lent_one (main_in cache) (modules_of cache.modules) (summary_at cache (file_of (main_in cache) x)) file at.span
     at.listed (held_sound cache pairs knows x file says)
 
+-- The list of a vertex without a fault is at the place of the file that has it.
+abbrev pub sound_at : (cache : Cache) (run : Run) (x : ModuleVersion) (place : ℕ) (summary : Summary) (file : Dependency)
+    → place_of cache.files (file_of (main_in cache) x) ≡ Some place → slice_get cache.files.files.items place ≡ Some (Valid summary)
+    → Says run x (Ok file) → IsSound cache run x (list_place cache.files.files.items place)
+sound_at cache run x place summary file at there says =
+    let owned = list_owned (modules_of cache.modules) cache.files.files.items place summary cache.consistent.listed there in
+    record {
+      within = owned.0;
+      span = summary.list.span;
+      own = owned.1;
+      listed = ap (option_and_then listed_span) (ap (option_and_then (slice_get cache.files.files.items)) at ∙ there);
+      file = file;
+      says = says;
+    }
+
 -- where the requirements of the file at a place are
 abbrev pub span_at : Cache → Option ℕ → ListSpan
 span_at cache place = span_found (option_and_then (slice_get cache.files.files.items) place)
@@ -113,10 +130,9 @@ lent_kept cache pairs x (Some place) knows sound =
 
 -- Where requirements are is within the list of modules.
 pub lent_within : (cache : Cache) (place : Option ℕ) → IsWithinList (modules_of cache.modules) (span_at cache place)
-lent_within cache None = span_within (modules_of cache.modules) None (λ one e. absurd (cc e))
+lent_within cache None = span_within (modules_of cache.modules) cache.files.files.items None (λ one e. absurd (cc e))
 lent_within cache (Some place) =
-    span_within (modules_of cache.modules) (slice_get cache.files.files.items place)
-    (λ one e. kept_listed (modules_of cache.modules) cache.files.files.items place one cache.consistent.listed e)
+    span_within (modules_of cache.modules) cache.files.files.items (slice_get cache.files.files.items place) (cache.consistent.listed place)
 
 -- ---- what a visit gets
 

@@ -13,3 +13,4 @@ pub mod Replacements
 pub mod GrownCache
 pub mod Named
 pub mod NumberedModules
+pub mod MakingKnown

@@ -1,5 +1,5 @@
 -- A cache that keeps one more file knows one more answer.
-use Rattle.std.proofs.Common.{◌≡◌, ◌∙◌, Bool, true, false, cond, List, [], ◌∷◌, ◌++◌, Option, Some, None, sym, ap, refl, inl, inr}
+use Rattle.std.proofs.Common.{◌≡◌, ◌∙◌, cond, List, [], ◌∷◌, ◌++◌, Option, Some, None, sym, ap, refl, inl, inr}
 use Rattle.std.specs.Option.{option_map, option_or}
 use Rattle.std.proofs.lemmas.Bool.{cases_Bool}
 use Rattle.gm_name.specs.ModuleVersion.{ModuleVersion}
@@ -52,10 +52,6 @@ knows_read old mid files pairs all name reply one knows same none adds e reads =
     (λ other. rw e (answer_more pairs name other reply (not_asked old pairs name knows none)))
     (knows_still pairs same knows)
 
-stays : {R : Type 0} (b : Bool) (v r : R) (old new : Option R) → new ≡ cond b (Some v) old → (b ≡ true → old ≡ None) → old ≡ Some r → new ≡ Some r
-stays true v r old new is none e = let never = sym (none refl) ∙ e in absurd (cc never)
-stays false v r old new is none e = is ∙ e
-
 none_kept : (modules : List ModuleVersion) (o : Option Kept) → option_map (summary_reading modules) o ≡ None → o ≡ None
 none_kept modules None e = refl
 none_kept modules (Some one) e = absurd cc
@@ -74,8 +70,9 @@ pub sound_read : (old mid new : Cache) (pairs all : List (Name × Reply)) (name 
 sound_read old mid new pairs all name reply one same lent none adds files asked x place sound =
     let none_more : summary_at mid name ≡ None = none_still old mid name same none in
     sound_still mid new (run_in old pairs) (run_in new all) lent.main files
-    (λ other some e. stays (same_name other name) one some (summary_at mid other) (summary_at new other)
-    (adds other)
-    (λ is. ap (summary_at mid) (names_equal other name is) ∙ none_more) e)
+    (λ other some e. elim (cases_Bool (same_name other name)) [
+      | inl is ↦ absurd (cc (sym (ap (summary_at mid) (names_equal other name is) ∙ none_more) ∙ e))
+      | inr apart ↦ adds other ∙ rw apart e
+    ])
     (says_later old new pairs ((name, reply) ∷ []) all (lent.main ∙ same.main) (lent.sums ∙ same.sums) asked) x place
     (same.sound (run_in old pairs) x place sound)

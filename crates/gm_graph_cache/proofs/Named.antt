@@ -1,7 +1,7 @@
 -- The calls of a cache that name modules and files.
 use Rattle.std.proofs.Common.{◌≡◌, ◌∙◌, ◌∷◌, [], ℕ, refl, List, Option, None, Some, Result, Ok, Err, ap, sym}
 use Rattle.std.specs.Prelude.{MatchResult, slice_get}
-use Rattle.std.specs.Option.{option_and_then, option_map}
+use Rattle.std.specs.Option.{option_map}
 use Rattle.gm_name.specs.ModuleVersion.{ModuleVersion}
 use Rattle.gm_name_table.specs.Listed.{modules_of}
 use Rattle.gm_store_parts.specs.Asked.{Name, Reply}
@@ -9,15 +9,15 @@ use Rattle.gm_graph_cache.specs.declared.cache.Cache.{Cache}
 use Rattle.gm_graph_cache.specs.declared.cache.by_name.Known.{Known}
 use Rattle.gm_graph_cache.specs.declared.cache.by_name.Known.TheVariants as known
 use Rattle.gm_graph_files.specs.declared.depth.Turn.{Turn}
-use Rattle.gm_graph_cache.specs.Cached.{HasMoreTurns, HasTurns, HasSoundFile, IsKnownAs, IsLenderNamed, IsSound, Knows, KnowsLender, file_known, held_of, main_in, run_in, summary_at}
+use Rattle.gm_graph_cache.specs.Cached.{HasMoreTurns, HasTurns, HasSoundFile, IsKnownAs, IsLenderNamed, IsSound, Knows, KnowsLender, file_known, held_of, main_in, run_in}
 use Rattle.gm_graph_files.specs.declared.summary.Kept.{Kept}
 use Rattle.gm_graph_files.specs.declared.summary.Kept.TheVariants.{Valid, Faulty}
 use Rattle.gm_graph_cache.specs.FileTable.{place_of}
 use Rattle.gm_graph_cache.specs.Sayings.{Run}
-use Rattle.gm_graph_files.specs.Summaries.{kept_reading, listed_span, summary_reading}
+use Rattle.gm_graph_files.specs.Summaries.{kept_reading, summary_reading}
 use Rattle.gm_graph_files.specs.Private.Summaries.{list_place}
-use Rattle.gm_graph_files.proofs.SharedLists.{list_owned}
 use Rattle.gm_graph_cache.proofs.Holding.{held_sound}
+use Rattle.gm_graph_cache.proofs.Lending.{sound_at}
 use Rattle.gm_graph_cache.proofs.Keeping.{same_run}
 
 -- ---- the place of a file that is named
@@ -42,16 +42,7 @@ module _ (cache : Cache) (pairs : List (Name × Reply)) (x : ModuleVersion) (nam
       by None here held = absurd (cc held)
       by (Some (Faulty class)) here held = absurd (cc held)
       by (Some (Valid summary)) here held =
-          let owned = list_owned (modules_of cache.modules) cache.files.files.items place summary cache.consistent.listed here in
-          record {
-            within = owned.0;
-            span = summary.list.span;
-            own = owned.1;
-            listed = ap (option_and_then listed_span)
-                (sym (ap (summary_at cache) is.name_is) ∙ ap (option_and_then (slice_get cache.files.files.items)) there ∙ here);
-            file = is.file;
-            says = is.says;
-          }
+          sound_at cache (run_in cache pairs) x place summary is.file (ap (place_of cache.files) (sym is.name_is) ∙ there) here is.says
 
 -- What is known of a vertex gives the name.
 pub named_known : (run : Run) (x : ModuleVersion) (found : Known) → IsKnownAs run x found → IsLenderNamed run x (file_known found)

@@ -19,10 +19,8 @@ use Rattle.gm_store_parts.specs.declared.files.FileName.{FileName}
 use Rattle.gm_graph_cache.proofs.NumberedModules.{number_below, number_stays}
 use Rattle.gm_graph_cache.specs.declared.cache.file_table.FileTable.{FileTable}
 use Rattle.gm_graph_files.specs.declared.summary.Kept.{Kept}
-use Rattle.gm_graph_cache.specs.FileNames.{places_named}
 use Rattle.gm_graph_cache.specs.FileTable.{place_of}
-use Rattle.gm_graph_cache.specs.Private.FileTable.{IsNewFile, IsPlacedAt, KeepsFiles, KeepsOthers, NotesFiles, NotesFor, PutsFile, place_noted, replacing_place}
-use Rattle.gm_graph_files.specs.Places.{place_among}
+use Rattle.gm_graph_cache.specs.Private.FileTable.{Adds, IsNewFile, IsPlacedAt, KeepsFiles, KeepsNoted, KeepsOthers, NotesFiles, NotesFor, PutsFile, place_noted, replacing_place}
 use Rattle.gm_file.specs.Main.{Main}
 use Rattle.gm_graph_files.specs.Reading.{file_of}
 
@@ -45,62 +43,33 @@ module _ (old new : FileTable) (number place : ℕ) (notes : NotesFor old new nu
 
 -- ---- a file gets its place
 
-pub place_put : (old new : FileTable) (name : Name) (place : ℕ) (put : OptionalPlace) → place_in put ≡ Some place
-    → places_named new.names ≡ (name, put) ∷ places_named old.names
-    → (other : Name) → place_of new other ≡ cond (same_name other name) (Some place) (place_of old other)
-place_put old new name place put at names other =
-    rw names (by (same_name other name))
-  where
-    by : (b : Bool) → option_and_then place_in (cond b (Some put) (lookup (same_name other) (places_named old.names))) ≡ cond b (Some place) (place_of old other)
-    by true = at
-    by false = refl
-
-pub place_itself : (old new : FileTable) (name : Name) (place : ℕ) (put : OptionalPlace) → place_in put ≡ Some place
-    → places_named new.names ≡ (name, put) ∷ places_named old.names → place_of new name ≡ Some place
-place_itself old new name place put at names = place_put old new name place put at names name ∙ rw (name_itself name) refl
-
-pub within_put : (count : ℕ) (entries : List (Name × OptionalPlace)) (name : Name) (place : ℕ) (put : OptionalPlace) → place_in put ≡ Some place
-    → place < count → ((other : Name) (there : ℕ) → place_among entries other ≡ Some there → there < count)
-    → (other : Name) (there : ℕ) → place_among ((name, put) ∷ entries) other ≡ Some there → there < count
-within_put count entries name place put at below within other there =
-    elim (same_name other name) as (λ b. option_and_then place_in (cond b (Some put) (lookup (same_name other) entries)) ≡ Some there → there < count) [
-      | true ↦ λ e. let same = same_Some place there (sym at ∙ e) in omega (arith, same, below)
-      | false ↦ within other there
-    ]
-
-some_put : (b : Bool) (r : Option OptionalPlace) (put : OptionalPlace) → IsSome r → IsSome (cond b (option_map (λ _. put) r) r)
+some_put : {T : Type 0} (b : Bool) (r : Option T) (put : T) → IsSome r → IsSome (cond b (option_map (λ _. put) r) r)
 some_put b None put some = absurd (cc some)
 some_put true (Some place) put some = refl
 some_put false (Some place) put some = refl
 
-is_put : (r : Option OptionalPlace) {put held : OptionalPlace} → option_map (λ (_ : OptionalPlace). put) r ≡ Some held → put ≡ held
+is_put : {T : Type 0} (r : Option T) {put held : T} → option_map (λ (_ : T). put) r ≡ Some held → put ≡ held
 is_put None e = absurd (cc e)
 is_put (Some place) e = same_Some _ _ e
 
-module _ {main : Main} {modules : List ModuleVersion} {old : FileTable} (new : FileTable) {number : ℕ} {name : Name} (place : ℕ) (put : OptionalPlace)
-    (is : IsNewFile main modules old number name) (notes : NotesFor old new number place)
-    (puts : (other : Name) → replacing_place new other
-    ≡ cond (same_name other name) (option_map (λ _. put) (replacing_place old other)) (replacing_place old other))
-    (at : place_in put ≡ Some place) (names : places_named new.names ≡ (name, put) ∷ places_named old.names) where
-  placed : (other : Name) → place_of new other ≡ cond (same_name other name) (Some place) (place_of old other)
-  placed = place_put old new name place put at names
-
+module _ {main : Main} {modules : List ModuleVersion} {old : FileTable} (new : FileTable) {number : ℕ} {name : Name} {kept : Kept} {place : ℕ}
+    (is : IsNewFile main modules old number name) (adds : Adds old new name number kept place) where
   -- It is this name, or nothing changes for the other one.
   put_cases : (other : Name)
-      → ((other ≡ name) × (place_of new other ≡ Some place) × (replacing_place new other ≡ option_map (λ _. put) (replacing_place old other)))
+      → ((other ≡ name) × (place_of new other ≡ Some place) × (replacing_place new other ≡ option_map (λ _. Some place) (replacing_place old other)))
       ⊎ ((place_of new other ≡ place_of old other) × (replacing_place new other ≡ replacing_place old other))
   put_cases other = elim (cases_Bool (same_name other name)) [
-    | inl same ↦ inl (names_equal other name same, placed other ∙ rw same refl, puts other ∙ rw same refl)
-    | inr apart ↦ inr (placed other ∙ rw apart refl, puts other ∙ rw apart refl)
+    | inl same ↦ inl (names_equal other name same, adds.named other ∙ rw same refl, adds.replacing other ∙ rw same refl)
+    | inr apart ↦ inr (adds.named other ∙ rw apart refl, adds.replacing other ∙ rw apart refl)
   ]
 
   -- Each place that is noted is that of the file, and each place is noted.
   pub notes_put : NotesFiles main modules old → NotesFiles main modules new
   notes_put were = record {
-    has_replacing = λ x some. rw (puts (file_of main x)) (some_put _ _ put (were.has_replacing x some));
-    modules_noted = λ k there e. elim (noted_cases old new number place notes k) [
+    has_replacing = λ x some. rw (adds.replacing (file_of main x)) (some_put _ _ (Some place) (were.has_replacing x some));
+    modules_noted = λ k there e. elim (noted_cases old new number place adds.noted k) [
       | inl here ↦ rw (sym here.0) (record {
-        placed = rw (sym is.named) (placed name ∙ rw (name_itself name) (sym here.1 ∙ e));
+        placed = rw (sym is.named) (adds.named name ∙ rw (name_itself name) (sym here.1 ∙ e));
         askable = rw (sym is.named) is.askable;
       })
       | inr same ↦ (let one = were.modules_noted k there (sym same ∙ e) in record {
@@ -112,14 +81,14 @@ module _ {main : Main} {modules : List ModuleVersion} {old : FileTable} (new : F
       })
     ];
     replacing_noted = λ other held e. elim (put_cases other) [
-      | inl here ↦ ap place_in (sym (is_put _ (sym here.2 ∙ e))) ∙ at ∙ sym here.1
-      | inr stays ↦ were.replacing_noted other held (sym stays.1 ∙ e) ∙ sym stays.0
+      | inl here ↦ here.1 ∙ is_put _ (sym here.2 ∙ e)
+      | inr stays ↦ stays.0 ∙ were.replacing_noted other held (sym stays.1 ∙ e)
     ];
     others_noted = λ other unnoted none. elim (put_cases other) [
       | inl here ↦ (
-          let noted : place_noted new number ≡ Some place = notes number ∙ rw ((Decides-eqb number number).1 refl) refl in
+          let noted : place_noted new number ≡ Some place = adds.noted number ∙ rw ((Decides-eqb number number).1 refl) refl in
           absurd (cc (sym noted ∙ unnoted number is.within (here.0 ∙ is.named))))
-      | inr stays ↦ stays.0 ∙ were.others_noted other (λ k below named. noted_before old new number place notes k (unnoted k below named)) (sym stays.1 ∙ none)
+      | inr stays ↦ stays.0 ∙ were.others_noted other (λ k below named. noted_before old new number place adds.noted k (unnoted k below named)) (sym stays.1 ∙ none)
     ];
   }
 
@@ -139,7 +108,7 @@ module _ {main : Main} {modules : List ModuleVersion} {old new : FileTable} (oth
         rw others.names (were.others_noted name (λ k below named. before k (unnoted k below named)) (rw others.replacing at none));
   }
 
-  pub notes_kept : ((k : ℕ) → place_noted new k ≡ place_noted old k) → NotesFiles main modules old → NotesFiles main modules new
+  pub notes_kept : KeepsNoted old new → NotesFiles main modules old → NotesFiles main modules new
   notes_kept noted were = notes_by (λ k at e. were.modules_noted k at (sym (noted k) ∙ e)) (λ k none. sym (noted k) ∙ none) were
 
   -- The place of a module's file is noted for the module.
@@ -177,68 +146,65 @@ still_there : (files : List Kept) (kept : Kept) (place : Option ℕ) → ((numbe
 still_there files kept None within = refl
 still_there files kept (Some number) within = before files kept number (within number refl)
 
-pub files_kept : (old new : FileTable) (kept : Kept) → new.files.items ≡ old.files.items ++ kept ∷ [] → new.names.items ≡ old.names.items
-    → KeepsFiles old new
-files_kept old new kept more names = λ name. rw more (rw names (still_there old.files.items kept (place_of old name) (old.within name)))
-
-pub file_added : (old new : FileTable) (name : Name) (kept : Kept) (place : ℕ) (put : OptionalPlace)
-    → new.files.items ≡ old.files.items ++ kept ∷ [] → place ≡ length old.files.items → place_in put ≡ Some place
-    → places_named new.names ≡ (name, put) ∷ places_named old.names → PutsFile old new name kept
-file_added old new name kept noted put more last at names = λ other.
-    rw more (rw (place_put old new name noted put at names other) (by (same_name other name) (place_of old other) (old.within other)))
+pub file_added : (old new : FileTable) {name : Name} {number : ℕ} {kept : Kept} {noted : ℕ} → Adds old new name number kept noted
+    → PutsFile old new name kept
+file_added old new {name} {number} {kept} {noted} adds = λ other.
+    rw (adds.files, adds.named other) (by (same_name other name) (place_of old other) (old.within other))
   where
     by : (b : Bool) (place : Option ℕ) → ((number : ℕ) → place ≡ Some number → number < length old.files.items)
         → option_and_then (slice_get (old.files.items ++ kept ∷ [])) (cond b (Some noted) place)
         ≡ cond b (Some kept) (option_and_then (slice_get old.files.items) place)
-    by true = λ place is. rw last (last_one old.files.items kept)
+    by true = λ place is. rw adds.last (last_one old.files.items kept)
     by false = still_there old.files.items kept
 
 -- ---- the files of replacements
 
--- A value was set for one name; the other names have theirs.
-set_found : {K : Type 0} (at found : K → Bool) (b : Bool) (entries : List (K × OptionalPlace)) (place : OptionalPlace)
-    → ((k : K) → at k ≡ true → found k ≡ b) → ((k : K) → b ≡ true → found k ≡ at k)
-    → lookup found (set_value at entries place) ≡ cond b (option_map (λ _. place) (lookup found entries)) (lookup found entries)
-set_found at found true [] place here same = refl
-set_found at found false [] place here same = refl
-set_found {K} at found b (entry ∷ entries) place here same = by (at entry.0) refl (set_found at found b entries place here same)
-  where
-    rest : Option OptionalPlace
-    rest = lookup found entries
+module _ {K : Type 0} (at found : K → Bool) (place : OptionalPlace) where
+  -- A value was set, and is found if one was found.
+  set_itself : ((k : K) → found k ≡ at k) → (entries : List (K × OptionalPlace))
+      → lookup found (set_value at entries place) ≡ option_map (λ _. place) (lookup found entries)
+  set_itself same [] = refl
+  set_itself same (entry ∷ entries) = elim (cases_Bool (at entry.0)) [
+    | inl is ↦ rw (is, same entry.0, is) refl
+    | inr other ↦ rw (other, same entry.0, other) (set_itself same entries)
+  ]
 
-    first : (b : Bool) → cond b (Some place) rest ≡ cond b (option_map (λ _. place) (cond b (Some entry.1) rest)) (cond b (Some entry.1) rest)
-    first true = refl
-    first false = refl
+  -- Others are found as they were.
+  set_others : ((k : K) → at k ≡ true → found k ≡ false) → (entries : List (K × OptionalPlace))
+      → lookup found (set_value at entries place) ≡ lookup found entries
+  set_others apart [] = refl
+  set_others apart (entry ∷ entries) = elim (cases_Bool (at entry.0)) [
+    | inl is ↦ rw (is, apart entry.0 is) refl
+    | inr other ↦ rw other (ap (cond (found entry.0) (Some entry.1)) (set_others apart entries))
+  ]
 
-    further : (b c : Bool) → (b ≡ true → c ≡ false)
-        → cond c (Some entry.1) (cond b (option_map (λ _. place) rest) rest)
-        ≡ cond b (option_map (λ _. place) (cond c (Some entry.1) rest)) (cond c (Some entry.1) rest)
-    further false c apart = refl
-    further true true apart = let never : true ≡ false = apart refl in absurd (cc never)
-    further true false apart = refl
+place_set : (held : Option OptionalPlace) (place : OptionalPlace) (at : ℕ) → place_in place ≡ Some at
+    → option_map place_in (option_map (λ _. place) held) ≡ option_map (λ _. Some at) (option_map place_in held)
+place_set None place at is = refl
+place_set (Some was) place at is = ap Some is
 
-    by : (t : Bool) → at entry.0 ≡ t → lookup found (set_value at entries place) ≡ cond b (option_map (λ _. place) rest) rest
-        → lookup found (cond t ((entry.0, place) ∷ entries) (entry ∷ set_value at entries place))
-        ≡ cond b (option_map (λ _. place) (cond (found entry.0) (Some entry.1) rest)) (cond (found entry.0) (Some entry.1) rest)
-    by true is ih = rw (here entry.0 is) (first b)
-    by false is ih = rw ih (further b (found entry.0) (λ so. same entry.0 so ∙ is))
+-- the place that is noted for the file of a name
+abbrev place_held : List (FileName × OptionalPlace) → Name → Option (Option ℕ)
+place_held entries name = option_map place_in (lookup (λ file. same_name name (name_of file)) entries)
 
 -- The place of the file of this name was set, if it had one.
-pub replacing_set : (entries : List (FileName × OptionalPlace)) (name : FileName) (place : OptionalPlace) (other : Name)
-    → lookup (λ file. same_name other (name_of file)) (set_value (λ file. is_eq (cmp-value.it name file)) entries place)
-    ≡ cond (same_name other (name_of name)) (option_map (λ _. place) (lookup (λ file. same_name other (name_of file)) entries))
-    (lookup (λ file. same_name other (name_of file)) entries)
-replacing_set entries name place other =
-    set_found (λ file. is_eq (cmp-value.it name file)) (λ file. same_name other (name_of file)) (same_name other (name_of name)) entries place
-    (λ file at. ap (same_name other) (sym (names_equal (name_of name) (name_of file) (sym (same_name_from_cmp name file) ∙ at))))
-    (λ file same. ap (λ (n : Name). same_name n (name_of file)) (names_equal other (name_of name) same) ∙ sym (same_name_from_cmp name file))
+pub replacing_set : (entries : List (FileName × OptionalPlace)) (name : FileName) (place : OptionalPlace) (at : ℕ) → place_in place ≡ Some at
+    → (other : Name) → place_held (set_value (λ file. is_eq (cmp-value.it name file)) entries place) other
+    ≡ cond (same_name other (name_of name)) (option_map (λ _. Some at) (place_held entries other)) (place_held entries other)
+replacing_set entries name place at noted other = elim (cases_Bool (same_name other (name_of name))) [
+  | inl same ↦ rw same
+      (ap (option_map place_in) (set_itself (λ file. is_eq (cmp-value.it name file)) (λ file. same_name other (name_of file)) place
+      (λ file. ap (λ (n : Name). same_name n (name_of file)) (names_equal other (name_of name) same) ∙ sym (same_name_from_cmp name file)) entries)
+      ∙ place_set _ place at noted)
+  | inr apart ↦ rw apart
+      (ap (option_map place_in) (set_others (λ file. is_eq (cmp-value.it name file)) (λ file. same_name other (name_of file)) place
+      (λ file here. ap (same_name other) (sym (names_equal (name_of name) (name_of file) (sym (same_name_from_cmp name file) ∙ here))) ∙ apart) entries))
+]
 
 -- It had none.
-pub none_set : (entries : List (FileName × OptionalPlace)) (name : Name) (place : OptionalPlace) (other : Name)
-    → lookup (λ file. same_name name (name_of file)) entries ≡ None
-    → lookup (λ file. same_name other (name_of file)) entries
-    ≡ cond (same_name other name) (option_map (λ _. place) (lookup (λ file. same_name other (name_of file)) entries))
-    (lookup (λ file. same_name other (name_of file)) entries)
+pub none_set : (entries : List (FileName × OptionalPlace)) (name : Name) (place : Option ℕ) (other : Name)
+    → lookup (λ file. same_name name (name_of file)) entries ≡ None → place_held entries other
+    ≡ cond (same_name other name) (option_map (λ _. place) (place_held entries other)) (place_held entries other)
 none_set entries name place other none = elim (cases_Bool (same_name other name)) [
   | inl same ↦ rw same (rw (names_equal other name same) (rw none refl))
   | inr apart ↦ rw apart refl

@@ -6,6 +6,7 @@ use Rattle.std.specs.Map.{lookup}
 use Rattle.std.specs.Option.{IfSome, IsSome, option_map, option_or}
 use Rattle.std.proofs.lemmas.List.Elements.{All-head, All-more, All-tail, All-weaker}
 use Rattle.gm_name.specs.ModuleVersion.{ModuleVersion}
+use Rattle.gm_name_table.specs.OptionalPlaces.{place_in}
 use Rattle.gm_name_table.specs.declared.place.OptionalPlace.{OptionalPlace}
 use Rattle.gm_file.specs.Directives.{Left, Replacing, Right, left_with, left_without}
 use Rattle.gm_file.specs.Faults.{is_same_left}
@@ -21,7 +22,7 @@ use Rattle.gm_graph_files.specs.Reading.{file_named, file_of}
 
 -- A place is noted for the file of a name.
 abbrev pub HasName : List (FileName × OptionalPlace) → Name → Type 0
-HasName entries name = IsSome (lookup (λ file. same_name name (name_of file)) entries)
+HasName entries name = IsSome (option_map place_in (lookup (λ file. same_name name (name_of file)) entries))
 
 -- A place is noted for the file of this replacement, whatever it replaces.
 abbrev pub HasRight : List (FileName × OptionalPlace) → Right → Type 0
@@ -34,7 +35,8 @@ HasLine entries line = HasRight entries (right_view line.right)
 -- ---- one more name
 
 -- What was found is found still, if one place more is put.
-some_still : (b : Bool) (r : Option OptionalPlace) (place : OptionalPlace) → IsSome r → IsSome (cond b (Some place) r)
+some_still : (b : Bool) (r : Option OptionalPlace) (place : OptionalPlace) → IsSome (option_map place_in r)
+    → IsSome (option_map place_in (cond b (Some place) r))
 some_still true r place some = refl
 some_still false r place some = some
 

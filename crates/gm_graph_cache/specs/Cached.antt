@@ -37,12 +37,12 @@ abbrev pub sums_in : Cache → Option Sums
 sums_in cache = option_copied cache.sums
 
 -- the turns of a history, in order
-abbrev pub asked_turns : History ModuleVersion Depth → List Turn
-asked_turns history = map (λ one. turn one.0 one.1) history.items
+abbrev pub turns_held : History ModuleVersion Depth → List Turn
+turns_held history = map (λ one. turn one.0 one.1) history.items
 
 -- the turns whose requirements were requested
 abbrev pub turns_in : Cache → List Turn
-turns_in cache = asked_turns cache.turns
+turns_in cache = turns_held cache.turns
 
 -- the modules that have numbers, each at the place that is its number
 abbrev pub table_in : Cache → List ModuleVersion
@@ -144,10 +144,13 @@ pub record HasTurns (old new : Cache) (all : List Turn) : Type 0 where
 abbrev pub HasMoreTurns : Cache → Cache → List Turn → Type 0
 HasMoreTurns old new more = HasTurns old new (turns_in old ++ more)
 
+-- Once the borrow of what a call lends ends, this is so of the cache.
+abbrev pub HoldsAfterBorrow : MutBor Cache → (Cache → Type 0) → Fml
+HoldsAfterBorrow cache Is = Rests (the_row (record { mir = named 1; lft = [] })) cache Is
+
 -- Once the borrow of the requirements ends, the cache has one more turn. If the call was refused, it has the same.
 abbrev pub LendsNamed : {T E : Type 0} → MutBor Cache → Turn → Result T E → Fml
-LendsNamed cache one result =
-    Rests (the_row (record { mir = named 1; lft = [] })) cache
+LendsNamed cache one result = HoldsAfterBorrow cache
     (λ end. MatchResult result (λ _. HasMoreTurns cache.now end (one ∷ [])) (λ _. HasMoreTurns cache.now end []))
 
 -- the module with a number
@@ -160,8 +163,6 @@ pub record ArePartsOf (cache : Cache) (parts : CacheParts) : Type 0 where
   pub numbers : parts.numbers.items ≡ cache.modules.numbers
   pub first : parts.first ≡ cache.first
   pub files : parts.files ≡ cache.files.files
-
--- ---- what changes
 
 -- The cache knows these answers, and comes after one that knew those: the main file and the go.sum are the same, and
 -- what files said, the numbers of modules and the places of lists stay.
@@ -177,7 +178,3 @@ pub record Follows (old : Cache) (earlier : List (Name × Reply)) (new : Cache) 
 -- The request that was refused last was for the file with this name.
 abbrev pub HasFailedOn : Cache → Name → Type 0
 HasFailedOn cache name = IsSomeAnd cache.failed (λ file. name_of file ≡ name)
-
--- Once the borrow of what a call lends ends, this is so of the cache.
-abbrev pub HoldsAfterBorrow : MutBor Cache → (Cache → Type 0) → Fml
-HoldsAfterBorrow cache Is = Rests (the_row (record { mir = named 1; lft = [] })) cache Is

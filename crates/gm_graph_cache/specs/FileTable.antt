@@ -4,8 +4,7 @@ use Rattle.std.specs.Option.{option_and_then}
 use Rattle.gm_store_parts.specs.Asked.{Name}
 use Rattle.gm_graph_cache.specs.declared.cache.file_table.FileTable.{FileTable}
 use Rattle.gm_graph_files.specs.declared.summary.Kept.{Kept}
-use Rattle.gm_graph_cache.specs.FileNames.{places_named}
-use Rattle.gm_graph_files.specs.Places.{place_among}
+use Rattle.gm_graph_cache.specs.FileNames.{place_among, places_named}
 
 -- the place of the file of a name
 abbrev pub place_of : FileTable → Name → Option ℕ

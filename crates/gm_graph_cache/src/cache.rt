@@ -1,4 +1,5 @@
-//! What modules' files say, or their faults, and the cache that reads them. The modules in the folder have its parts.
+//! The cache that asks a store for modules' files, and keeps what they say, or their faults. The modules in the folder
+//! have its parts.
 //!
 //! A vertex of the module graph is a module path at a version. Which file a vertex has depends on the main module's
 //! file: a `replace` may put a folder or another module in its place. That file is asked of a store, checked
@@ -16,6 +17,7 @@ pub(crate) mod by_name;
 pub(crate) mod file_table;
 pub(crate) mod lent;
 pub(crate) mod load_fault;
+pub(crate) mod lookup;
 pub(crate) mod naming;
 pub(crate) mod parts;
 pub(crate) mod paths;
@@ -40,11 +42,13 @@ ghost use Rattle.gm_graph_files.specs.NotedLists.{NotesAll};
 ghost use Rattle.gm_graph_cache.specs.Lent.{lent_modules};
 ghost use Rattle.gm_graph_files.specs.Summaries.{at_span, summary_reading};
 ghost use Rattle.gm_graph_files.specs.KeptFiles.{AreListsInOrder, IsKeptIn, span_found};
+ghost use Rattle.gm_graph_files.proofs.KeptFacts.{kept_is_fact};
 ghost use Rattle.gm_graph_files.specs.Private.Summaries.{order_is_fact};
 
 use crate::cache::file_table::FileTable;
 use crate::cache::lent::Lent;
 use crate::cache::load_fault::LoadFault;
+use crate::cache::lookup::Lookup;
 use crate::cache::naming::{file_name, is_askable};
 use crate::cache::parts::CacheParts;
 use crate::cache::paths::is_right_path;
@@ -84,7 +88,7 @@ pub struct Cache<'a> {
     turns: History<ModVer, Depth>,
     /// The name of the file of the last request that was refused.
     failed: Option<FileName>,
-    ghost consistent: { IsConsistent main.now (option_copied sums) first modules files } by { Prim.hlevel (props, order_is_fact) },
+    ghost consistent: { IsConsistent main.now (option_copied sums) first modules files } by { Prim.hlevel (props, order_is_fact, kept_is_fact) },
     ghost notes: { NotesAll lists (own_lists modules.numbers files.files.items) } by { Prim.hlevel props },
 }
 
@@ -110,8 +114,8 @@ impl<'a> Cache<'a> {
     ghost use Rattle.std.specs.Borrow.{sem};
     ghost use Rattle.std.specs.List.{IsDistinct};
     ghost use Rattle.gm_name.specs.ModuleVersion.{pair_eq};
-    ghost use Rattle.gm_graph_cache.specs.Cached.{HasTurns, HoldsSame, Knows, LentSame, file_count, main_in, run_in, sums_in, table_in, turns_in, asked_turns, ArePartsOf, Follows, HasFailedOn, HoldsAfterBorrow, module_numbered};
-    ghost use Rattle.gm_graph_cache.specs.Private.Cached.{IsPlaceFor};
+    ghost use Rattle.gm_graph_cache.specs.Cached.{HasTurns, HoldsSame, Knows, LentSame, file_count, main_in, run_in, sums_in, table_in, turns_in, turns_held, ArePartsOf, Follows, HasFailedOn, HoldsAfterBorrow, module_numbered};
+    ghost use Rattle.gm_graph_cache.specs.Private.Cached.{IsLookup, IsPlaceFor, MakesKnown};
     ghost use Rattle.gm_graph_cache.specs.Lent.{lent_table};
     ghost use Rattle.gm_graph_cache.specs.declared.cache.Cache.{Cache};
     ghost use Rattle.gm_graph_cache.specs.Visits.{HasVisited, IsVisit};
@@ -206,6 +210,48 @@ impl<'a> Cache<'a> {
         Lent::at(&self.modules, span)
     }
 
+    /// What is known of the file of the vertex with a number, without asking. The only refusal is `NoMemory`.
+    fn look_up(&self, number: u32) -> Result<Lookup, NoMemory>
+        requires { number < length (table_in self.now) }
+        ensures { IfOk result (IsLookup self.now (module_numbered self.now number)) }
+    {
+        if let Some(place) = self.files.noted_place(number) {
+            return Ok(Lookup::Noted(place));
+        }
+        let name = file_name(self.alloc, self.main, self.modules.module(number))?;
+        if !is_askable(&name) {
+            return Ok(Lookup::NotFetchable);
+        }
+        match self.files.replacing_place(&name) {
+            Some(place) => Ok(Lookup::Replacing(place)),
+            None => Ok(Lookup::New(name)),
+        }
+    }
+
+    /// Asks for the file with this name, which is that of the vertex with a number, and of which nothing is kept. Keeps
+    /// what it says, and returns its place.
+    fn read_new<F: Asks>(
+        &mut self,
+        files: &mut F,
+        number: u32,
+        name: FileName,
+    ) -> Result<Option<u32>, AskFault>
+        requires knows { Knows self.old (F.state files.old).asked }
+        requires vertex { number < length (table_in self.old) }
+        requires few { file_count self.old < place_limit }
+        requires new { IsLookup self.old (module_numbered self.old number) (Lookup.New name) }
+        ensures { MakesKnown self.old self.new number (F.may_answer files.old) (F.may_answer files.new)
+            (F.state files.old) (F.state files.new) result }
+    {
+        match self.read_file(files, &name) {
+            Ok(kept) => Ok(Some(self.files.add(&name, number, kept)?)),
+            Err(fault) => {
+                self.failed = Some(name);
+                Err(fault)
+            }
+        }
+    }
+
     /// Makes the file of the vertex with a number known, and returns its place, or `None` if it comes from a proxy and
     /// its path isn't fetchable. The store is asked for the file unless it is known already.
     ///
@@ -216,35 +262,18 @@ impl<'a> Cache<'a> {
         requires knows { Knows self.old (F.state files.old).asked }
         requires vertex { number < length (table_in self.old) }
         requires few { file_count self.old < place_limit }
-        ensures count { file_count self.new ≤ file_count self.old + 1 }
-        ensures known { IfOk result (λ place.
-            Follows self.old (F.state files.old).asked self.new (F.state files.new).asked
-            × IsPlaceFor self.new (module_numbered self.old number) place) }
-        ensures lent { LentSame self.old self.new }
-        ensures err { OnErr result (HoldsSame self.old self.new) }
-        ensures asks { AsksOne (IsAskableFile (main_in self.old) (module_numbered self.old number))
-            (F.may_answer files.old) (F.may_answer files.new) (F.state files.old) (F.state files.new)
-            (refused_for (file_of (main_in self.old) (module_numbered self.old number)) result) }
-        ensures failed { result ≡ Err AskFault.Device
-            → HasFailedOn self.new (file_of (main_in self.old) (module_numbered self.old number)) }
+        ensures { MakesKnown self.old self.new number (F.may_answer files.old) (F.may_answer files.new)
+            (F.state files.old) (F.state files.new) result }
     {
-        if let Some(place) = self.files.noted_place(number) {
-            return Ok(Some(place));
-        }
-        let name = file_name(self.alloc, self.main, self.modules.module(number))?;
-        if !is_askable(&name) {
-            return Ok(None);
-        }
-        if let Some(place) = self.files.replacing_place(&name) {
-            self.files.note(number, place)?;
-            return Ok(Some(place));
-        }
-        match self.read_file(files, &name) {
-            Ok(kept) => Ok(Some(self.files.add(&name, number, kept)?)),
-            Err(fault) => {
-                self.failed = Some(name);
-                Err(fault)
+        let found = self.look_up(number)?;
+        match found {
+            Lookup::Noted(place) => Ok(Some(place)),
+            Lookup::NotFetchable => Ok(None),
+            Lookup::Replacing(place) => {
+                self.files.note(number, place)?;
+                Ok(Some(place))
             }
+            Lookup::New(name) => self.read_new(files, number, name),
         }
     }
 
@@ -284,7 +313,7 @@ impl<'a> Cache<'a> {
         ensures modules { lent_modules result ≡ at_span (modules_of self.old.modules)
             (span_found (option_and_then (slice_get self.old.files.files.items) place)) }
         ensures table { lent_table result ≡ table_in self.old }
-        ensures* after { sem 𝓛 (HoldsAfterBorrow self.entry (λ end. HasTurns self.entry.now end (asked_turns turns))) }
+        ensures* after { sem 𝓛 (HoldsAfterBorrow self.entry (λ end. HasTurns self.entry.now end (turns_held turns))) }
     {
         let span = self.files.span_of(place);
         self.turns = turns;

@@ -1,5 +1,5 @@
 -- Own lists, and the places that are noted for them.
-use Rattle.std.proofs.Common.{◌≡◌, ◌∙◌, ◌≤◌, ◌++◌, ◌∷◌, [], ℕ, List, None, Option, Some, ap, arith, cond, inl, inr, length, refl, sym, take}
+use Rattle.std.proofs.Common.{◌≡◌, ◌∙◌, ◌≤◌, ◌++◌, ◌∷◌, [], ℕ, List, None, Option, Some, ap, arith, cond, inl, inr, length, refl, sym}
 use Rattle.std.specs.Prelude.{is_some, slice_get}
 use Rattle.std.proofs.lemmas.List.{length-map}
 use Rattle.std.proofs.lemmas.Option.{same_Some}
@@ -11,15 +11,14 @@ use Rattle.gm_graph_files.specs.declared.summary.Kept.TheVariants.{Valid, Faulty
 use Rattle.gm_graph_files.specs.declared.summary.Summary.{Summary}
 use Rattle.gm_graph_files.specs.KeptLists.{AreKeptOnce, own_list, own_lists}
 use Rattle.gm_graph_files.specs.NotedLists.{NotesAll, place_for}
-use Rattle.gm_graph_files.specs.KeptFiles.{AreKeptIn, Grows, IsWithinList}
-use Rattle.gm_graph_files.specs.Private.Summaries.{cut}
-use Rattle.gm_graph_files.proofs.SharedLists.{cut_appends, cut_listed, push_cases}
+use Rattle.gm_graph_files.specs.KeptFiles.{AreKeptIn, Grows, IsWithinList, front_of}
+use Rattle.gm_graph_files.proofs.SharedLists.{cut_appends, push_cases}
 use Rattle.gm_graph_files.proofs.Spans.{part_still}
 
 -- Own lists stay where they are if the list of modules grows at its end.
 pub lists_still : (old new : NumberedList) (files : List Kept) → BeginsWith old.numbers new.numbers
     → AreKeptIn (modules_of old) files → own_lists new.numbers files ≡ own_lists old.numbers files
-lists_still old new files begins are = λ i place. by (slice_get files place) (λ summary there. (are place summary there).0) i
+lists_still old new files begins are = λ i place. by (slice_get files place) (λ summary there. (are place (Valid summary) there).0) i
   where
     by : (o : Option Kept) → ((summary : Summary) → o ≡ Some (Valid summary) → IsWithinList (modules_of old) summary.list.span)
         → own_list new.numbers o ≡ own_list old.numbers o
@@ -31,11 +30,10 @@ lists_still old new files begins are = λ i place. by (slice_get files place) (�
         (omega (arith, span.within, length-map old.numbers (module_at old.modules))))
 
 -- They are the same in each list that begins with a front, in which they are.
-pub lists_beside : (old new : NumberedList) (start : ℕ) (files : List Kept) → AreKeptIn (take start (modules_of old)) files
-    → Grows (cut start old) new → own_lists new.numbers files ≡ own_lists old.numbers files
+pub lists_beside : (old new : NumberedList) (start : ℕ) (files : List Kept) → AreKeptIn (modules_of (front_of start old)) files
+    → Grows (front_of start old) new → own_lists new.numbers files ≡ own_lists old.numbers files
 lists_beside old new start files are grows =
-    let listed = cut_listed old start files are in
-    lists_still (cut start old) new files grows.1.kept listed ∙ sym (lists_still (cut start old) old files (cut_appends old start).kept listed)
+    lists_still (front_of start old) new files grows.1.kept are ∙ sym (lists_still (front_of start old) old files (cut_appends old start).kept are)
 
 module _ (index : ListIndex) (numbers : List ℕ) (files : List Kept) (notes : NotesAll index (own_lists numbers files)) where
   pub kept_once : AreKeptOnce (own_lists numbers files)

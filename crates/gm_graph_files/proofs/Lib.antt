@@ -5,3 +5,4 @@ pub mod Spans
 pub mod SharedLists
 pub mod KeptLists
 pub mod Ordered
+pub mod KeptFacts

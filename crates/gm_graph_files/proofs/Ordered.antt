@@ -1,7 +1,6 @@
 -- Files whose own lists are in order.
-use Rattle.std.proofs.Common.{◌≡◌, ◌≤◌, ◌∙◌, ◌⊎◌, ◌++◌, ◌∷◌, [], ℕ, List, None, Option, Some, append-nil, arith, inl, inr, map, sym}
+use Rattle.std.proofs.Common.{◌≤◌, ◌++◌, ◌∷◌, [], ℕ, List, None, Option, Some, arith, map}
 use Rattle.std.proofs.lemmas.List.{map-append}
-use Rattle.gm_name_table.specs.Listed.{BeginsWith}
 use Rattle.gm_graph_files.specs.declared.summary.Kept.{Kept}
 use Rattle.gm_graph_files.specs.declared.summary.ListSpan.{ListSpan}
 use Rattle.gm_graph_files.specs.Summaries.{own_span}
@@ -35,19 +34,3 @@ pub order_push : (from : ℕ) (files : List Kept) (mid : ℕ) (one : Kept) (to :
     → AreListsInOrder mid (one ∷ []) to → AreListsInOrder from (files ++ one ∷ []) to
 order_push from files mid one to are last =
     rw map-append (spans_push from (own_spans files) mid (own_span one) to are last)
-
--- ---- the files of a cache, to which one was added, or none
-
-module _ (old new : List Kept) (one : Kept) (adds : (new ≡ old) ⊎ (new ≡ old ++ one ∷ [])) where
-  -- What the files have before, and with one file more, they have.
-  pub has_added : (P : List Kept → Type 0) → P old → P (old ++ one ∷ []) → P new
-  has_added P are more = elim adds [
-    | inl same ↦ rw same are
-    | inr pushed ↦ rw pushed more
-  ]
-
-  pub begins_added : BeginsWith old new
-  begins_added = elim adds [
-    | inl same ↦ ([], same ∙ sym (append-nil old))
-    | inr pushed ↦ (one ∷ [], pushed)
-  ]

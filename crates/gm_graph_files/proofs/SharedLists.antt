@@ -1,10 +1,10 @@
 -- Files with the requirements of an earlier one.
-use Rattle.std.proofs.Common.{◌≡◌, ◌∙◌, ◌<◌, ◌≤◌, ◌-◌, ◌⊎◌, ◌++◌, ◌∷◌, [], ℕ, zero, suc, Bool, true, List, None, Option, Some, ap, append-nil, arith, drop, false, inl, inr, length, refl, subst, sym, take}
+use Rattle.std.proofs.Common.{◌≡◌, ◌∙◌, ◌<◌, ◌≤◌, ◌-◌, ◌⊎◌, ◌++◌, ◌∷◌, [], ℕ, zero, suc, Bool, true, List, None, Option, Some, ap, append-nil, arith, drop, false, inl, inr, length, refl, sym, take}
 use Rattle.std.specs.Prelude.{is_some, nat_eq, not, slice_get}
 use Rattle.std.specs.Cmp.Lexicographic.{pointwise, same_text}
 use Rattle.std.specs.Option.{option_and_then}
 use Rattle.std.proofs.lemmas.List.{drop_at, length-append, length-drop, length-map, length-take-le, take-append-drop, take-map, take_all, take_at}
-use Rattle.std.proofs.lemmas.Option.{same_Some, slice_get_within}
+use Rattle.std.proofs.lemmas.Option.{option_and_then_some, same_Some, slice_get-map, slice_get_within}
 use Rattle.gm_name.specs.ModuleVersion.{ModuleVersion, module_at}
 use Rattle.gm_name_table.specs.Listed.{Appends, BeginsWith, NumberedList, modules_at, modules_of, part}
 use Rattle.gm_name_table.proofs.Listed.{appends_after, part_as}
@@ -14,10 +14,10 @@ use Rattle.gm_graph_files.specs.declared.summary.KeptList.{KeptList}
 use Rattle.gm_graph_files.specs.declared.summary.ListSpan.{ListSpan}
 use Rattle.gm_graph_files.specs.declared.summary.Summary.{Summary}
 use Rattle.gm_graph_files.specs.Summaries.{at_span, own_span, own_span_at, span_unless}
-use Rattle.gm_graph_files.specs.KeptFiles.{AreKeptIn, Grows, GrowsFrom, IsKeptIn, IsListIn, IsWithinList, span_found}
-use Rattle.gm_graph_files.specs.Private.Summaries.{AreWithinList, IsSameList, cut, list_place}
+use Rattle.gm_graph_files.specs.KeptFiles.{AreKeptIn, Grows, IsKeptIn, IsWithinList, front_of, span_found}
+use Rattle.gm_graph_files.specs.Private.Summaries.{IsSameList, list_place}
 use Rattle.gm_graph_files.proofs.Ordered.{own_spans}
-use Rattle.gm_graph_files.proofs.Spans.{IsKept, span_still, within_still}
+use Rattle.gm_graph_files.proofs.Spans.{span_still, within_still}
 
 -- ---- own lists
 
@@ -33,9 +33,7 @@ same_numbers xs ys e = by (pointwise nat_eq xs ys) refl e
     by false is e = absurd (cc e)
 
 own_within : (files : List Kept) (place : ℕ) (span : ListSpan) → own_span_at files place ≡ Some span → place < length files
-own_within [] place span e = absurd (cc e)
-own_within (file ∷ files) zero span e = omega arith
-own_within (file ∷ files) (suc place) span e = omega (arith, own_within files place span e)
+own_within files place span e = option_and_then_some own_span (slice_get files place) span e (λ one there _. slice_get_within files place one there)
 
 -- An own list stays if files come after.
 pub own_still : (files more : List Kept) (place : ℕ) (span : ListSpan) → own_span_at files place ≡ Some span
@@ -46,9 +44,8 @@ own_still (file ∷ files) more (suc place) span e = own_still files more place 
 
 pub own_there : (files : List Kept) (place : ℕ) (span : ListSpan) → own_span_at files place ≡ Some span
     → slice_get (own_spans files) place ≡ Some (Some span)
-own_there [] place span e = absurd (cc e)
-own_there (file ∷ files) zero span e = ap Some e
-own_there (file ∷ files) (suc place) span e = own_there files place span e
+own_there files place span e = slice_get-map own_span files place
+    ∙ option_and_then_some own_span (slice_get files place) span e (λ one there own. rw (there, own) refl)
 
 unless_some : (o : Option ℕ) (span found : ListSpan) → span_unless o span ≡ Some found → span ≡ found
 unless_some None span found e = same_Some span found e
@@ -73,25 +70,25 @@ push_cases (file ∷ files) last (suc place) one e = elim (push_cases files last
 ]
 
 module _ (modules : List ModuleVersion) where
-  pub kept_listed : (files : List Kept) (place : ℕ) (one : Kept) → AreKeptIn modules files → slice_get files place ≡ Some one
-      → IsKept modules one
-  kept_listed files place (Valid summary) are there = (are place summary there).0
-  kept_listed files place (Faulty class) are there = tt
-
   pub listed_grown : (more : List ModuleVersion) (files : List Kept) → BeginsWith modules more → AreKeptIn modules files
       → AreKeptIn more files
-  listed_grown more files begins are = λ place summary there.
-      let is = are place summary there in (within_still modules more summary.list.span begins is.0, is.1)
+  listed_grown more files begins are = λ place one there. grown one (are place one there)
+    where
+      grown : (one : Kept) → IsKeptIn modules files one → IsKeptIn more files one
+      grown (Valid summary) is = (within_still modules more summary.list.span begins is.0, is.1)
+      grown (Faulty class) is = tt
 
   -- one file more
   pub listed_push : (files : List Kept) (last : Kept) → AreKeptIn modules files → IsKeptIn modules files last
       → AreKeptIn modules (files ++ last ∷ [])
-  listed_push files last are is = λ place summary e.
-      let was : IsListIn modules files summary.list = elim (push_cases files last place (Valid summary) e) [
-        | inl there ↦ are place summary there
-        | inr here ↦ rw here.1 at is
-      ] in
-      (was.0, λ p shared. own_still files (last ∷ []) p summary.list.span (was.1 p shared))
+  listed_push files last are is = λ place one e. elim (push_cases files last place one e) [
+    | inl there ↦ still one (are place one there)
+    | inr here ↦ still one (rw here.1 at is)
+  ]
+    where
+      still : (one : Kept) → IsKeptIn modules files one → IsKeptIn modules (files ++ last ∷ []) one
+      still (Valid summary) was = (was.0, λ place shared. own_still files (last ∷ []) place summary.list.span (was.1 place shared))
+      still (Faulty class) was = tt
 
   -- The list of a valid file is the own one of the file that has it.
   pub list_owned : (files : List Kept) (place : ℕ) (summary : Summary) → AreKeptIn modules files
@@ -104,7 +101,7 @@ module _ (modules : List ModuleVersion) where
       by None e =
           rw (there, e) (slice_get_within files place (Valid summary) there, rw (there, e) refl)
       by (Some earlier) e =
-          let own = (are place summary there).1 earlier e in rw (there, e) (own_within files earlier summary.list.span own, own)
+          let own = (are place (Valid summary) there).1 earlier e in rw (there, e) (own_within files earlier summary.list.span own, own)
 
 -- ---- the list of modules, as it grows and is cut
 
@@ -113,15 +110,29 @@ front_is : {T : Type 0} (xs more : List T) (whole : List T) (count : ℕ) → wh
     → take count whole ≡ xs
 front_is xs more whole count is same = ap (take count) is ∙ take_at xs more count (sym same)
 
--- Files that are listed are listed in what the list has at its front.
-pub listed_front : (old mid : NumberedList) (files : List Kept) (start : ℕ) → start ≡ length old.numbers
-    → Grows old mid → AreKeptIn (modules_of old) files → AreKeptIn (take start (modules_of mid)) files
-listed_front old mid files start same grows are =
-    rw (front_is (modules_of old) grows.0 (modules_of mid) start grows.1.listed (same ∙ sym (length-map old.numbers (module_at old.modules)))) are
+module _ (before old : NumberedList) (start : ℕ) (same : start ≡ length before.numbers) (grows : Grows before old) where
+  -- What ends where another list was cut is its front, but for modules that have numbers.
+  cut_after : Appends before (front_of start old) []
+  cut_after = record {
+    numbered = grows.1.numbered;
+    kept = ([], front_is before.numbers grows.1.kept.0 old.numbers start grows.1.kept.1 same ∙ sym (append-nil before.numbers));
+    listed = sym (take-map (module_at old.modules) start old.numbers)
+        ∙ front_is (modules_of before) grows.0 (modules_of old) start grows.1.listed
+        (same ∙ sym (length-map before.numbers (module_at before.modules)))
+        ∙ sym (append-nil (modules_of before));
+  }
+
+  -- Files that are listed in it are listed in the front.
+  pub listed_front : (files : List Kept) → AreKeptIn (modules_of before) files → AreKeptIn (modules_of (front_of start old)) files
+  listed_front files are = listed_grown (modules_of before) (modules_of (front_of start old)) files ([], cut_after.listed) are
+
+  -- What grows from the front grows from it.
+  pub grown_after : (new : NumberedList) → Grows (front_of start old) new → Grows before new
+  grown_after new more = (more.0, appends_after before (front_of start old) new [] more.0 cut_after more.1)
 
 module _ (old : NumberedList) (start : ℕ) where
   -- A list is its front with others at its end.
-  pub cut_appends : Appends (cut start old) old (drop start (modules_of old))
+  pub cut_appends : Appends (front_of start old) old (drop start (modules_of old))
   cut_appends = record {
     numbered = ([], sym (append-nil old.modules));
     kept = (drop start old.numbers, sym (take-append-drop start old.numbers));
@@ -134,68 +145,42 @@ module _ (old : NumberedList) (start : ℕ) where
       (omega (arith, length-drop start (modules_of old), length-map old.numbers (module_at old.modules)))
 
   -- The span of an equal list has what is cut off.
-  pub cut_same : (span : ListSpan) → IsWithinList (modules_of (cut start old)) span
+  pub cut_same : (span : ListSpan) → IsWithinList (modules_of (front_of start old)) span
       → part span.start span.end old.numbers ≡ part start (length old.numbers) old.numbers
-      → at_span (modules_of (cut start old)) span ≡ drop start (modules_of old)
+      → at_span (modules_of (front_of start old)) span ≡ drop start (modules_of old)
   cut_same span within same =
-      sym (span_still (modules_of (cut start old)) (modules_of old) span (drop start (modules_of old), cut_appends.listed) within)
+      sym (span_still (modules_of (front_of start old)) (modules_of old) span (drop start (modules_of old), cut_appends.listed) within)
       ∙ sym (part_as old.modules old.modules old.numbers old.numbers span.start span.end refl refl)
       ∙ ap (modules_at old.modules) same
       ∙ part_as old.modules old.modules old.numbers old.numbers start (length old.numbers) refl refl
       ∙ end_part
 
-  pub cut_is : (new : NumberedList) → new.modules ≡ old.modules → new.numbers ≡ take start old.numbers → new ≡ cut start old
+  -- Files that are listed in the front are listed in each list that begins with it.
+  pub listed_after : (files : List Kept) → AreKeptIn (modules_of (front_of start old)) files → {new : NumberedList} → Grows (front_of start old) new
+      → AreKeptIn (modules_of new) files
+  listed_after files are {new} grows = listed_grown (modules_of (front_of start old)) (modules_of new) files (grows.0, grows.1.listed) are
+
+  pub cut_is : (new : NumberedList) → new.modules ≡ old.modules → new.numbers ≡ take start old.numbers → new ≡ front_of start old
   cut_is new modules numbers = λ i. record { modules = modules i; numbers = numbers i }
-
-  -- The front comes after what ends there, and what comes after the front does too.
-  cut_after : GrowsFrom start old (cut start old)
-  cut_after = λ before same grown. (
-    [],
-    record {
-      numbered = grown.1.numbered;
-      kept = (
-        [],
-        front_is before.numbers grown.1.kept.0 old.numbers start grown.1.kept.1 same ∙ sym (append-nil before.numbers),
-      );
-      listed = sym (take-map (module_at old.modules) start old.numbers)
-          ∙ front_is (modules_of before) grown.0 (modules_of old) start grown.1.listed
-          (same ∙ sym (length-map before.numbers (module_at before.modules)))
-          ∙ sym (append-nil (modules_of before));
-    },
-  )
-
-  pub grown_from : {new : NumberedList} → Grows (cut start old) new → GrowsFrom start old new
-  grown_from {new} grows = λ before same grown.
-      let was = cut_after before same grown in
-      (was.0 ++ grows.0, appends_after before (cut start old) new was.0 grows.0 was.1 grows.1)
-
-  module _ (files : List Kept) (are : AreKeptIn (take start (modules_of old)) files) where
-    pub cut_listed : AreKeptIn (modules_of (cut start old)) files
-    cut_listed = subst (λ (front : List ModuleVersion). AreKeptIn front files) (take-map (module_at old.modules) start old.numbers) are
-
-    -- Within each list that begins with the front are the requirements of all files that are listed in it.
-    pub all_within : {new : NumberedList} → Grows (cut start old) new → AreWithinList (modules_of new) files
-    all_within {new} grows = λ place summary there.
-        within_still (modules_of (cut start old)) (modules_of new) summary.list.span (grows.0, grows.1.listed) (cut_listed place summary there).0
 
 -- ---- a list that begins with the front of another
 
 module _ (old mid : NumberedList) (start : ℕ) (more : List ModuleVersion) (below : start ≤ length old.numbers)
-    (appends : Appends (cut start old) mid more) where
-  front_length : length (cut start old).numbers ≡ start
+    (appends : Appends (front_of start old) mid more) where
+  front_length : length (front_of start old).numbers ≡ start
   front_length = length-take-le start old.numbers below
 
   pub ends_after : start ≤ length mid.numbers
-  ends_after = omega (arith, front_length, ap length appends.kept.1, length-append (cut start old).numbers appends.kept.0)
+  ends_after = omega (arith, front_length, ap length appends.kept.1, length-append (front_of start old).numbers appends.kept.0)
 
   -- What comes after the front.
   pub rest_is : drop start (modules_of mid) ≡ more
   rest_is = ap (drop start) appends.listed
-      ∙ drop_at (modules_of (cut start old)) more start (length-map (cut start old).numbers (module_at old.modules) ∙ front_length)
+      ∙ drop_at (modules_of (front_of start old)) more start (length-map (front_of start old).numbers (module_at old.modules) ∙ front_length)
 
   -- If it is cut there, it is the front, and may have more modules with numbers.
-  pub cut_again : Grows (cut start old) (cut start mid)
-  cut_again = cut_after mid start (cut start old) (sym front_length) (more, appends)
+  pub cut_again : Grows (front_of start old) (front_of start mid)
+  cut_again = ([], cut_after (front_of start old) mid start (sym front_length) (more, appends))
 
 -- A list that was cut ends there.
 pub cut_length : (list : NumberedList) (start : ℕ) (new : NumberedList) → start ≤ length list.numbers → new.numbers ≡ take start list.numbers

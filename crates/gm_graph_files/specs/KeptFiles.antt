@@ -1,5 +1,5 @@
 -- Where the requirements of files that are kept are, in the list of modules.
-use Rattle.std.specs.Prelude.{◌≡◌, ◌≤◌, ◌∷◌, [], ⊤, ℕ, List, Option, Some, None, Result, Ok, Err, length, map, slice_get, unwrap_or}
+use Rattle.std.specs.Prelude.{◌≡◌, ◌≤◌, ◌∷◌, [], ⊤, ℕ, List, Option, Some, None, Result, Ok, Err, length, map, slice_get, take, unwrap_or}
 use Rattle.std.specs.Option.{option_and_then}
 use Rattle.gm_name.specs.ModuleVersion.{ModuleVersion}
 use Rattle.gm_name_table.specs.Listed.{Appends, NumberedList}
@@ -12,7 +12,6 @@ use Rattle.gm_graph_files.specs.declared.summary.Kept.{Kept}
 use Rattle.gm_graph_files.specs.declared.summary.Kept.TheVariants.{Valid, Faulty}
 use Rattle.gm_graph_files.specs.declared.summary.KeptList.{KeptList}
 use Rattle.gm_graph_files.specs.declared.summary.ListSpan.{ListSpan}
-use Rattle.gm_graph_files.specs.declared.summary.Summary.{Summary}
 use Rattle.gm_graph_files.specs.Summaries.{listed_span, own_span, own_span_at}
 
 -- A span is within the list.
@@ -25,6 +24,11 @@ abbrev pub listed_reading : List ModuleVersion → ListedReading → Result Depe
 listed_reading requirements (listed.Valid file) = Ok (with_requirements file requirements)
 listed_reading requirements (listed.Faulty class) = Err class
 
+-- Nothing went to the list of modules if the file has a fault.
+abbrev pub AppendsNoneIfFaulty : NumberedList → NumberedList → ListedReading → Type 0
+AppendsNoneIfFaulty old new (listed.Valid file) = ⊤
+AppendsNoneIfFaulty old new (listed.Faulty class) = Appends old new []
+
 -- ---- places in the list of modules
 
 -- the span of no modules
@@ -35,9 +39,9 @@ nowhere = record { start = 0; end = 0 }
 abbrev pub Grows : NumberedList → NumberedList → Type 0
 Grows old new = (more : List ModuleVersion) × Appends old new more
 
--- If the old list is one of so many modules with others at its end, the new one is that with others at its end.
-abbrev pub GrowsFrom : ℕ → NumberedList → NumberedList → Type 0
-GrowsFrom count old new = (before : NumberedList) → count ≡ length before.numbers → Grows before old → Grows before new
+-- the front of a list, up to a place
+abbrev pub front_of : ℕ → NumberedList → NumberedList
+front_of start list = record { modules = list.modules; numbers = take start list.numbers }
 
 -- ---- what is kept of a file
 
@@ -66,10 +70,9 @@ abbrev pub IsKeptIn : List ModuleVersion → List Kept → Kept → Type 0
 IsKeptIn modules files (Valid summary) = IsListIn modules files summary.list
 IsKeptIn modules files (Faulty class) = ⊤
 
--- Those of each of these files that has no fault are so.
+-- Those of each of these files are so.
 abbrev pub AreKeptIn : List ModuleVersion → List Kept → Type 0
-AreKeptIn modules files = (place : ℕ) (summary : Summary) → slice_get files place ≡ Some (Valid summary)
-    → IsListIn modules files summary.list
+AreKeptIn modules files = (place : ℕ) (one : Kept) → slice_get files place ≡ Some one → IsKeptIn modules files one
 
 -- the place of the earlier file whose list it shares, if it shares one
 abbrev pub same_list : Kept → Option ℕ

@@ -1,13 +1,13 @@
 //! What the cache keeps of a file that was read, and where it keeps the file's requirements.
 
-ghost use Rattle.std.specs.Prelude.{◌≡◌, ◌≤◌, ◌<◌, ◌++◌, ◌∷◌, [], IfOk, IsSome, drop, length, take};
+ghost use Rattle.std.specs.Prelude.{◌≡◌, ◌≤◌, ◌<◌, ◌++◌, ◌∷◌, [], IfOk, IsSome, drop, length};
 ghost use Rattle.gm_name_table.specs.Listed.{modules_of};
 ghost use Rattle.gm_file.specs.Listed.{Head};
 ghost use Rattle.gm_file.specs.Main.{without_excluded};
 ghost use Rattle.gm_graph_files.specs.KeptLists.{own_lists};
 ghost use Rattle.gm_graph_files.specs.Places.{place_limit};
 ghost use Rattle.gm_graph_files.specs.Summaries.{at_span, kept_reading, span_unless, summary_reading};
-ghost use Rattle.gm_graph_files.specs.KeptFiles.{AreKeptIn, AreListsInOrder, AreSpansInOrder, GrowsFrom, IsKeptIn, IsListIn, listed_reading};
+ghost use Rattle.gm_graph_files.specs.KeptFiles.{AreKeptIn, AreListsInOrder, AreSpansInOrder, Grows, IsKeptIn, IsListIn, front_of, listed_reading, same_list};
 ghost use Rattle.gm_graph_files.specs.NotedLists.{NotesAll};
 ghost use Rattle.gm_graph_files.specs.Private.Summaries.{kept_with};
 
@@ -31,7 +31,7 @@ fn kept_list(
 ) -> Result<KeptList, NoMemory>
     requires few { length files.now < place_limit }
     requires start { start ≤ length modules.old.numbers }
-    requires listed { AreKeptIn (take start (modules_of modules.old)) files.now }
+    requires listed { AreKeptIn (modules_of (front_of start modules.old)) files.now }
     requires notes { NotesAll lists.old (own_lists modules.old.numbers files.now) }
     ensures has { IfOk result (λ list. at_span (modules_of modules.new) list.span
         ≡ without_excluded main.now (drop start (modules_of modules.old))) }
@@ -42,7 +42,7 @@ fn kept_list(
     ensures notes { NotesAll lists.new (own_lists modules.new.numbers files.now) }
     ensures next { IfOk result (λ list. (file : Head)
         → NotesAll lists.new (own_lists modules.new.numbers (files.now ++ kept_with file list ∷ []))) }
-    ensures grows { GrowsFrom start modules.old modules.new }
+    ensures grows { Grows (front_of start modules.old) modules.new }
 {
     leave_out(alloc, modules, main, start)?;
     if let Some(same) = lists.find(modules, files, start)? {
@@ -56,7 +56,10 @@ fn kept_list(
     })
 }
 
-/// What is kept of a file that was read. The requirements of a valid one are those of the list from this place on.
+/// What is kept of a file that was read. The requirements of a valid one are those of the list from this place on, without
+/// the excluded ones. If an earlier file has the same list, they are cut off again.
+///
+/// The only refusal is `NoMemory`, after which the list may lack some from this place on.
 pub fn kept_of(
     alloc: Global,
     lists: &mut ListIndex,
@@ -68,15 +71,16 @@ pub fn kept_of(
 ) -> Result<Kept, NoMemory>
     requires few { length files.now < place_limit }
     requires start { start ≤ length modules.old.numbers }
-    requires listed { AreKeptIn (take start (modules_of modules.old)) files.now }
+    requires listed { AreKeptIn (modules_of (front_of start modules.old)) files.now }
     requires notes { NotesAll lists.old (own_lists modules.old.numbers files.now) }
     ensures reading { IfOk result (λ kept. summary_reading (modules_of modules.new) kept
         ≡ kept_reading main.now (listed_reading (drop start (modules_of modules.old)) read)) }
     ensures listed { IfOk result (IsKeptIn (modules_of modules.new) files.now) }
     ensures order { IfOk result (λ kept. AreListsInOrder start (kept ∷ []) (length modules.new.numbers)) }
+    ensures cut { IfOk result (λ kept. IsSome (same_list kept) → length modules.new.numbers ≤ start) }
     ensures notes { NotesAll lists.new (own_lists modules.new.numbers files.now) }
     ensures next { IfOk result (λ kept. NotesAll lists.new (own_lists modules.new.numbers (files.now ++ kept ∷ []))) }
-    ensures grows { GrowsFrom start modules.old modules.new }
+    ensures grows { Grows (front_of start modules.old) modules.new }
 {
     match read {
         ListedReading::Valid(file) => {

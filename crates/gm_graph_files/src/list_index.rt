@@ -11,7 +11,7 @@ ghost use Rattle.std.specs.Prelude.{◌≡◌, ◌≢◌, ◌≤◌, ◌<◌, �
 ghost use Rattle.gm_name_table.specs.Listed.{modules_of};
 ghost use Rattle.gm_graph_files.specs.Places.{place_limit};
 ghost use Rattle.gm_graph_files.specs.NotedLists.{NotesAll, list_tag, place_for};
-ghost use Rattle.gm_graph_files.specs.Private.KeptLists.{NotesBesideSame, numbers_from};
+ghost use Rattle.gm_graph_files.specs.Private.KeptLists.{numbers_from};
 ghost use Rattle.gm_graph_files.specs.KeptLists.{own_lists};
 ghost use Rattle.gm_graph_files.specs.Private.Summaries.{AreWithinList, IsSameList};
 
@@ -128,7 +128,7 @@ impl ListIndex {
         ensures notes { OnOk result (place_for self.new list.now ≡ Some place) }
         ensures others { (lists : ℕ → List ℕ) → ((place : ℕ) → lists place ≢ list.now)
             → NotesAll self.old lists → NotesAll self.new lists }
-        ensures beside { noted ≡ None → NotesBesideSame self.old self.new }
+        ensures beside { noted ≡ None → self.new.others ≡ self.old.others }
     {
         match noted {
             None => self.by_tag.put(tag, place)?,

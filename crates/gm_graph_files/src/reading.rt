@@ -1,21 +1,21 @@
 //! From a store's answer to the contents of a dependency's file.
 
-ghost use Rattle.std.specs.Prelude.{◌≡◌, ◌≤◌, ◌<◌, ℕ, List, drop, length, Err, IfOk};
+ghost use Rattle.std.specs.Prelude.{◌≡◌, ◌≤◌, ◌<◌, [], ℕ, List, drop, length, Err, IfOk, OnErr};
 ghost use Rattle.gm_name_table.specs.Kept.{IsWithinRoom, KeepsAll};
-ghost use Rattle.gm_name_table.specs.Listed.{modules_of};
+ghost use Rattle.gm_name_table.specs.Listed.{Appends, modules_of};
 ghost use Rattle.gm_file.specs.Directives.{Lax};
 ghost use Rattle.gm_file.specs.Misreading.{IsBytesFault};
 ghost use Rattle.std.specs.Option.{option_copied};
 ghost use Rattle.gm_store_parts.specs.Asked.{IsWithinLimit, bytes, name_of, reply_of};
 ghost use Rattle.gm_graph_files.specs.Reading.{IsContentReading, IsFileReading, class_of_sum, sum_fault};
 ghost use Rattle.gm_graph_files.specs.Summaries.{RetractsBy, reading_of};
-ghost use Rattle.gm_graph_files.specs.KeptFiles.{Grows, listed_reading};
+ghost use Rattle.gm_graph_files.specs.KeptFiles.{AppendsNoneIfFaulty, Grows, listed_reading};
 
 use crate::class::Class;
 use gm_file::{BytesFault, DepFile, ListedFile, Misreading};
 use gm_name::NoMemory;
 use gm_name_table::{KnownNames, ModuleList};
-use gm_store::{Answer, FileName};
+use gm_store_parts::{Answer, FileName};
 use gm_store_sums::{Sum, SumTable};
 use std::alloc::{AllocError, Global};
 
@@ -96,7 +96,10 @@ fn class_of_fault(fault: BytesFault) -> Result<Class, NoMemory>
 }
 
 /// Expects the path of the module whose file has this name, since nearly all files declare it.
-fn expect_path(names: &mut KnownNames, name: &FileName) -> Result<(), NoMemory> {
+fn expect_path(names: &mut KnownNames, name: &FileName) -> Result<(), NoMemory>
+    ensures kept { KeepsAll names.old names.new }
+    ensures within { IsWithinRoom names.old → IsWithinRoom names.new }
+{
     match name {
         FileName::Mod(path, _) => names.expect(path),
         FileName::Folder(_) | FileName::List(_) => Ok(()),
@@ -105,6 +108,9 @@ fn expect_path(names: &mut KnownNames, name: &FileName) -> Result<(), NoMemory> 
 
 /// What an answer says, or what is wrong with it. The requirements go to the end of the list of modules. No store's
 /// answer is over the limit.
+///
+/// The only refusal is `NoMemory`. After it, and for a file with a fault, the list is as it was, but more modules may have
+/// numbers.
 pub fn read_answer(
     alloc: Global,
     names: &mut KnownNames,
@@ -116,7 +122,11 @@ pub fn read_answer(
     ensures reading { IfOk result (λ read. IsWithinLimit (reply_of answer.now)
         → IsFileReading (option_copied sums.entry) (name_of name.now) (reply_of answer.now)
         (listed_reading (drop (length modules.old.numbers) (modules_of modules.new)) read)) }
+    ensures faulty { IfOk result (AppendsNoneIfFaulty modules.old modules.new) }
+    ensures err { OnErr result (Appends modules.old modules.new []) }
     ensures grows { Grows modules.old modules.new }
+    ensures kept { KeepsAll names.old names.new }
+    ensures within { IsWithinRoom names.old → IsWithinRoom names.new }
 {
     expect_path(names, name)?;
     match answer {

@@ -11,8 +11,7 @@ ghost use Rattle.gm_file.specs.Listed.{with_requirements};
 ghost use Rattle.gm_file.specs.Main.{is_excluded, without_excluded};
 ghost use Rattle.gm_graph_files.specs.Turns.{leads_on};
 ghost use Rattle.gm_graph_files.specs.Summaries.{own_span};
-ghost use Rattle.gm_graph_files.specs.KeptFiles.{Grows, nowhere, same_list, span_found};
-ghost use Rattle.gm_graph_files.specs.Private.Summaries.{cut};
+ghost use Rattle.gm_graph_files.specs.KeptFiles.{Grows, front_of, nowhere, same_list, span_found};
 
 use crate::class::Class;
 use crate::depth::Depth;
@@ -106,9 +105,9 @@ pub(crate) fn leave_out(
     start: usize,
 ) -> Result<(), NoMemory>
     requires { start ≤ length modules.old.numbers }
-    ensures ok { OnOk result (Appends (cut start modules.old) modules.new
+    ensures ok { OnOk result (Appends (front_of start modules.old) modules.new
         (without_excluded main.now (drop start (modules_of modules.old)))) }
-    ensures grows { Grows (cut start modules.old) modules.new }
+    ensures grows { Grows (front_of start modules.old) modules.new }
 {
     let end = modules.len();
     if !has_excluded(main, modules.part(start, end)) {

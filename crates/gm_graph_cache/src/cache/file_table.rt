@@ -4,8 +4,8 @@
 //! that a replacement names is found by its name: a folder is no module, and two modules may have one replacement.
 
 ghost use Rattle.std.specs.Prelude.{◌≡◌, ◌<◌, ◌≤◌, ℕ, Some, length};
-ghost use Rattle.gm_graph_cache.specs.FileNames.{places_named};
-ghost use Rattle.gm_graph_files.specs.Places.{place_among, place_limit};
+ghost use Rattle.gm_graph_cache.specs.FileNames.{place_among, places_named};
+ghost use Rattle.gm_graph_files.specs.Places.{place_limit};
 ghost use Rattle.gm_store_parts.specs.Asked.{Name};
 
 use crate::cache::naming::right_name;
@@ -25,7 +25,7 @@ pub(crate) struct FileTable {
     files: Vec<Kept>,
     /// Their names, with their places in `files`. Only proofs read them: a file is found by the number of its module, or
     /// as that of a replacement.
-    names: History<FileName, OptionalPlace>,
+    names: History<FileName, u32>,
     /// For each module, by its number, the place of its file in `files`, if it is noted. The last ones may be left out.
     places: Vec<OptionalPlace>,
     /// The names of the files of all replacements, with their places in `files`, if any.
@@ -36,15 +36,12 @@ pub(crate) struct FileTable {
 }
 
 impl FileTable {
-    ghost use Rattle.std.specs.Prelude.{if◌then◌else◌, ◌⊎◌, ◌++◌, ◌∷◌, [], IfOk, IfSome, List, None, OnErr, OnOk, slice_get};
+    ghost use Rattle.std.specs.Prelude.{if◌then◌else◌, [], IfOk, IfSome, List, None, OnErr, OnOk, slice_get, unwrap_or};
     ghost use Rattle.std.specs.Option.{option_and_then, option_map, option_or};
     ghost use Rattle.gm_store_parts.specs.Asked.{name_of, same_name};
-    ghost use Rattle.gm_graph_cache.specs.FileTable.{kept_at, place_of};
-    ghost use Rattle.gm_graph_cache.specs.Private.FileTable.{PutsFile, IsNewFile, KeepsFiles, KeepsOthers, NotesFiles, NotesFor, ReachesAtMost, place_noted, replacing_place};
-    ghost use Rattle.gm_file.specs.Main.{Main};
+    ghost use Rattle.gm_graph_cache.specs.FileTable.{kept_at};
+    ghost use Rattle.gm_graph_cache.specs.Private.FileTable.{Adds, KeepsNoted, KeepsOthers, NotesFiles, NotesFor, ReachesAtMost, place_noted, replacing_place};
     ghost use Rattle.gm_name.specs.ModuleVersion.{ModuleVersion};
-    ghost use Rattle.gm_name_table.specs.OptionalPlaces.{place_in};
-    ghost use Rattle.gm_name_table.specs.declared.place.OptionalPlace.{OptionalPlace};
     ghost use Rattle.gm_graph_files.specs.KeptFiles.{span_found};
     ghost use Rattle.gm_graph_files.specs.Private.Summaries.{list_place};
 
@@ -82,7 +79,7 @@ impl FileTable {
 
     /// The place of the file of a replacement, if the name is that of one and something is kept of it.
     pub(crate) fn replacing_place(&self, name: &FileName) -> Option<u32>
-        ensures { result ≡ option_and_then place_in (replacing_place self.now (name_of name.now)) }
+        ensures { result ≡ unwrap_or (replacing_place self.now (name_of name.now)) None }
     {
         match self.replacing.get(name) {
             None => None,
@@ -94,7 +91,7 @@ impl FileTable {
     /// that of a replacement's file. There is none if nothing is kept of the file.
     pub(crate) fn place_of(&self, name: &FileName, number: u32) -> Option<u32>
         ensures { result ≡ option_or (place_noted self.now number)
-            (option_and_then place_in (replacing_place self.now (name_of name.now))) }
+            (unwrap_or (replacing_place self.now (name_of name.now)) None) }
     {
         match self.noted_place(number) {
             None => self.replacing_place(name),
@@ -149,7 +146,7 @@ impl FileTable {
     /// Lengthens the list of places, so that it has one for this number. The only refusal is `NoMemory`.
     fn reach(&mut self, number: u32) -> Result<(), NoMemory>
         ensures reaches { OnOk result (number < length self.new.places.items) }
-        ensures noted { (other : ℕ) → place_noted self.new other ≡ place_noted self.old other }
+        ensures noted { KeepsNoted self.old self.new }
         ensures others { KeepsOthers self.old self.new }
         ensures within { ReachesAtMost number self.old self.new }
     {
@@ -161,72 +158,61 @@ impl FileTable {
         Ok(())
     }
 
+    /// Notes a place for a number that the list of places has.
+    fn set(&mut self, number: u32, place: u32)
+        requires number { number < length self.old.places.items }
+        requires place { place < place_limit }
+        ensures notes { NotesFor self.old self.new number place }
+        ensures others { KeepsOthers self.old self.new }
+        ensures count { length self.new.places.items ≡ length self.old.places.items }
+    {
+        self.places[number as usize] = OptionalPlace::some(place);
+    }
+
     /// Notes the place of the file of the module with a number. The only refusal is `NoMemory`, after which no place was
     /// noted.
     pub(crate) fn note(&mut self, number: u32, place: u32) -> Result<(), NoMemory>
-        requires { place < length self.old.files.items }
+        requires { place < place_limit }
         ensures notes { OnOk result (NotesFor self.old self.new number place) }
-        ensures err { OnErr result ((other : ℕ) → place_noted self.new other ≡ place_noted self.old other) }
+        ensures err { OnErr result (KeepsNoted self.old self.new) }
         ensures others { KeepsOthers self.old self.new }
         ensures within { ReachesAtMost number self.old self.new }
     {
         self.reach(number)?;
-        self.places[number as usize] = OptionalPlace::some(place);
+        self.set(number, place);
         Ok(())
     }
 
     /// Notes the place of the file of a replacement, if the name is that of one.
-    fn put_replacing(&mut self, name: &FileName, place: OptionalPlace)
+    fn put_replacing(&mut self, name: &FileName, place: u32)
+        requires { place < place_limit }
         ensures puts { (other : Name) → replacing_place self.new other ≡ (if same_name other (name_of name.now)
-            then option_map (λ _. place) (replacing_place self.old other) else replacing_place self.old other) }
+            then option_map (λ _. Some place) (replacing_place self.old other) else replacing_place self.old other) }
         ensures files { self.new.files ≡ self.old.files }
         ensures names { self.new.names.items ≡ self.old.names.items }
         ensures places { self.new.places ≡ self.old.places }
     {
         if let Some(noted) = self.replacing.get_mut(name) {
-            *noted = place;
+            *noted = OptionalPlace::some(place);
         }
     }
 
-    /// Notes the place of the file of a name, which is that of the module with this number. The only refusal is
-    /// `NoMemory`, after which no place was noted.
-    fn put(&mut self, name: &FileName, number: u32, place: u32) -> Result<(), NoMemory>
-        requires { place < length self.old.files.items }
-        ensures names { OnOk result ((noted : OptionalPlace) × (place_in noted ≡ Some place)
-            × (places_named self.new.names ≡ (name_of name.now, noted) ∷ places_named self.old.names)) }
-        ensures notes { (main : Main) (modules : List ModuleVersion)
-            → IsNewFile main modules self.old number (name_of name.now)
-            → NotesFiles main modules self.old → NotesFiles main modules self.new }
-        ensures err { OnErr result (self.new.names.items ≡ self.old.names.items) }
-        ensures files { self.new.files ≡ self.old.files }
-        ensures within { ReachesAtMost number self.old self.new }
-    {
-        self.note(number, place)?;
-        let noted = OptionalPlace::some(place);
-        self.put_replacing(name, noted);
-        self.names = self.names.with(name, &noted);
-        Ok(())
-    }
-
-    /// Keeps what was read of the file of a name, of which nothing was kept, and returns its place. It is the file of
-    /// the module with this number.
+    /// Keeps what was read of the file of a name, which is that of the module with this number, and returns its place.
     ///
-    /// The only refusal is `NoMemory`. What is kept of other files stays in any case.
+    /// The only refusal is `NoMemory`, after which nothing more is kept. What is kept of other files stays in any case.
     pub(crate) fn add(&mut self, name: &FileName, number: u32, kept: Kept) -> Result<u32, NoMemory>
         requires few { length self.old.files.items < place_limit }
-        ensures adds { OnOk result (PutsFile self.old self.new (name_of name.now) kept) }
-        ensures notes { (main : Main) (modules : List ModuleVersion)
-            → IsNewFile main modules self.old number (name_of name.now)
-            → NotesFiles main modules self.old → NotesFiles main modules self.new }
-        ensures place { IfOk result (λ place. place_of self.new (name_of name.now) ≡ Some place) }
-        ensures files { (self.new.files.items ≡ self.old.files.items)
-            ⊎ (self.new.files.items ≡ self.old.files.items ++ kept ∷ []) }
-        ensures err { OnErr result (KeepsFiles self.old self.new) }
+        ensures adds { IfOk result (Adds self.old self.new (name_of name.now) number kept) }
+        ensures others { OnErr result (KeepsOthers self.old self.new) }
+        ensures err { OnErr result (KeepsNoted self.old self.new) }
         ensures within { ReachesAtMost number self.old self.new }
     {
+        self.reach(number)?;
         let place = self.files.len() as u32;
         self.files.push(kept)?;
-        self.put(name, number, place)?;
+        self.set(number, place);
+        self.put_replacing(name, place);
+        self.names = self.names.with(name, &place);
         Ok(place)
     }
 }

@@ -1,5 +1,5 @@
 -- What only the reading and keeping of files say of places in the list of modules.
-use Rattle.std.specs.Prelude.{◌≡◌, ◌∷◌, [], ℕ, List, Option, Some, None, slice_get, take, unwrap_or}
+use Rattle.std.specs.Prelude.{◌≡◌, ◌∷◌, [], ℕ, List, Option, Some, None, slice_get, unwrap_or}
 use Rattle.std.specs.Option.{option_and_then}
 use Rattle.std.proofs.Math.Bridge.{le_prop}
 use Rattle.gm_name.specs.ModuleVersion.{ModuleVersion}
@@ -11,14 +11,6 @@ use Rattle.gm_graph_files.specs.declared.summary.KeptList.{KeptList}
 use Rattle.gm_graph_files.specs.declared.summary.ListSpan.{ListSpan}
 use Rattle.gm_graph_files.specs.declared.summary.Summary.{Summary}
 use Rattle.gm_graph_files.specs.KeptFiles.{AreSpansInOrder, IsWithinList, same_list}
-
--- ---- places in the list of modules
-
--- the front of a list, up to a place
-abbrev pub cut : ℕ → NumberedList → NumberedList
-cut start list = record { modules = list.modules; numbers = take start list.numbers }
-
--- ---- what is kept of a file
 
 -- This is a fact: it has one proof at most.
 pub order_is_fact : (from : ℕ) (spans : List (Option ListSpan)) (to : ℕ) → IsProp (AreSpansInOrder from spans to)

@@ -3,10 +3,10 @@ use Rattle.gm_name_table.specs.Listed.{NumberedList, modules_of, part}
 use Rattle.gm_graph_files.specs.Summaries.{at_span}
 use Rattle.gm_graph_files.specs.NotedLists.{NotesAll}
 use Rattle.gm_graph_files.specs.KeptLists.{own_lists}
-use Rattle.gm_graph_files.specs.KeptFiles.{Grows}
-use Rattle.gm_graph_files.specs.Private.Summaries.{cut, kept_with}
+use Rattle.gm_graph_files.specs.KeptFiles.{Grows, front_of}
+use Rattle.gm_graph_files.specs.Private.Summaries.{kept_with}
 use Rattle.gm_graph_files.proofs.KeptLists.{lists_beside, no_list_noted, one_more_noted}
-use Rattle.gm_graph_files.proofs.SharedLists.{all_within, cut_again, cut_is, cut_length, cut_same, end_part, ends_after, grown_from, list_shared, own_within_list, rest_is}
+use Rattle.gm_graph_files.proofs.SharedLists.{listed_after, cut_again, cut_is, cut_length, cut_same, end_part, ends_after, list_shared, own_within_list, rest_is}
 use Rattle.gm_graph_files.proofs.keeping.kept_list.Goals.{After-leave_out, After-truncate, In_ok-leave_out}
 use Rattle.gm_graph_files.proofs.keeping.kept_list.Goals as goal
 
@@ -23,12 +23,9 @@ ends c = ends_after c.args.modules.now c.leave_out.new.modules c.args.start _ c.
 pub returns-in_err-leave_out-clause-notes : goal.returns-in_err-leave_out-clause-notes
 returns-in_err-leave_out-clause-notes c = notes_left (goal.at.returns-in_err-leave_out-clause-notes c).After-leave_out
 
-pub returns-in_err-leave_out-clause-grows : goal.returns-in_err-leave_out-clause-grows
-returns-in_err-leave_out-clause-grows c = grown_from c.args.modules.now c.args.start c.leave_out.ensures.grows
-
 pub find-requires-clause-within : goal.find-requires-clause-within
-find-requires-clause-within c =
-    all_within c.args.modules.now c.args.start c.args.files.now c.requires.listed c.leave_out.ensures.grows
+find-requires-clause-within c = λ place summary there.
+    (listed_after c.args.modules.now c.args.start c.args.files.now c.requires.listed c.leave_out.ensures.grows place _ there).0
 
 pub find-requires-clause-start : goal.find-requires-clause-start
 find-requires-clause-start c = ends (goal.at.find-requires-clause-start c).In_ok-leave_out
@@ -36,16 +33,13 @@ find-requires-clause-start c = ends (goal.at.find-requires-clause-start c).In_ok
 pub find-requires-clause-notes : goal.find-requires-clause-notes
 find-requires-clause-notes c = notes_left (goal.at.find-requires-clause-notes c).After-leave_out
 
-pub returns-in_err-same-clause-grows : goal.returns-in_err-same-clause-grows
-returns-in_err-same-clause-grows c = grown_from c.args.modules.now c.args.start c.leave_out.ensures.grows
-
 -- ---- an earlier file has the same list
 
-is_front : (c : After-truncate) → c.truncate.new.self ≡ cut c.args.start c.leave_out.new.modules
+is_front : (c : After-truncate) → c.truncate.new.self ≡ front_of c.args.start c.leave_out.new.modules
 is_front c = cut_is c.leave_out.new.modules c.args.start c.truncate.new.self c.truncate.ensures.modules c.truncate.ensures.numbers
 
-grows_front : (c : After-truncate) → Grows (cut c.args.start c.args.modules.now) c.truncate.new.self
-grows_front c = subst (Grows (cut c.args.start c.args.modules.now)) (sym (is_front c))
+grows_front : (c : After-truncate) → Grows (front_of c.args.start c.args.modules.now) c.truncate.new.self
+grows_front c = subst (Grows (front_of c.args.start c.args.modules.now)) (sym (is_front c))
     (cut_again c.args.modules.now c.leave_out.new.modules c.args.start _ c.requires.start c.in_ok-leave_out.ensures.ok)
 
 pub returns-in-Some-clause-has : goal.returns-in-Some-clause-has
@@ -56,15 +50,15 @@ returns-in-Some-clause-has c =
     let has = rw c.in-Some.is at c.in_ok-same.ensures.same in
     ap (λ (list : NumberedList). at_span (modules_of list) c.in-Some.same.span) (is_front at)
     ∙ cut_same mid c.args.start c.in-Some.same.span
-    (all_within old c.args.start c.args.files.now c.requires.listed
-    (cut_again old mid c.args.start _ c.requires.start c.in_ok-leave_out.ensures.ok) has.place _ has.there) has.has
+    (listed_after old c.args.start c.args.files.now c.requires.listed
+    (cut_again old mid c.args.start _ c.requires.start c.in_ok-leave_out.ensures.ok) has.place _ has.there).0 has.has
     ∙ rest_is old mid c.args.start _ c.requires.start c.in_ok-leave_out.ensures.ok
 
 pub returns-in-Some-clause-listed : goal.returns-in-Some-clause-listed
 returns-in-Some-clause-listed c =
     let at = (goal.at.returns-in-Some-clause-listed c).After-truncate in
     let has = rw c.in-Some.is at c.in_ok-same.ensures.same in (
-      all_within c.args.modules.now c.args.start c.args.files.now c.requires.listed (grows_front at) has.place _ has.there,
+      (listed_after c.args.modules.now c.args.start c.args.files.now c.requires.listed (grows_front at) has.place _ has.there).0,
       λ place e. list_shared c.leave_out.new.modules c.args.files.now _ c.in-Some.same has place e,
     )
 
@@ -95,8 +89,7 @@ returns-in-Some-clause-next c = λ file.
     (notes_front (goal.at.returns-in-Some-clause-next c).After-truncate) (kept_with file c.in-Some.same) (rw has.shared refl)
 
 pub returns-in-Some-clause-grows : goal.returns-in-Some-clause-grows
-returns-in-Some-clause-grows c =
-    grown_from c.args.modules.now c.args.start (grows_front (goal.at.returns-in-Some-clause-grows c).After-truncate)
+returns-in-Some-clause-grows c = grows_front (goal.at.returns-in-Some-clause-grows c).After-truncate
 
 -- ---- the list is the file's own
 
@@ -121,6 +114,3 @@ pub returns-clause-next : goal.returns-clause-next
 returns-clause-next c = λ file.
     one_more_noted c.find.new.self c.leave_out.new.modules.numbers c.args.files.now c.find.ensures.notes _
     (rw c.len-end.ensures.len (c.in_ok-same.ensures.next c.in_default.is))
-
-pub returns-clause-grows : goal.returns-clause-grows
-returns-clause-grows c = grown_from c.args.modules.now c.args.start c.leave_out.ensures.grows

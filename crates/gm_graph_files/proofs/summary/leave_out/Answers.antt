@@ -4,8 +4,7 @@ use Rattle.std.specs.Prelude.{OnOk}
 use Rattle.gm_name.specs.ModuleVersion.{ModuleVersion}
 use Rattle.gm_name_table.specs.Listed.{Appends, NumberedList, modules_of, part}
 use Rattle.gm_file.specs.Main.{is_excluded, without_excluded}
-use Rattle.gm_graph_files.specs.KeptFiles.{Grows}
-use Rattle.gm_graph_files.specs.Private.Summaries.{cut}
+use Rattle.gm_graph_files.specs.KeptFiles.{Grows, front_of}
 use Rattle.gm_graph_files.proofs.Excluding.{all_others}
 use Rattle.gm_graph_files.proofs.SharedLists.{cut_appends, cut_is, end_part}
 use Rattle.gm_graph_files.proofs.summary.leave_out.Goals.{After-len-end}
@@ -20,7 +19,7 @@ returns-then-not-has_excluded-clause-ok c =
     let main = c.args.main.now in
     let old = c.args.modules.now in
     let at = (goal.at.returns-then-not-has_excluded-clause-ok c).After-len-end in
-    subst (Appends (cut c.args.start old) old)
+    subst (Appends (front_of c.args.start old) old)
     (all_others (is_excluded main) (drop c.args.start (modules_of old))
     (ap (list_any (is_excluded main)) (sym (rest at) ∙ sym c.part.ensures) ∙ sym c.has_excluded.ensures ∙ c.if-not-has_excluded.true))
     (cut_appends old c.args.start)

@@ -1,12 +1,13 @@
-use Rattle.std.proofs.Common.{◌≡◌, ◌∙◌, [], ℕ, Option, Some, ap, refl, sym}
+use Rattle.std.proofs.Common.{◌≡◌, ◌<◌, ◌∙◌, [], ℕ, Option, Some, ap, length, refl, sym}
 use Rattle.std.proofs.lemmas.Option.{get_or_from_slice_get, slice_get_within}
 use Rattle.gm_store_parts.specs.Asked.{name_of}
 use Rattle.gm_graph_cache.specs.declared.cache.load_fault.LoadFault.TheVariants as load
 use Rattle.gm_graph_cache.specs.Asking.{AsksOne, IsAskableFile}
 use Rattle.gm_graph_cache.specs.Refusals.{refused_names}
-use Rattle.gm_graph_cache.proofs.AskedFile.{asks_for, asks_same, lacks_still, refused_failed}
+use Rattle.gm_graph_cache.proofs.AskedFile.{asks_by, asks_for, lacks_still, refused_failed}
 use Rattle.gm_graph_cache.specs.Cached.{main_in, run_in, sums_in, table_in, module_numbered}
 use Rattle.gm_graph_files.specs.Reading.{file_of}
+use Rattle.gm_graph_files.specs.KeptFiles.{Grows}
 use Rattle.gm_name.specs.ModuleVersion.{module_at}
 use Rattle.gm_graph_cache.proofs.GrownCache.{grown_consistent, grown_notes}
 use Rattle.gm_graph_cache.proofs.NumberedModules.{number_below, number_stays}
@@ -15,51 +16,56 @@ use Rattle.gm_graph_cache.proofs.Keeping.{holds_after, holds_grown, never_many, 
 use Rattle.gm_graph_cache.proofs.Named.{named_known}
 use Rattle.gm_graph_cache.proofs.cache.Cache.known.Given.{Over}
 use Rattle.gm_graph_cache.proofs.cache.Cache.known.Goals as goal
-use Rattle.gm_graph_cache.proofs.cache.Cache.known.Goals.{After-of_request, In-Ok}
+use Rattle.gm_graph_cache.proofs.cache.Cache.known.Goals.{After-number, After-of_request, In-Ok, In_ok-number}
 
 -- ---- the module has a number
 
+-- the list of modules is the same, and one more may have a number
+grows : (g : Over) (c : After-number g) → Grows c.args.self.now.modules c.number.new.self
+grows g c = let more = c.number.ensures in numbered_more c.args.vertex.now more.only more.numbers more.list
+
+within : (g : Over) (c : In_ok-number g) → c.in_ok-number.number < length c.number.new.self.modules
+within g c = slice_get_within _ c.in_ok-number.number _ c.in_ok-number.ensures.number
+
+is_vertex : (g : Over) (c : In_ok-number g) → module_at c.number.new.self.modules c.in_ok-number.number ≡ c.args.vertex.now
+is_vertex g c = get_or_from_slice_get _ c.in_ok-number.number _ ([], []) c.in_ok-number.ensures.number
+
 pub invariant_of-self : goal.invariant_of-self
 invariant_of-self g c =
-    let more = c.number.ensures in
-    let grows = numbered_more c.args.vertex.now more.only more.numbers more.list in
-    record { consistent = grown_consistent c.args.self.now _ grows; notes = grown_notes c.args.self.now _ grows }
+    let cache = c.args.self.now in
+    let more = grows g (goal.at.invariant_of-self g c).After-number in
+    record { consistent = grown_consistent cache _ more; notes = grown_notes cache _ more }
 
 pub known_at-requires-clause-knows : goal.known_at-requires-clause-knows
 known_at-requires-clause-knows g c =
     let cache = c.args.self.now in
-    let more = c.number.ensures in
-    grown_holds (main_in cache) cache.modules c.number.new.self cache.files (numbered_more c.args.vertex.now more.only more.numbers more.list)
+    grown_holds (main_in cache) cache.modules c.number.new.self cache.files (grows g (goal.at.known_at-requires-clause-knows g c).After-number)
     cache.consistent.listed (sums_in cache) _ c.requires.knows
 
 pub known_at-requires-clause-vertex : goal.known_at-requires-clause-vertex
-known_at-requires-clause-vertex g c = slice_get_within _ c.in_ok-number.number _ c.in_ok-number.ensures.number
+known_at-requires-clause-vertex g c = within g (goal.at.known_at-requires-clause-vertex g c).In_ok-number
 
 pub returns-in-Err-clause-lent : goal.returns-in-Err-clause-lent
 returns-in-Err-clause-lent g c = let lent = c.known_at.ensures.lent in record { main = lent.main; sums = lent.sums; turns = lent.turns }
 
 pub returns-in-Err-clause-err : goal.returns-in-Err-clause-err
 returns-in-Err-clause-err g c =
-    let more = c.number.ensures in
-    holds_after (holds_grown c.args.self.now _ refl refl refl (numbered_more c.args.vertex.now more.only more.numbers more.list)) c.in-Err.ensures.err
+    holds_after (holds_grown c.args.self.now _ refl refl refl (grows g (goal.at.returns-in-Err-clause-err g c).After-number)) c.in-Err.ensures.err
 
 -- ---- what was asked for
 
 pub returns-in-Ok-clause-asks : goal.returns-in-Ok-clause-asks
 returns-in-Ok-clause-asks g c =
     asks_for (main_in c.args.self.now) c.args.vertex.now
-    (rw (get_or_from_slice_get _ c.in_ok-number.number _ ([], []) c.in_ok-number.ensures.number) at c.in-Ok.ensures.asks)
+    (rw (is_vertex g (goal.at.returns-in-Ok-clause-asks g c).In_ok-number) at c.in-Ok.ensures.asks)
 
 asked : (g : Over) (c : After-of_request g)
     → AsksOne (IsAskableFile (main_in c.args.self.now) c.args.vertex.now) (g.F.Asks.may_answer c.args.files.now) (g.F.Asks.may_answer c.known_at.new.files)
     (g.F.Asks.state c.args.files.now) (g.F.Asks.state c.known_at.new.files) (refused_names c.of_request.result)
 asked g c =
-    let main = main_in c.args.self.now in
     let is = get_or_from_slice_get _ c.in_ok-number.number _ ([], []) c.in_ok-number.ensures.number in
-    asks_same main (module_at c.number.new.self.modules c.in_ok-number.number) c.args.vertex.now is
-    (refused_failed (Option ℕ) _ c.in-Err.fault (Some c.in_ok-name.name) c.of_request.result
-    (λ _. c.in_ok-name.ensures ∙ ap (file_of main) (sym is)) c.of_request.ensures)
-    c.in-Err.ensures.asks
+    rw is at (asks_by (refused_failed (Option ℕ) _ c.in-Err.fault (Some c.in_ok-name.name) c.of_request.result
+    (λ _. c.in_ok-name.ensures ∙ ap (file_of (main_in c.args.self.now)) (sym is)) c.of_request.ensures) c.in-Err.ensures.asks)
 
 pub returns-in-Err-clause-asks : goal.returns-in-Err-clause-asks
 returns-in-Err-clause-asks g c = asks_for (main_in c.args.self.now) c.args.vertex.now (asked g c)

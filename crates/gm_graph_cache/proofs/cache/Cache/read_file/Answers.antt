@@ -6,18 +6,26 @@ use Rattle.gm_graph_cache.proofs.AskedFile.{asked_one, asks_passed, asks_still}
 use Rattle.gm_graph_cache.proofs.GrownCache.{grown_consistent, grown_notes}
 use Rattle.gm_graph_cache.proofs.Keeping.{holds_grown, holds_itself}
 use Rattle.gm_graph_files.proofs.Ordered.{order_push}
-use Rattle.gm_graph_files.proofs.SharedLists.{listed_front}
+use Rattle.gm_graph_files.proofs.SharedLists.{grown_after, listed_front}
+use Rattle.gm_graph_files.specs.KeptFiles.{Grows}
+use Rattle.gm_graph_cache.proofs.cache.Cache.read_file.Given.{Over}
+use Rattle.gm_graph_cache.proofs.cache.Cache.read_file.Goals.{After-kept_of}
 use Rattle.gm_graph_cache.proofs.cache.Cache.read_file.Goals as goal
 
 pub kept_of-requires-clause-listed : goal.kept_of-requires-clause-listed
 kept_of-requires-clause-listed g c =
     let cache = c.args.self.now in
     rw c.files.ensures
-    (listed_front cache.modules c.read_answer.new.modules cache.files.files.items c.len-start.result
-    c.len-start.ensures.len c.read_answer.ensures.grows cache.consistent.listed)
+    (listed_front cache.modules c.read_answer.new.modules c.len-start.result c.len-start.ensures.len c.read_answer.ensures.grows
+    cache.files.files.items cache.consistent.listed)
 
 pub kept_of-requires-clause-notes : goal.kept_of-requires-clause-notes
 kept_of-requires-clause-notes g c = rw c.files.ensures (grown_notes c.args.self.now c.read_answer.new.modules c.read_answer.ensures.grows)
+
+-- the list of modules only grew
+grown : (g : Over) (c : After-kept_of g) → Grows c.args.self.now.modules c.kept_of.new.modules
+grown g c = grown_after c.args.self.now.modules c.read_answer.new.modules c.len-start.result c.len-start.ensures.len c.read_answer.ensures.grows
+    c.kept_of.new.modules c.kept_of.ensures.grows
 
 pub invariant_of-self : goal.invariant_of-self
 invariant_of-self g c =
@@ -29,7 +37,7 @@ pub invariant_of-self-2 : goal.invariant_of-self-2
 invariant_of-self-2 g c =
     let cache = c.args.self.now in
     record {
-      consistent = grown_consistent cache _ (c.kept_of.ensures.grows cache.modules c.len-start.ensures.len c.read_answer.ensures.grows);
+      consistent = grown_consistent cache _ (grown g (goal.at.invariant_of-self-2 g c).After-kept_of);
       notes = rw c.files.ensures at c.kept_of.ensures.notes;
     }
 
@@ -57,7 +65,7 @@ returns-in_err-read-clause-asks g c =
 
 pub returns-in_err-kept-clause-holds : goal.returns-in_err-kept-clause-holds
 returns-in_err-kept-clause-holds g c =
-    holds_grown c.args.self.now _ refl refl refl (c.kept_of.ensures.grows c.args.self.now.modules c.len-start.ensures.len c.read_answer.ensures.grows)
+    holds_grown c.args.self.now _ refl refl refl (grown g (goal.at.returns-in_err-kept-clause-holds g c).After-kept_of)
 
 pub returns-in_err-kept-clause-asks : goal.returns-in_err-kept-clause-asks
 returns-in_err-kept-clause-asks g c =
@@ -68,7 +76,7 @@ returns-in_err-kept-clause-asks g c =
 
 pub returns-clause-holds : goal.returns-clause-holds
 returns-clause-holds g c =
-    holds_grown c.args.self.now _ refl refl refl (c.kept_of.ensures.grows c.args.self.now.modules c.len-start.ensures.len c.read_answer.ensures.grows)
+    holds_grown c.args.self.now _ refl refl refl (grown g (goal.at.returns-clause-holds g c).After-kept_of)
 
 pub returns-clause-order : goal.returns-clause-order
 returns-clause-order g c =
