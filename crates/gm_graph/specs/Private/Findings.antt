@@ -22,8 +22,8 @@ abbrev pub WasVisited : Findings → ℕ → Type 0
 WasVisited findings number = IsSome (place_at findings.places.items number)
     ⊎ ((class : Class) × Contains findings.faults.items (numbered number class))
 
--- Something was found of each vertex that has one of these turns, and of no others. It is so: a vertex has no fault, and
--- the file at the place has its list, or it has the fault.
+-- Something was found of each vertex that has one of these turns, and of no others. It is so: a vertex has no fault,
+-- and the file at the place has its list, or it has the fault.
 pub record AreFindings (cache : Cache) (run : Run) (turns : List Turn) (findings : Findings) : Type 0 where
   pub files : (number place : ℕ) → place_at findings.places.items number ≡ Some place
       → (number < length (table_in cache)) × HasTurn turns (module_numbered cache number)

@@ -22,7 +22,8 @@ use Rattle.gm_graph.specs.Private.Worklists.{IsWorklist, turn_of, turns_of}
 -- The lists of the files were followed: what a vertex that has such a file requires has turns at full depth.
 abbrev pub AreFollowedIn : Cache → Run → List Turn → Followed → Type 0
 AreFollowedIn cache run turns followed = (file : ℕ) → followed_at followed file ≡ true
-    → (x : ModuleVersion) × IsSound cache run x file × ((y : ModuleVersion) → Requires run x y → Contains turns (turn y Deep))
+    → (x : ModuleVersion) × IsSound cache run x file
+    × ((y : ModuleVersion) → Requires run x y → Contains turns (turn y Deep))
 
 -- The numbers in the worklist are those of a cache's modules, what a vertex requires has turns at full depth if its
 -- file is marked as followed, and what was found is of the vertices of the turns that were visited.

@@ -23,13 +23,14 @@ abbrev pub IsPlaceFor : Cache → ModuleVersion → Option ℕ → Type 0
 IsPlaceFor cache x None = is_askable (file_of (main_in cache) x) ≡ false
 IsPlaceFor cache x (Some place) = IsPlacedAt (main_in cache) cache.files x place
 
--- What is known of a vertex's file without asking for it: its place, that it may not be asked for, or its name if nothing
--- is kept of it.
+-- What is known of a vertex's file without asking for it: its place, that it may not be asked for, or its name if
+-- nothing is kept of it.
 abbrev pub IsLookup : Cache → ModuleVersion → Lookup → Type 0
 IsLookup cache x (lookup.Noted place) = IsPlaceFor cache x (Some place)
 IsLookup cache x lookup.NotFetchable = IsPlaceFor cache x None
 IsLookup cache x (lookup.Replacing place) = IsPlaceFor cache x (Some place)
-IsLookup cache x (lookup.New name) = IsAskableFile (main_in cache) x (name_of name) × (summary_at cache (name_of name) ≡ None)
+IsLookup cache x (lookup.New name) =
+    IsAskableFile (main_in cache) x (name_of name) × (summary_at cache (name_of name) ≡ None)
 
 -- The place at which a vertex's requirements are found: none if the vertex has a fault, otherwise that of the file that
 -- has its list.
@@ -41,10 +42,11 @@ IsLender cache run x (Some place) = IsSound cache run x place
 
 -- What a call does to the cache and to the store that makes the file of the vertex with this number known, and returns
 -- its place. `before` and `after` say what might come of a request.
-pub record MakesKnown (old new : Cache) (number : ℕ) (before after : Name → Option Reply → Type 0) (earlier later : StoreState)
-    (result : Result (Option ℕ) AskFault) : Type 0 where
+pub record MakesKnown (old new : Cache) (number : ℕ) (before after : Name → Option Reply → Type 0)
+    (earlier later : StoreState) (result : Result (Option ℕ) AskFault) : Type 0 where
   pub count : file_count new ≤ file_count old + 1
-  pub known : IfOk result (λ place. Follows old earlier.asked new later.asked × IsPlaceFor new (module_numbered old number) place)
+  pub known : IfOk result (λ place. Follows old earlier.asked new later.asked
+      × IsPlaceFor new (module_numbered old number) place)
   pub lent : LentSame old new
   pub err : OnErr result (HoldsSame old new)
   pub asks : AsksOne (IsAskableFile (main_in old) (module_numbered old number)) before after earlier later

@@ -17,7 +17,8 @@ place_noted files number = place_in (slice_index_or files.places.items number no
 
 -- the place that is noted for a replacement's file, or that none is, if the name is that of one
 abbrev pub replacing_place : FileTable → Name → Option (Option ℕ)
-replacing_place files name = option_map place_in (lookup (λ file. same_name name (name_of file)) files.replacing.entries)
+replacing_place files name =
+    option_map place_in (lookup (λ file. same_name name (name_of file)) files.replacing.entries)
 
 -- ---- what is noted is so
 
@@ -38,7 +39,8 @@ pub record NotesFiles (main : Main) (modules : List ModuleVersion) (files : File
       → IsSome (replacing_place files (file_of main x))
   pub modules_noted : (number place : ℕ) → place_noted files number ≡ Some place
       → IsPlacedAt main files (module_at modules number) place
-  pub replacing_noted : (name : Name) (place : Option ℕ) → replacing_place files name ≡ Some place → place_of files name ≡ place
+  pub replacing_noted : (name : Name) (place : Option ℕ) → replacing_place files name ≡ Some place
+      → place_of files name ≡ place
   pub others_noted : (name : Name) → IsUnnoted main modules files name → replacing_place files name ≡ None
       → place_of files name ≡ None
 
