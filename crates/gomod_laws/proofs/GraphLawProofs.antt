@@ -1,4 +1,4 @@
--- The laws hold.
+-- The laws of module graphs hold.
 use Rattle.std.proofs.Common.{◌≡◌, ◌↔◌, false, inl, inr}
 use Rattle.std.specs.Cmp.{IsTotalOrder, on_total}
 use Rattle.gm_name.specs.ModuleVersion.{ModuleVersion, pair_cmp, pair_total}

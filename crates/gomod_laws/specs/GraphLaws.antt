@@ -1,4 +1,4 @@
--- Laws over the definitions alone.
+-- Laws of module graphs, over their definitions alone.
 use Rattle.std.specs.Prelude.{◌≡◌, ◌≢◌, ◌↔◌, ◌++◌, false, List, Option, Result, Contains}
 use Rattle.std.specs.Ordering.{is_gt}
 use Rattle.gm_version.specs.Version.{version_cmp}
