@@ -7,7 +7,7 @@ use Rattle.gm_name.specs.ModuleVersion.{ModuleVersion, module_at}
 use Rattle.gm_name_table.specs.Listed.{Appends, BeginsWith, NumberedList, modules_of}
 use Rattle.gm_name_table.proofs.Listed.{appends_after}
 use Rattle.gm_file.specs.Private.Requirements.{Requirements, added, items_in}
-use Rattle.core.specs.declared.snapshot.Snapshot.{Snapshot}
+use Rattle.std.specs.declared.snapshot.Snapshot.{Snapshot}
 use Rattle.gm_file.specs.declared.required.Destination.TheVariants as place
 
 -- What is put to the end of a list that has grown comes after what was put there earlier.
