@@ -125,8 +125,7 @@ module _ {run : Run} {cache : Cache} {worklist : Worklist} {findings : Findings}
   listed_edge one y there h =
       let (number, held, is) = from_mapped (module_at modules) (list_at lists one.list) y h in
       rw⁻¹ is
-      (edges_each modules steps (step_edges lists one) _ (in_mapped (step_edges lists) (gathered_sources places) one there)
-      (in_mapped (λ (n : ℕ). edge (step_with modules one.from) (module_at modules n)) _ number held))
+      (edges_each modules steps (step_edges lists one) number (in_mapped (step_edges lists) (gathered_sources places) one there) held)
 
   found_edge : (number : ℕ) (y : ModuleVersion) → WasVisited findings number → Requires run (module_at modules number) y
       → Contains (edges_of modules steps) (edge (Of (module_at modules number)) y)
@@ -145,9 +144,8 @@ module _ {run : Run} {cache : Cache} {worklist : Worklist} {findings : Findings}
 
   only : (e : Edge) → Contains (edges_of modules steps) e → IsEdge run e.from e.to
   only e h =
-      let (step, left, there) = edges_only modules steps e h in
+      let (step, left, number, held, same) = edges_only modules steps e h in
       let (source, listed, is) = from_mapped (step_edges lists) (gathered_sources places) step left in
-      let (number, held, same) = from_mapped (λ (n : ℕ). edge (left_by modules step) (module_at modules n)) step.to e there in
       rw⁻¹ same
       (subst (λ (s : StepEdges). IsEdge run (left_by modules s) (module_at modules number)) is
       (source_edge source listed (module_at modules number)
