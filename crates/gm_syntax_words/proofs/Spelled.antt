@@ -171,13 +171,13 @@ pub record PlainCut (text front after : List ℕ) : Type 0 where
   pub plain : IsPlain front
   pub marked : BeginsMark after
 
-pub plain_cut : (text front after : List ℕ) → front ≡ take (plain_len text) text → after ≡ drop (plain_len text) text
+pub plain_cut : {text front after : List ℕ} {n : ℕ} → n ≡ plain_len text → front ≡ take n text → after ≡ drop n text
     → PlainCut text front after
-plain_cut text front after is_front is_after =
+plain_cut {text} {n = n} is_len is_front is_after =
     let f = plain_front text in
-    let len = sym f.len in
-    rw (is_front ∙ ap (take (plain_len text)) f.parts ∙ take_at f.front f.after (plain_len text) len)
-    (rw (is_after ∙ ap (drop (plain_len text)) f.parts ∙ drop_at f.front f.after (plain_len text) len)
+    let len = sym (is_len ∙ f.len) in
+    rw (is_front ∙ ap (take n) f.parts ∙ take_at f.front f.after n len)
+    (rw (is_after ∙ ap (drop n) f.parts ∙ drop_at f.front f.after n len)
     (record { parts = f.parts; plain = f.plain; marked = f.marked }))
 
 pub escaped_parts : {text front after : List ℕ} → PlainCut text front after → escaped_value text ≡ front ++ escaped_value after

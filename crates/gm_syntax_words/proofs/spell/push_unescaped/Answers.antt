@@ -1,4 +1,4 @@
-use Rattle.std.proofs.Common.{◌≡◌, ℕ, List, [], ◌++◌, ◌<◌, length, take, drop, IsUtf8, ap, subst, sym, ◌∙◌, arith}
+use Rattle.std.proofs.Common.{◌≡◌, ℕ, List, [], ◌++◌, ◌<◌, length, IsUtf8, ap, subst, sym, ◌∙◌, arith}
 use Rattle.std.specs.Str.{IsCharBoundary}
 use Rattle.std.specs.String.{string_bytes}
 use Rattle.std.proofs.iter.FirstChar.{cut}
@@ -14,8 +14,7 @@ len_is : (c : After-split_at) → c.plain_len.result ≡ plain_len c.args.rest.n
 len_is c = c.plain_len.ensures.value ∙ ap plain_len c.as_bytes.ensures.value
 
 cut_is : (c : After-split_at) → PlainCut c.args.rest.now c.split_at.result.0.now c.split_at.result.1.now
-cut_is c = plain_cut _ _ _ (c.split_at.ensures.front ∙ ap (λ n. take n c.args.rest.now) (len_is c))
-    (c.split_at.ensures.back ∙ ap (λ n. drop n c.args.rest.now) (len_is c))
+cut_is c = plain_cut (len_is c) c.split_at.ensures.front c.split_at.ensures.back
 
 pub split_at-requires : goal.split_at-requires
 split_at-requires c = rw (c.plain_len.ensures.value ∙ ap plain_len c.as_bytes.ensures.value)
