@@ -23,7 +23,7 @@ pub(crate) mod parts;
 pub(crate) mod paths;
 pub(crate) mod visit;
 
-ghost use Rattle.std.specs.Prelude.{◌≡◌, ◌≤◌, ◌<◌, ◌+◌, ◌++◌, ◌∷◌, [], List, IfOk, IfSome, OnErr, OnOk, IsSome, MatchResult, None, Err, Ok, length, slice_get};
+ghost use Rattle.std.specs.Prelude.{◌≡◌, ◌<◌, ◌++◌, ◌∷◌, [], List, IfOk, IfSome, OnOk, IsSome, MatchResult, None, Err, Ok, length, slice_get};
 ghost use Rattle.std.proofs.Props.{props};
 ghost use Rattle.std.specs.Option.{option_and_then, option_copied};
 ghost use Rattle.gm_name_table.specs.Listed.{modules_of};
@@ -42,8 +42,7 @@ ghost use Rattle.gm_graph_files.specs.NotedLists.{NotesAll};
 ghost use Rattle.gm_graph_cache.specs.Lent.{lent_modules};
 ghost use Rattle.gm_graph_files.specs.Summaries.{at_span, summary_reading};
 ghost use Rattle.gm_graph_files.specs.KeptFiles.{AreListsInOrder, IsKeptIn, span_found};
-ghost use Rattle.gm_graph_files.proofs.KeptFacts.{kept_is_fact};
-ghost use Rattle.gm_graph_files.specs.Private.Summaries.{order_is_fact};
+ghost use Rattle.gm_graph_files.specs.Private.Summaries.{kept_is_fact, order_is_fact};
 
 use crate::cache::file_table::FileTable;
 use crate::cache::lent::Lent;
@@ -229,7 +228,7 @@ impl<'a> Cache<'a> {
     }
 
     /// Asks for the file with this name, which is that of the vertex with a number, and of which nothing is kept. Keeps
-    /// what it says, and returns its place.
+    /// what it says, and returns its place. Refusals are those of `known_at`.
     fn read_new<F: Asks>(
         &mut self,
         files: &mut F,

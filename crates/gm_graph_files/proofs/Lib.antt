@@ -5,4 +5,3 @@ pub mod Spans
 pub mod SharedLists
 pub mod KeptLists
 pub mod Ordered
-pub mod KeptFacts

@@ -40,8 +40,8 @@ IsLender cache run x (Some place) = IsSound cache run x place
 
 -- ---- what changes
 
--- What a call does to the cache and to the store that makes the file of the vertex with this number known, and returns
--- its place. `before` and `after` say what might come of a request.
+-- What a call that makes the file of the vertex with this number known, and returns its place, does to the cache and to
+-- the store. `before` and `after` say what might come of a request.
 pub record MakesKnown (old new : Cache) (number : ℕ) (before after : Name → Option Reply → Type 0)
     (earlier later : StoreState) (result : Result (Option ℕ) AskFault) : Type 0 where
   pub count : file_count new ≤ file_count old + 1

@@ -2,17 +2,22 @@
 use Rattle.std.specs.Prelude.{◌≡◌, ◌∷◌, [], ℕ, List, Option, Some, None, slice_get, unwrap_or}
 use Rattle.std.specs.Option.{option_and_then}
 use Rattle.std.proofs.Math.Bridge.{le_prop}
+use Rattle.std.proofs.Props.{props}
 use Rattle.gm_name.specs.ModuleVersion.{ModuleVersion}
 use Rattle.gm_name_table.specs.Listed.{NumberedList, part}
 use Rattle.gm_file.specs.Listed.{Head}
 use Rattle.gm_graph_files.specs.declared.summary.Kept.{Kept}
-use Rattle.gm_graph_files.specs.declared.summary.Kept.TheVariants.{Valid}
+use Rattle.gm_graph_files.specs.declared.summary.Kept.TheVariants.{Valid, Faulty}
 use Rattle.gm_graph_files.specs.declared.summary.KeptList.{KeptList}
 use Rattle.gm_graph_files.specs.declared.summary.ListSpan.{ListSpan}
 use Rattle.gm_graph_files.specs.declared.summary.Summary.{Summary}
-use Rattle.gm_graph_files.specs.KeptFiles.{AreSpansInOrder, IsWithinList, same_list}
+use Rattle.gm_graph_files.specs.KeptFiles.{AreSpansInOrder, IsKeptIn, IsWithinList, same_list}
 
--- This is a fact: it has one proof at most.
+-- These two are facts: each has one proof at most.
+pub kept_is_fact : (modules : List ModuleVersion) (files : List Kept) (one : Kept) → IsProp (IsKeptIn modules files one)
+kept_is_fact modules files (Valid summary) = hlevel props
+kept_is_fact modules files (Faulty class) = hlevel props
+
 pub order_is_fact : (from : ℕ) (spans : List (Option ListSpan)) (to : ℕ) → IsProp (AreSpansInOrder from spans to)
 order_is_fact from [] to = le_prop
 order_is_fact from (Some span ∷ spans) to = λ a b. λ i.
