@@ -210,10 +210,10 @@ abbrev pub full_file : Main
 full_file = main_with (1, 16) (versions_below most_opened) []
 
 -- a text with what it says
-abbrev pub MainSaid : Type 0
-MainSaid = List ℕ × Main
+abbrev pub MainMeaning : Type 0
+MainMeaning = List ℕ × Main
 
-abbrev pub valid_mains : List MainSaid
+abbrev pub valid_mains : List MainMeaning
 valid_mains =
     (alone_text, alone_file) ∷ (both_text, both_file) ∷ (one_text, one_file) ∷ (two_text, two_file)
     ∷ (excluding_text, excluding_file) ∷ (ends_text, ends_file) ∷ (unfetchable_text, unfetchable_file)
@@ -221,7 +221,7 @@ valid_mains =
     ∷ (later_text, later_file) ∷ (folders_text, folders_file) ∷ (nine_text, nine_file) ∷ (hosts_text, hosts_file)
     ∷ table_mains
 
-abbrev pub main_among : List MainSaid → List ℕ → Result Main (ℕ × Misreading)
+abbrev pub main_among : List MainMeaning → List ℕ → Result Main (ℕ × Misreading)
 main_among [] content = if bytes_eq content many_text then Ok many_file else Err (1, Unknown)
 main_among (one ∷ others) content = if bytes_eq content one.0 then Ok one.1 else main_among others content
 
