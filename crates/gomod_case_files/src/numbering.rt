@@ -49,7 +49,7 @@ pub(crate) fn numbered(
 
 /// The parts of a text between the places of its number.
 fn parts_of(alloc: Global, text: &str) -> Result<Vec<&str>, AllocError> {
-    Ok(text.split(NUMBER).collect(alloc)?)
+    text.split(NUMBER).collect(alloc)
 }
 
 /// Appends parts with digits between them.

@@ -169,7 +169,8 @@ fn line_after(before: &str) -> Result<usize, CaseFault> {
     Ok(number.saturating_add(1))
 }
 
-/// The cases of a text that begins with a title, without its mark, in the line of this number.
+/// The cases of a text that begins with a title, without its mark, in the line of this number. A text without a case is
+/// a fault.
 fn divided<'a>(alloc: Global, line: usize, text: &'a str) -> Result<Vec<CaseText<'a>>, CaseFault> {
     if text.is_empty() {
         return Err(CaseFault::Line(1, NO_CASE));
