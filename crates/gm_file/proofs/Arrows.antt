@@ -64,10 +64,6 @@ right-version-fault left path version p q v (line.Kind k) is-p sound-p is-q soun
 -- ---- the faults of the two sides, in the order in which the parts are read
 
 module _ (left : Left) (path version : List ℕ) where
-  -- the kinds up to those of the version on the left
-  abbrev before-right-version : List DirectiveKind
-  before-right-version = path_kinds left.path ++ path_kinds path ++ left_version_kinds left.version
-
   pub left-path-fault : (fault : LineFault) → IsPartRead {X = List ℕ} {Y = List ℕ} (λ x. x) WrongArguments path_kinds (Some left.path) (Err fault)
       → IsPartRead replace_view WrongArguments replacing_kinds (Some (replacing left (Module path version))) (Err fault)
   left-path-fault line.NoMemory told = tt

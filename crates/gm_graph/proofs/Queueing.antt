@@ -10,12 +10,12 @@ use Rattle.gm_graph_files.specs.declared.class.Class.{Class}
 use Rattle.gm_graph_files.specs.declared.depth.Turn.{Turn}
 use Rattle.gm_graph_files.specs.declared.depth.Depth.{Depth}
 use Rattle.gm_graph_files.specs.declared.depth.Depth.TheVariants.{Deep, Top}
-use Rattle.gm_graph.specs.Run.{AreTooMany, IsDeep, IsOpened, TakesTurn, from_deep, from_top}
+use Rattle.gm_graph.specs.Run.{AreTooMany, IsDeep, TakesTurn, from_deep, from_top}
 use Rattle.gm_graph_cache.specs.Sayings.{KeepsSayings, Run, Says, run_of}
 use Rattle.gm_graph_files.specs.Turns.{turn}
 use Rattle.gm_graph.specs.Private.Turns.{OverflowsWith, Visits, led_to}
 use Rattle.gm_graph.proofs.DoneTurns.{AllTake, AreVisited, along, opened_from}
-use Rattle.gm_graph.proofs.RunLemmas.{deep as deep_too, keeps_agree, opened as opened_too}
+use Rattle.gm_graph.proofs.RunLemmas.{deep as deep_too, keeps_agree}
 
 pub many_first : (run : Run) → OverflowsWith [] (without_excluded run.main run.main.requirements) → AreTooMany run
 many_first run (all, long, once, each) = (
@@ -44,10 +44,6 @@ module _ {main : Main} {sums : Option Sums} (pairs longer : List (Name × Reply)
 
   abbrev later : Run
   later = run_of main sums longer
-
-  -- What was opened stays opened.
-  pub opened_kept : (x : ModuleVersion) → IsOpened earlier x → IsOpened later x
-  opened_kept x is = opened_too earlier later (keeps_agree earlier later refl keeps) x is
 
   pub takes_kept : (x : ModuleVersion) (d : Depth) → TakesTurn earlier x d → TakesTurn later x d
   takes_kept x Top h = h

@@ -3,7 +3,7 @@
 //! The form follows from the minor and patch numbers and from the text before the time. It says whether the
 //! pseudo-version has a base version, and which.
 
-ghost use Rattle.std.specs.Prelude.{◌<◌, ℕ, List, IfNone, IfSome};
+ghost use Rattle.std.specs.Prelude.{ℕ, List, IfNone, IfSome};
 ghost use Rattle.gm_name.specs.Pseudo.{IsFront, IsPseudo};
 
 use crate::stamp::{Pseudo, read_stamp};

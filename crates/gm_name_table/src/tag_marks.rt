@@ -1,6 +1,6 @@
 //! Marks under tags, which say where a search in an ordered map can't be left out.
 
-ghost use Rattle.std.specs.Prelude.{◌≡◌, ◌<◌, IfOk, OnOk, false, length, true};
+ghost use Rattle.std.specs.Prelude.{◌≡◌, IfOk, OnOk, false, length, true};
 ghost use Rattle.gm_name_table.specs.Private.TagMarks.{IsMarked, KeepsMarks, mark_of};
 
 use std::alloc::{AllocError, Global};

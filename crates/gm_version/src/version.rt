@@ -2,7 +2,7 @@
 //!
 //! A `ModVersion` is tested once, when it is read, so code that takes one needs no tests of its own.
 
-ghost use Rattle.std.specs.Prelude.{◌≡◌, ◌↔◌, ◌∷◌, ◌<◌, ℕ, [], IfOk, IsTrue, codes, nat_eq, refl, Some, true, MatchBool};
+ghost use Rattle.std.specs.Prelude.{◌≡◌, ◌↔◌, ◌∷◌, ℕ, [], IfOk, IsTrue, codes, nat_eq, refl, Some, true, MatchBool};
 ghost use Rattle.std.proofs.Common.{rules};
 ghost use Rattle.std.specs.Cmp.{partial_equiv_from_equiv};
 ghost use Rattle.std.specs.Cmp.Rules.{hashing};

@@ -1,5 +1,5 @@
 -- Main files that say the same name the same files, and leave the same requirements.
-use Rattle.std.proofs.Common.{◌≡◌, ◌↔◌, Bool, not, List, filter, Contains, ap, refl, sym}
+use Rattle.std.proofs.Common.{◌≡◌, ◌↔◌, not, List, filter, Contains, ap, refl, sym}
 use mathlib.Core.Path.{fun_ext}
 use Rattle.gm_name.specs.ModuleVersion.{ModuleVersion}
 use Rattle.gm_name.proofs.NameTests.{same-bool}

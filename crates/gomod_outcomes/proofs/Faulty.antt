@@ -1,5 +1,5 @@
 -- Where there are faults, the outcome is their report.
-use Rattle.std.proofs.Common.{List, [], ◌∷◌, ◌≡◌, length, true, false, refl}
+use Rattle.std.proofs.Common.{List, [], ◌∷◌, ◌≡◌, length, false, refl}
 use Rattle.std.specs.Bool.{◌==◌}
 use Rattle.gm_graph.specs.declared.fault.Fault.{Fault}
 use Rattle.gomod_outcomes.specs.Private.Found.{ReportsFaultsOr}

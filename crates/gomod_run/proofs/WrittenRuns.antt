@@ -3,8 +3,7 @@ use Rattle.std.proofs.Common.{◌≡◌, ◌∙◌, ℕ, List, Option, arith, in
 use Rattle.gm_store_parts.specs.Asked.{Name, Reply}
 use Rattle.gm_store_parts.specs.States.{StoreState}
 use Rattle.gm_store_parts.specs.Taken.{SinkState}
-use Rattle.gomod_texts.specs.Outcome.{Outcome, failure_outcome}
-use Rattle.gomod_texts.specs.Reports.{device_line}
+use Rattle.gomod_texts.specs.Outcome.{Outcome}
 use Rattle.gomod_outcomes.specs.Runs.{HoldsAtAnyEnd}
 use Rattle.gomod_run.specs.Written.{IsWritten}
 use Rattle.gomod_run.proofs.WrittenTexts.{written_as}

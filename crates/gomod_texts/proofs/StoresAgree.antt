@@ -1,5 +1,5 @@
 -- What the files of the opened modules say does not depend on what else was asked, or in which order.
-use Rattle.std.proofs.Common.{◌≡◌, ◌∙◌, ℕ, List, Option, Some, refl, subst, sym}
+use Rattle.std.proofs.Common.{◌≡◌, ◌∙◌, List, Option, Some, refl, subst, sym}
 use Rattle.gm_file.specs.Main.{IsMainFile, Main}
 use Rattle.gm_store_parts.specs.Asked.{Name, Reply, names_in}
 use Rattle.gm_store_sums.specs.Sums.{Sums}

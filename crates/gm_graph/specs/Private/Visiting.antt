@@ -29,8 +29,8 @@ abbrev pub OverflowsAt : Run → List Turn → ModuleVersion → Depth → Type 
 OverflowsAt run turns x d = IsRead run × ((said : Result Dependency Class) × Says run x said
     × OverflowsWith turns (led_to run.main said d))
 
--- The whole worklist was visited. The turns are those of the opened vertices, each finding is what the run found of one
--- of them, and the list of a file is what a vertex with the file requires.
+-- The whole worklist was visited. The turns are those of the opened vertices, each finding is what the run says of one
+-- of them, and a file's list is what each vertex with this file requires.
 pub record IsOpenedIn (run : Run) (cache : Cache) (worklist : Worklist) (findings : Findings) : Type 0 where
   pub main_is : main_in cache ≡ run.main
   pub read : IsRead run

@@ -1,4 +1,4 @@
-use Rattle.std.proofs.Common.{refl, sym, ◌∙◌}
+use Rattle.std.proofs.Common.{sym, ◌∙◌}
 use Rattle.gm_file_edit.proofs.Packs.{all-kept, at-count, pack-is}
 use Rattle.gm_file_edit.proofs.KeptBlocks.{in-blocks}
 use Rattle.gm_file_edit.proofs.packing.pack.Goals as goal
