@@ -1,6 +1,7 @@
 //! Commands over files of which one is cut off.
 
 use crate::memory::Memory;
+use crate::program::Program;
 use crate::workspace::Workspace;
 use gomod_case_files::View;
 use gomod_case_runs::{
@@ -17,8 +18,8 @@ const AMPLE: Room = Room {
 /// Runs the commands of a case in memory over files of which one is cut off, and over the same real files. Both must
 /// have the same result, a command that fails writes nothing but its report, and if `fmt` refuses a main file, each
 /// command over it reports the same.
-pub(crate) fn check_cut(
-    workspace: &Workspace<'_>,
+pub(crate) fn check_cut<P: Program>(
+    workspace: &Workspace<'_, P>,
     runs: &[ParsedRun<'_>],
     cut: &CutFile<'_>,
     differences: &mut Differences,
@@ -28,8 +29,8 @@ pub(crate) fn check_cut(
 }
 
 /// Runs the commands of a case over a file that is cut off, whose layout is this.
-fn check_runs_over_cut(
-    workspace: &Workspace<'_>,
+fn check_runs_over_cut<P: Program>(
+    workspace: &Workspace<'_, P>,
     runs: &[ParsedRun<'_>],
     cut: &CutFile<'_>,
     layout: &Option<Outcome>,
@@ -44,8 +45,8 @@ fn check_runs_over_cut(
 }
 
 /// Runs a command in memory, if it runs there, and over real files if the real file is cut off.
-fn check_run_over_cut(
-    workspace: &Workspace<'_>,
+fn check_run_over_cut<P: Program>(
+    workspace: &Workspace<'_, P>,
     parsed_run: &ParsedRun<'_>,
     cut: &CutFile<'_>,
     layout: &Option<Outcome>,
@@ -56,8 +57,8 @@ fn check_run_over_cut(
 }
 
 /// Checks the result of a command in memory, and runs it over real files if the real file is cut off.
-fn check_both(
-    workspace: &Workspace<'_>,
+fn check_both<P: Program>(
+    workspace: &Workspace<'_, P>,
     parsed_run: &ParsedRun<'_>,
     cut: &CutFile<'_>,
     layout: &Option<Outcome>,
@@ -72,8 +73,8 @@ fn check_both(
 }
 
 /// Runs a command over real files, and checks its result by the one in memory, if it runs there.
-fn check_real(
-    workspace: &Workspace<'_>,
+fn check_real<P: Program>(
+    workspace: &Workspace<'_, P>,
     parsed_run: &ParsedRun<'_>,
     cut: &CutFile<'_>,
     layout: &Option<Outcome>,
@@ -86,9 +87,10 @@ fn check_real(
 }
 
 /// The files of a case in memory, of which one is cut off.
-fn cut_memory<'a>(workspace: &Workspace<'a>, cut: &CutFile<'a>) -> Memory<'a> {
+fn cut_memory<'a, P: Program>(workspace: &Workspace<'a, P>, cut: &CutFile<'a>) -> Memory<'a, P> {
     Memory {
         alloc: workspace.alloc(),
+        program: workspace.program,
         view: View {
             case: workspace.case,
             cut: Some((cut.name, cut.bytes)),
@@ -98,8 +100,8 @@ fn cut_memory<'a>(workspace: &Workspace<'a>, cut: &CutFile<'a>) -> Memory<'a> {
 }
 
 /// The result of `fmt` over a file that is cut off, if a command of the case reads it as a main file.
-fn layout_of(
-    workspace: &Workspace<'_>,
+fn layout_of<P: Program>(
+    workspace: &Workspace<'_, P>,
     runs: &[ParsedRun<'_>],
     cut: &CutFile<'_>,
 ) -> Result<Option<Outcome>, AllocError> {

@@ -2,6 +2,7 @@
 
 use crate::cutting::check_cut;
 use crate::outputs::sweep_outputs;
+use crate::program::Program;
 use crate::refusals::sweep_asks;
 use crate::workspace::Workspace;
 use gomod_case_files::{CaseFile, Content, STDIN};
@@ -11,8 +12,8 @@ use std::{fs, io};
 
 /// Runs the commands of a case, all of which pass, over outputs, files and stores that fail and over files that are cut
 /// off, and reports the first thing that is wrong.
-pub(crate) fn sweep(
-    workspace: &Workspace<'_>,
+pub(crate) fn sweep<P: Program>(
+    workspace: &Workspace<'_, P>,
     runs: &[ParsedRun<'_>],
     differences: &mut Differences,
 ) -> io::Result<()> {
@@ -21,8 +22,8 @@ pub(crate) fn sweep(
 }
 
 /// Runs each command of a case over outputs, files and stores that fail.
-fn sweep_runs(
-    workspace: &Workspace<'_>,
+fn sweep_runs<P: Program>(
+    workspace: &Workspace<'_, P>,
     runs: &[ParsedRun<'_>],
     differences: &mut Differences,
 ) -> Result<(), AllocError> {
@@ -35,8 +36,8 @@ fn sweep_runs(
 }
 
 /// Runs a command over outputs, files and a store that fail.
-fn sweep_run(
-    workspace: &Workspace<'_>,
+fn sweep_run<P: Program>(
+    workspace: &Workspace<'_, P>,
     parsed_run: &ParsedRun<'_>,
     differences: &mut Differences,
 ) -> Result<(), AllocError> {
@@ -50,8 +51,8 @@ fn sweep_run(
 }
 
 /// Runs the commands of a case over each of its files, cut off.
-fn sweep_files(
-    workspace: &Workspace<'_>,
+fn sweep_files<P: Program>(
+    workspace: &Workspace<'_, P>,
     runs: &[ParsedRun<'_>],
     differences: &mut Differences,
 ) -> io::Result<()> {
@@ -64,8 +65,8 @@ fn sweep_files(
 }
 
 /// Runs the commands of a case over one of its files, cut off. The real file is whole again at the end.
-fn sweep_file(
-    workspace: &Workspace<'_>,
+fn sweep_file<P: Program>(
+    workspace: &Workspace<'_, P>,
     runs: &[ParsedRun<'_>],
     file: &CaseFile,
     differences: &mut Differences,
@@ -80,8 +81,8 @@ fn sweep_file(
 
 /// Runs the commands of a case over one of its files, cut off: in memory wherever it is cut, and over real files
 /// if a line ends there, or a command runs over real files alone.
-fn sweep_cuts(
-    workspace: &Workspace<'_>,
+fn sweep_cuts<P: Program>(
+    workspace: &Workspace<'_, P>,
     runs: &[ParsedRun<'_>],
     name: &str,
     bytes: &[u8],
@@ -104,8 +105,8 @@ fn sweep_cuts(
 }
 
 /// Runs the commands of a case over a file that is cut off.
-fn sweep_cut(
-    workspace: &Workspace<'_>,
+fn sweep_cut<P: Program>(
+    workspace: &Workspace<'_, P>,
     runs: &[ParsedRun<'_>],
     cut: &CutFile<'_>,
     differences: &mut Differences,
@@ -121,7 +122,11 @@ fn sweep_cut(
 }
 
 /// Writes a file of a case anew, unless it is standard input, which is in no folder.
-fn write_file(workspace: &Workspace<'_>, name: &str, bytes: &[u8]) -> io::Result<()> {
+fn write_file<P: Program>(
+    workspace: &Workspace<'_, P>,
+    name: &str,
+    bytes: &[u8],
+) -> io::Result<()> {
     if name == STDIN {
         return Ok(());
     }

@@ -1,5 +1,6 @@
 //! Whether the commands of a case have the results that it states.
 
+use crate::program::Program;
 use crate::sweeping::sweep;
 use crate::workspace::Workspace;
 use gomod_case_calls::call;
@@ -13,23 +14,25 @@ use std::{fs, io};
 
 /// Checks the commands of a case, reports how their results differ from those that the case states, and counts the
 /// runs.
-pub(crate) fn check_case(
+pub(crate) fn check_case<P: Program>(
     rt: &HostRuntime,
+    program: &P,
     case: &Case<'_>,
     count: &Count,
     differences: &mut Differences,
 ) -> io::Result<()> {
     let root = make_folder(rt)?;
     let root = root.as_str();
-    let checked = check_below(rt, root, case, count, differences);
+    let checked = check_below(rt, program, root, case, count, differences);
     let removed = fs::remove_dir_all(rt, root);
     checked?;
     removed
 }
 
 /// Checks the commands of a case in a folder below this one.
-fn check_below(
+fn check_below<P: Program>(
     rt: &HostRuntime,
+    program: &P,
     root: &str,
     case: &Case<'_>,
     count: &Count,
@@ -42,6 +45,7 @@ fn check_below(
     }
     let workspace = Workspace {
         system: *rt,
+        program,
         folder,
         case,
         input: KnownInput::of(View::whole(case).named(STDIN).unwrap_or(b"")),
@@ -51,14 +55,17 @@ fn check_below(
 }
 
 /// Checks the commands of a case in its workspace.
-fn check_in(workspace: &Workspace<'_>, differences: &mut Differences) -> io::Result<()> {
+fn check_in<P: Program>(
+    workspace: &Workspace<'_, P>,
+    differences: &mut Differences,
+) -> io::Result<()> {
     let runs = parsed_runs(workspace.alloc(), workspace.case)?;
     check_parsed(workspace, runs.as_slice(), differences)
 }
 
 /// Checks the commands of a case, and if all pass also over what fails and what is cut off.
-fn check_parsed(
-    workspace: &Workspace<'_>,
+fn check_parsed<P: Program>(
+    workspace: &Workspace<'_, P>,
     runs: &[ParsedRun<'_>],
     differences: &mut Differences,
 ) -> io::Result<()> {
@@ -70,8 +77,8 @@ fn check_parsed(
 }
 
 /// Checks the commands of a case.
-fn check_runs(
-    workspace: &Workspace<'_>,
+fn check_runs<P: Program>(
+    workspace: &Workspace<'_, P>,
     runs: &[ParsedRun<'_>],
     differences: &mut Differences,
 ) -> Result<(), AllocError> {
@@ -82,8 +89,8 @@ fn check_runs(
 }
 
 /// Checks a command of a case.
-fn check_run(
-    workspace: &Workspace<'_>,
+fn check_run<P: Program>(
+    workspace: &Workspace<'_, P>,
     parsed_run: &ParsedRun<'_>,
     differences: &mut Differences,
 ) -> Result<(), AllocError> {
@@ -98,7 +105,10 @@ fn check_run(
 }
 
 /// What a call of a library function gives, or none if there is no such call.
-fn text_of_call(workspace: &Workspace<'_>, run: &Run<'_>) -> Result<Option<String>, AllocError> {
+fn text_of_call<P: Program>(
+    workspace: &Workspace<'_, P>,
+    run: &Run<'_>,
+) -> Result<Option<String>, AllocError> {
     let Some(words) = texts_of(workspace.alloc(), run.words.as_slice())? else {
         return Ok(None);
     };
@@ -111,8 +121,8 @@ fn text_of_call(workspace: &Workspace<'_>, run: &Run<'_>) -> Result<Option<Strin
 }
 
 /// Checks a call of a library function.
-fn check_call(
-    workspace: &Workspace<'_>,
+fn check_call<P: Program>(
+    workspace: &Workspace<'_, P>,
     run: &Run<'_>,
     differences: &mut Differences,
 ) -> Result<(), AllocError> {
@@ -127,8 +137,8 @@ fn check_call(
 }
 
 /// Checks a command line over real files. One that takes standard input runs once more, over short reads.
-fn check_real(
-    workspace: &Workspace<'_>,
+fn check_real<P: Program>(
+    workspace: &Workspace<'_, P>,
     parsed_run: &ParsedRun<'_>,
     differences: &mut Differences,
 ) -> Result<(), AllocError> {
@@ -150,8 +160,8 @@ fn check_real(
 }
 
 /// Checks the result of a command line over real files if a read of standard input gives only a few bytes.
-fn check_short_reads(
-    workspace: &Workspace<'_>,
+fn check_short_reads<P: Program>(
+    workspace: &Workspace<'_, P>,
     run: &Run<'_>,
     differences: &mut Differences,
 ) -> Result<(), AllocError> {
@@ -166,8 +176,8 @@ fn check_short_reads(
 
 /// Checks a command line over a store in memory. If the result differs there, or the command can't be run in memory,
 /// the case has to say so.
-fn check_in_memory(
-    workspace: &Workspace<'_>,
+fn check_in_memory<P: Program>(
+    workspace: &Workspace<'_, P>,
     parsed_run: &ParsedRun<'_>,
     differences: &mut Differences,
 ) -> Result<(), AllocError> {

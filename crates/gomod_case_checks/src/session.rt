@@ -1,6 +1,7 @@
-//! The program over files of cases.
+//! A program over files of cases.
 
 use crate::checking::check_case;
+use crate::program::Program;
 use gomod_case_files::{
     Case, CaseFault, CaseFile, CaseText, Content, Sizes, case_texts, read_case,
 };
@@ -16,12 +17,12 @@ fn names_file(word: &str) -> bool {
     word.ends_with(ENDING)
 }
 
-/// The program. Its words that end in `.txt` name files of cases, and all others choose the cases whose titles
-/// contain one of them. It runs these cases, reports on standard error how each that fails differs, and prints how many
-/// passed and failed, and if all passed how many runs were made. The status is 0 if all passed, 1 if one failed or a
-/// file of cases can't be read, and 3 if the cases can't be run.
-pub(crate) fn exit_code(rt: &HostRuntime) -> ExitCode {
-    match all_pass(rt) {
+/// Runs cases with a program. The words of the command line that end in `.txt` name files of cases, and all others
+/// choose the cases whose titles contain one of them. It runs these cases, reports on standard error how each that
+/// fails differs, and prints how many passed and failed, and if all passed how many runs were made. The status is 0 if
+/// all passed, 1 if one failed or a file of cases can't be read, and 3 if the cases can't be run.
+pub fn exit_code<P: Program>(rt: &HostRuntime, program: &P) -> ExitCode {
+    match all_pass(rt, program) {
         Ok(true) => ExitCode::SUCCESS,
         Ok(false) => ExitCode::from(1),
         Err(error) => {
@@ -37,17 +38,22 @@ fn words(rt: &HostRuntime) -> io::Result<Vec<String>> {
 }
 
 /// Runs the cases, and says whether all passed.
-fn all_pass(rt: &HostRuntime) -> io::Result<bool> {
+fn all_pass<P: Program>(rt: &HostRuntime, program: &P) -> io::Result<bool> {
     let words = words(rt)?;
-    all_chosen_pass(rt, words.as_slice())
+    all_chosen_pass(rt, program, words.as_slice())
 }
 
 /// Runs the cases that words name and choose, and says whether all passed.
-fn all_chosen_pass(rt: &HostRuntime, words: &[String]) -> io::Result<bool> {
+fn all_chosen_pass<P: Program>(
+    rt: &HostRuntime,
+    program: &P,
+    words: &[String],
+) -> io::Result<bool> {
     let mut unmatched = Vec::new(rt.alloc());
     unmatched.resize(words.len(), true)?;
     let mut session = Session {
         system: *rt,
+        program,
         words,
         unmatched,
         count: Count::new(),
@@ -57,10 +63,11 @@ fn all_chosen_pass(rt: &HostRuntime, words: &[String]) -> io::Result<bool> {
     session.run_files()
 }
 
-/// What the program was asked for, and how many cases passed and failed so far.
+/// What the cases are run with, which are asked for, and how many passed and failed so far.
 #[derive(Drop)]
-struct Session<'a> {
+struct Session<'a, P> {
     system: HostRuntime,
+    program: &'a P,
     words: &'a [String],
     /// For each word, whether it names no file and is in no title so far.
     unmatched: Vec<bool>,
@@ -69,7 +76,7 @@ struct Session<'a> {
     failed: usize,
 }
 
-impl<'a> Session<'a> {
+impl<'a, P: Program> Session<'a, P> {
     /// Runs the cases of all files, prints how many passed, and says whether all did.
     fn run_files(&mut self) -> io::Result<bool> {
         for word in self.words {
@@ -199,7 +206,13 @@ impl<'a> Session<'a> {
     /// Checks a case.
     fn check(&mut self, name: &str, case: &Case<'_>) -> io::Result<()> {
         let mut differences = Differences::new(self.system.alloc());
-        check_case(&self.system, case, &self.count, &mut differences)?;
+        check_case(
+            &self.system,
+            self.program,
+            case,
+            &self.count,
+            &mut differences,
+        )?;
         self.end_case(name, case, &differences)
     }
 

@@ -1,5 +1,6 @@
 //! Commands over outputs with room for exactly what they write, and for fewer bytes.
 
+use crate::program::Program;
 use crate::workspace::Workspace;
 use gomod_case_runs::{
     DEVICE, Differences, Outcome, Output, ParsedRun, Room, begins_line, is_cut, is_short,
@@ -9,8 +10,8 @@ use std::alloc::AllocError;
 
 /// Runs a command over outputs with room for exactly what it writes, and for fewer bytes. With exactly that room it
 /// must have the result of the case; with less it must write as much as there is room for, and end with status 3.
-pub(crate) fn sweep_outputs(
-    workspace: &Workspace<'_>,
+pub(crate) fn sweep_outputs<P: Program>(
+    workspace: &Workspace<'_, P>,
     parsed_run: &ParsedRun<'_>,
     differences: &mut Differences,
 ) -> Result<(), AllocError> {
@@ -36,8 +37,8 @@ pub(crate) fn sweep_outputs(
 }
 
 /// Runs a command over outputs with room for exactly what it writes.
-fn check_exact(
-    workspace: &Workspace<'_>,
+fn check_exact<P: Program>(
+    workspace: &Workspace<'_, P>,
     parsed_run: &ParsedRun<'_>,
     is_real: bool,
     differences: &mut Differences,
@@ -56,8 +57,8 @@ fn check_exact(
 }
 
 /// Runs a command with less room for one of its outputs than it needs.
-fn sweep_output(
-    workspace: &Workspace<'_>,
+fn sweep_output<P: Program>(
+    workspace: &Workspace<'_, P>,
     parsed_run: &ParsedRun<'_>,
     output: Output,
     is_cut_everywhere: bool,
@@ -81,8 +82,8 @@ fn sweep_output(
 }
 
 /// Runs a command with room for only these bytes in one of its outputs.
-fn check_full(
-    workspace: &Workspace<'_>,
+fn check_full<P: Program>(
+    workspace: &Workspace<'_, P>,
     parsed_run: &ParsedRun<'_>,
     output: Output,
     fitting: &[u8],
@@ -99,8 +100,8 @@ fn check_full(
 
 /// The result of a command over outputs with this room, in memory or, if that is wanted or it can't be run in
 /// memory, over real files.
-fn outcome_within(
-    workspace: &Workspace<'_>,
+fn outcome_within<P: Program>(
+    workspace: &Workspace<'_, P>,
     parsed_run: &ParsedRun<'_>,
     room: Room,
     is_real: bool,

@@ -1,25 +1,25 @@
 //! Command lines over stores in memory.
 
-ghost use Rattle.std.specs.Prelude.{◌≡◌, [], None, false, true};
-ghost use Rattle.std.specs.Option.{option_map};
-ghost use Rattle.gomod_outcomes.specs.Runs.{is_query};
+ghost use Rattle.std.specs.Prelude.{◌≡◌, []};
 
+use crate::program::Program;
 use gm_name::ModPath;
 use gm_store::{FileName, Files, MemoryFiles, ProxyList};
 use gomod_case_files::{STDIN, View};
 use gomod_case_runs::{Count, Folders, InMemory, Outcome, Parsed, ParsedRun, Room, asked_of};
-use gomod_run::{Command, run};
+use gomod_words::Command;
 use std::alloc::{AllocError, Global};
 
 /// The files of a case in memory.
-#[derive(Clone, Copy)]
-pub(crate) struct Memory<'a> {
+#[derive_where(Clone, Copy)]
+pub(crate) struct Memory<'a, P> {
     pub(crate) alloc: Global,
+    pub(crate) program: &'a P,
     pub(crate) view: View<'a>,
     pub(crate) count: &'a Count,
 }
 
-impl Memory<'_> {
+impl<P: Program> Memory<'_, P> {
     /// Runs a command line over stores in memory, whose device fails at the broken file, if there is one. The result is
     /// none if a file that its words name is not in the case.
     pub(crate) fn outcome(
@@ -113,9 +113,7 @@ impl Memory<'_> {
         parsed: &Parsed,
         broken: Option<&FileName>,
         room: Room,
-    ) -> Result<Option<InMemory>, AllocError>
-        requires { is_query parsed.now.command ≡ true }
-    {
+    ) -> Result<Option<InMemory>, AllocError> {
         let command = &parsed.command;
         let (Some(main), Some(list)) = (
             self.view.named(parsed.places.main.as_str()),
@@ -166,9 +164,7 @@ impl Memory<'_> {
         sums: Option<&[u8]>,
         folders: Folders,
         room: Room,
-    ) -> Result<Option<InMemory>, AllocError>
-        requires { is_query command.now ≡ false → option_map (λ sums. sums.now) sums ≡ None }
-    {
+    ) -> Result<Option<InMemory>, AllocError> {
         let Some(mut files) = folders.into_store(self.alloc) else {
             return Ok(None);
         };
@@ -184,8 +180,7 @@ impl Memory<'_> {
         files: &mut F,
         room: Room,
     ) -> Result<Option<InMemory>, AllocError>
-        requires unasked { (F.state files.old).asked ≡ [] }
-        requires no_sums { is_query command.now ≡ false → option_map (λ sums. sums.now) sums ≡ None }
+        requires { (F.state files.old).asked ≡ [] }
     {
         let outcome = self.outcome_over(command, main, sums, files, room)?;
         let asked = asked_of(self.alloc, files)?;
@@ -201,12 +196,11 @@ impl Memory<'_> {
         files: &mut F,
         room: Room,
     ) -> Result<Outcome, AllocError>
-        requires unasked { (F.state files.old).asked ≡ [] }
-        requires no_sums { is_query command.now ≡ false → option_map (λ sums. sums.now) sums ≡ None }
+        requires { (F.state files.old).asked ≡ [] }
     {
         let (mut out, mut report) = room.sinks(self.alloc)?;
         self.count.add();
-        let status = run(
+        let status = self.program.status_over(
             self.alloc,
             command,
             main,
@@ -218,7 +212,7 @@ impl Memory<'_> {
         Ok(Outcome {
             out,
             report,
-            status: status.code(),
+            status,
         })
     }
 }

@@ -1,31 +1,33 @@
 //! Commands over real files.
 
 use crate::memory::Memory;
+use crate::program::Program;
 use gomod_case_files::{Case, Run, View};
 use gomod_case_runs::{CaseRuntime, Count, KnownInput, Log, Outcome, Real, Room};
-use gomod_run::ending_of;
 use std::alloc::{AllocError, Global};
 
 /// A case, a real folder with its files, and what its commands read from standard input.
-#[derive(Clone, Copy)]
-pub(crate) struct Workspace<'a> {
+#[derive_where(Clone, Copy)]
+pub(crate) struct Workspace<'a, P> {
     pub(crate) system: HostRuntime,
+    pub(crate) program: &'a P,
     pub(crate) folder: &'a str,
     pub(crate) case: &'a Case<'a>,
     pub(crate) input: KnownInput<'a>,
     pub(crate) count: &'a Count,
 }
 
-impl<'a> Workspace<'a> {
+impl<'a, P: Program> Workspace<'a, P> {
     /// Where its texts and lists are.
     pub(crate) fn alloc(&self) -> Global {
         self.system.alloc()
     }
 
     /// The same with another standard input.
-    pub(crate) fn with_input(&self, input: KnownInput<'a>) -> Workspace<'a> {
+    pub(crate) fn with_input(&self, input: KnownInput<'a>) -> Workspace<'a, P> {
         Workspace {
             system: self.system,
+            program: self.program,
             folder: self.folder,
             case: self.case,
             input,
@@ -34,9 +36,10 @@ impl<'a> Workspace<'a> {
     }
 
     /// The files of the case in memory.
-    pub(crate) fn memory(&self) -> Memory<'a> {
+    pub(crate) fn memory(&self) -> Memory<'a, P> {
         Memory {
             alloc: self.alloc(),
+            program: self.program,
             view: View::whole(self.case),
             count: self.count,
         }
@@ -92,7 +95,7 @@ impl<'a> Workspace<'a> {
             log,
         };
         self.count.add();
-        let status = ending_of(&runtime, &mut out, &mut report).code();
+        let status = self.program.status_in(&runtime, &mut out, &mut report);
         Ok(Outcome {
             out,
             report,

@@ -1,5 +1,6 @@
 //! Command lines over files that can't be opened, and over a store that fails at a file.
 
+use crate::program::Program;
 use crate::workspace::Workspace;
 use gm_store::FileName;
 use gomod_case_files::Run;
@@ -15,8 +16,8 @@ const A_LINE: Room = Room {
 };
 
 /// Runs a command that looks into one proxy folder at most over files that can't be opened, and a store that fails.
-pub(crate) fn sweep_asks(
-    workspace: &Workspace<'_>,
+pub(crate) fn sweep_asks<P: Program>(
+    workspace: &Workspace<'_, P>,
     run: &Run<'_>,
     parsed: &Parsed,
     differences: &mut Differences,
@@ -32,8 +33,8 @@ pub(crate) fn sweep_asks(
 }
 
 /// Does so by the files that the command asks for over a store that doesn't fail.
-fn sweep_asked(
-    workspace: &Workspace<'_>,
+fn sweep_asked<P: Program>(
+    workspace: &Workspace<'_, P>,
     run: &Run<'_>,
     parsed: &Parsed,
     asked: &[FileName],
@@ -51,8 +52,8 @@ fn sweep_asked(
 
 /// Runs a command once for each of its files, which can't be opened then. It must write nothing, and report that file.
 /// The store is asked for the last of these files.
-fn sweep_opens(
-    workspace: &Workspace<'_>,
+fn sweep_opens<P: Program>(
+    workspace: &Workspace<'_, P>,
     run: &Run<'_>,
     asked: &[FileName],
     differences: &mut Differences,
@@ -62,8 +63,8 @@ fn sweep_opens(
 }
 
 /// Runs a command once for each of the files that it opened.
-fn sweep_opened(
-    workspace: &Workspace<'_>,
+fn sweep_opened<P: Program>(
+    workspace: &Workspace<'_, P>,
     run: &Run<'_>,
     asked: &[FileName],
     opened: &[String],
@@ -85,8 +86,8 @@ fn sweep_opened(
 }
 
 /// Runs a command that can open this many files and not the next one, of which it must make this report.
-fn check_failing(
-    workspace: &Workspace<'_>,
+fn check_failing<P: Program>(
+    workspace: &Workspace<'_, P>,
     run: &Run<'_>,
     left: usize,
     wanted: &str,
@@ -101,8 +102,8 @@ fn check_failing(
 
 /// Makes the store fail at each file that a command asks for, one at a time. The command must write nothing, report
 /// that file, and ask for the files before it and no other.
-fn sweep_refusals(
-    workspace: &Workspace<'_>,
+fn sweep_refusals<P: Program>(
+    workspace: &Workspace<'_, P>,
     run: &Run<'_>,
     parsed: &Parsed,
     asked: &[FileName],
@@ -124,8 +125,8 @@ fn sweep_refusals(
 }
 
 /// Runs a command over a store that fails at a file. It must report that file, and ask for those before it alone.
-fn check_refused(
-    workspace: &Workspace<'_>,
+fn check_refused<P: Program>(
+    workspace: &Workspace<'_, P>,
     run: &Run<'_>,
     parsed: &Parsed,
     refused: &FileName,
