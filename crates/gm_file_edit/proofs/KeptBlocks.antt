@@ -3,12 +3,13 @@ use Rattle.std.proofs.Common.{◌≡◌, ℕ, ◌&&◌, not, Bool, true, false, 
 use Rattle.std.specs.Prelude.{⊤}
 use Rattle.std.specs.List.{AllByRecursion, cons_option}
 use Rattle.std.proofs.lemmas.Bool.{cases_Bool}
+use Rattle.gm_marked_items.specs.Unmarked.{unmarked}
 use Rattle.gm_name.proofs.NameTests.{and_both}
 use Rattle.gm_syntax_words.specs.Tokens.{Placed}
 use Rattle.gm_syntax.specs.Document.{Line, Blank, Comment, Open, Close, Entry}
 use Rattle.gm_file.specs.Directives.{block_after_line, block_after_lines, item_at, with_blocks_from}
 use Rattle.gm_file_edit.specs.Fates.{Fate, empties, is_emptied, kept_lines, remaining, widened_from}
-use Rattle.gm_file_edit.specs.Private.Marks.{AreAtEntries, fates_of, unmarked}
+use Rattle.gm_file_edit.specs.Private.Marks.{AreAtEntries, fates_of}
 use Rattle.gm_file_edit.proofs.Pairs.{Seat, held_at, held_in}
 use Rattle.gm_file_edit.proofs.Walking.{level-line}
 

@@ -3,6 +3,7 @@ use Rattle.std.proofs.Common.{◌≡◌, ℕ, zero, suc, ◌+◌, ◌<◌, ◌�
 use Rattle.std.specs.Prelude.{insert}
 use Rattle.std.proofs.lemmas.List.{get_or_default, length-map, map-append, map-set, take_all, take_more}
 use Rattle.std.proofs.Math.ListN.{get_or-map}
+use Rattle.gm_marked_items.specs.Unmarked.{unmarked}
 use Rattle.gm_syntax_words.specs.Tokens.{Placed}
 use Rattle.gm_syntax.proofs.Edits.{map-insert}
 use Rattle.gm_syntax.specs.declared.line.Line as declared
@@ -15,7 +16,7 @@ use Rattle.gm_file.proofs.Snoc.{with_blocks-snoc}
 use Rattle.gm_file_edit.specs.Holding.{item_of, is_loose}
 use Rattle.gm_file_edit.specs.declared.keys.Key.{Key}
 use Rattle.gm_file_edit.specs.Private.Keys.{held_subject, key_at, key_with, keys_from}
-use Rattle.gm_file_edit.specs.Private.Marks.{line_at, unmarked}
+use Rattle.gm_file_edit.specs.Private.Marks.{line_at}
 use Rattle.gm_file_edit.proofs.Pairs.{IsSound, Seat}
 use Rattle.gm_file_edit.proofs.Walking.{block-next, level-line, right-at}
 

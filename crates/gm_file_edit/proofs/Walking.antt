@@ -1,17 +1,13 @@
--- Lists from an index on, and lines walked over by their keys.
-use Rattle.std.proofs.Common.{◌≡◌, ℕ, zero, suc, ◌+◌, ◌<◌, not, false, List, [], ◌∷◌, length, get_or, drop, take, drop-cons, Option, None, refl, arith}
+-- Lines walked over by their keys.
+use Rattle.std.proofs.Common.{◌≡◌, ℕ, zero, suc, ◌+◌, ◌<◌, not, false, List, [], ◌∷◌, length, drop, take, Option, None, refl, arith}
 use Rattle.std.proofs.lemmas.List.{get_or_default, take_more}
+use Rattle.gm_marked_items.proofs.Kept.{drop-next}
 use Rattle.gm_syntax_words.specs.Tokens.{Placed}
 use Rattle.gm_syntax.specs.Document.{Line, Blank, Comment, Open, Close, Entry}
 use Rattle.gm_file.specs.Directives.{block_after_line, block_after_lines}
 use Rattle.gm_file_edit.specs.Holding.{is_loose}
 use Rattle.gm_file_edit.specs.Private.Marks.{line_at}
 use Rattle.gm_file_edit.proofs.Pairs.{AreRightFrom, IsRightLine, block-append}
-
-pub drop-next : {X : Type 0} (xs : List X) (n : ℕ) (x : X) → n < length xs → x ≡ get_or xs n x → drop n xs ≡ x ∷ drop (n + 1) xs
-drop-next xs n x lt is =
-    let e : suc n ≡ n + 1 = omega arith in
-    rw (drop-cons xs n x lt, ← is, e)
 
 -- the line at an index, before the others
 pub line-here : (whole : List (Line Placed)) (n : ℕ) → n < length whole → drop n whole ≡ line_at whole n ∷ drop (n + 1) whole

@@ -2,16 +2,18 @@
 
 ghost use Rattle.std.specs.Prelude.{◌≡◌, ◌+◌, ◌^◌, ◌∷◌, ◌++◌, ◌<◌, ◌≤◌, length, take, drop, insert, slice_set, true, IfOk, None, OnErr, OnOk};
 ghost use Rattle.std.specs.Vec.{vec_capacity, vec_len};
+ghost use Rattle.gm_marked_items.specs.Unmarked.{unmarked};
 ghost use Rattle.gm_syntax.specs.Document.{Blank, IsDocument};
 ghost use Rattle.gm_syntax.specs.LineViews.{line_of, line_views, plain_lines};
 ghost use Rattle.gm_file.specs.Directives.{Strict, block_after_lines, with_blocks_from};
 ghost use Rattle.gm_file.specs.Faults.{fault_of};
 ghost use Rattle.gm_file_edit.specs.Holding.{is_loose};
 ghost use Rattle.gm_file_edit.specs.Private.Keys.{key_at, keys_from};
-ghost use Rattle.gm_file_edit.specs.Private.Marks.{line_at, unmarked};
+ghost use Rattle.gm_file_edit.specs.Private.Marks.{line_at};
 
 use crate::keys::{Key, key_of, silent_key};
 use gm_file::block_after_line;
+use gm_marked_items::keep_unmarked;
 use gm_syntax::Line;
 use std::alloc::{AllocError, Global};
 use std::marker::Model;
@@ -117,34 +119,6 @@ fn insert_keyed<'a>(
 {
     insert_in_room(keys, at, key);
     insert_in_room(lines, at, line);
-}
-
-/// Keeps an item, directly after those that are kept so far.
-fn keep<T: Drop>(list: &mut Vec<T>, kept: usize, n: usize)
-    requires ordered { kept ≤ n }
-    requires in_range { n < length list.old.items }
-    ensures front { take (kept + 1) list.new.items ≡ take kept list.old.items ++ take 1 (drop n list.old.items) }
-    ensures rest { drop (n + 1) list.new.items ≡ drop (n + 1) list.old.items }
-    ensures len { length list.new.items ≡ length list.old.items }
-{
-    if kept < n {
-        list.swap(kept, n);
-    }
-}
-
-/// Keeps the items that have no mark.
-fn keep_unmarked<T: Drop>(list: &mut Vec<T>, marks: &[bool])
-    requires { length marks.now ≡ length list.old.items }
-    ensures { list.new.items ≡ unmarked marks.now list.old.items }
-{
-    let mut count = 0;
-    for (n, goes) in marks.iter().enumerate() {
-        if !*goes {
-            keep(list, count, n);
-            count += 1;
-        }
-    }
-    list.truncate(count);
 }
 
 impl<'a> KeyedLines<'a> {

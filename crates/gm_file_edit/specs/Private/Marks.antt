@@ -35,13 +35,6 @@ marks_from test block lines = map (λ seat. passes test (directive_at seat.0 sea
 abbrev pub fates_of : List Bool → List (Line Placed) → List Fate
 fates_of marks lines = map (λ pair. fate_by pair.0 pair.1) (zip marks lines)
 
--- the items without a mark
-abbrev pub unmarked : {X : Type 0} → List Bool → List X → List X
-unmarked [] items = []
-unmarked (mark ∷ marks) [] = []
-unmarked (true ∷ marks) (item ∷ items) = unmarked marks items
-unmarked (false ∷ marks) (item ∷ items) = item ∷ unmarked marks items
-
 -- each line has a mark or not, and none that opens or closes a block has one
 abbrev pub AreAtEntries : List Bool → List (Line Placed) → Type 0
 AreAtEntries [] [] = ⊤

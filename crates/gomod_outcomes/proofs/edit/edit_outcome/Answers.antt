@@ -2,7 +2,7 @@ use Rattle.std.proofs.Common.{◌≡◌, ◌∙◌, ◌+◌, ◌∷◌, ℕ, Lis
 use Rattle.std.proofs.Math.ListN.{drop_of_length-le}
 use Rattle.std.specs.List.{filter_map}
 use Rattle.gm_file_edit.specs.Edits.{edit_in}
-use Rattle.gm_file_edit.proofs.Walking.{drop-next}
+use Rattle.gm_marked_items.proofs.Kept.{drop-next}
 use Rattle.gomod_outcomes.specs.Edit.{EditEnds, lines_after_all, refusals_from}
 use Rattle.gomod_texts.specs.Outcome.{OrNoMemory}
 use Rattle.gomod_outcomes.proofs.Operations.{all_applied, bad_file, next_lines, next_refusals, one_refused}

@@ -1,6 +1,6 @@
 use Rattle.std.proofs.Common.{◌≡◌, arith}
-use Rattle.gm_file_edit.proofs.Packs.{kept-here, swap-front, swap-rest}
-use Rattle.gm_file_edit.proofs.keyed_lines.keep.Goals as goal
+use Rattle.gm_marked_items.proofs.Kept.{kept-here, swap-front, swap-rest}
+use Rattle.gm_marked_items.proofs.keep.Goals as goal
 
 pub returns-then-kept-n-clause-front : goal.returns-then-kept-n-clause-front
 returns-then-kept-n-clause-front g c = rw c.swap.ensures.items (swap-front c.args.list.now.items c.args.kept c.args.n c.if-kept-n.true c.requires.in_range)

@@ -1,7 +1,7 @@
 use Rattle.std.proofs.Common.{◌+◌, ◌∙◌, arith, false, refl, sym, true}
-use Rattle.gm_file_edit.proofs.Packs.{keep-more}
-use Rattle.gm_file_edit.proofs.keyed_lines.keep_unmarked.Goals as goal
-use Rattle.gm_file_edit.proofs.keyed_lines.keep_unmarked.Goals.{then-not-goes, else-not-goes}
+use Rattle.gm_marked_items.proofs.Kept.{keep-more}
+use Rattle.gm_marked_items.proofs.keep_unmarked.Goals as goal
+use Rattle.gm_marked_items.proofs.keep_unmarked.Goals.{then-not-goes, else-not-goes}
 use Rattle.std.proofs.lemmas.List.{get_or_default}
 
 pub loop-n-preserved : goal.loop-n-preserved
