@@ -40,6 +40,12 @@ turns-preserved g c =
 pub returns-clause-opened : goal.returns-clause-opened
 returns-clause-opened g c = last_step c.turns.invariant.state c.turns.invariant.ready.found (omega arith)
 
+pub returns-clause-asks : goal.returns-clause-asks
+returns-clause-asks g c = c.turns.invariant.asks
+
+pub returns-clause-too_many : goal.returns-clause-too_many
+returns-clause-too_many g c = λ e. absurd (cc e)
+
 pub visit-requires : goal.visit-requires
 visit-requires g c =
     let state = c.turns.invariant.state in
