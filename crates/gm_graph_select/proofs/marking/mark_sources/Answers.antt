@@ -6,6 +6,11 @@ use Rattle.gm_graph_select.specs.Private.Marking.{named_by}
 use Rattle.gm_graph_select.proofs.Marks.{both_marked, next_named}
 use Rattle.gm_graph_select.proofs.marking.mark_sources.Goals as goal
 
+pub mark_one-requires : goal.mark_one-requires
+mark_one-requires c =
+    let none : Source = record { from = None; list = 0 } in
+    rw c.loop-one.invariant.marks.count (c.requires.sources c.loop-one.one-index none c.loop-one-test.true)
+
 pub loop-one-preserved : goal.loop-one-preserved
 loop-one-preserved c =
     let lists = c.args.lists.now in
