@@ -105,6 +105,14 @@ module _ (modules : List ModuleVersion) where
 
 -- ---- the list of modules, as it grows and is cut
 
+-- Nothing was put to the end of a list that stayed.
+pub appends_none : (list : NumberedList) → Appends list list []
+appends_none list = record {
+  numbered = ([], sym (append-nil list.modules));
+  kept = ([], sym (append-nil list.numbers));
+  listed = sym (append-nil (modules_of list));
+}
+
 -- If a list begins another, it is what stands there at the front.
 front_is : {T : Type 0} (xs more : List T) (whole : List T) (count : ℕ) → whole ≡ xs ++ more → count ≡ length xs
     → take count whole ≡ xs

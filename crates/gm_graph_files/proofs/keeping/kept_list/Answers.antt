@@ -1,4 +1,6 @@
 use Rattle.std.proofs.Common.{◌≡◌, ◌≤◌, ◌∙◌, arith, ap, length, refl, subst, sym}
+use Rattle.std.proofs.lemmas.Bool.{false≢true}
+use Rattle.std.proofs.lemmas.Option.{none-some}
 use Rattle.gm_name_table.specs.Listed.{NumberedList, modules_of, part}
 use Rattle.gm_graph_files.specs.Summaries.{at_span}
 use Rattle.gm_graph_files.specs.NotedLists.{NotesAll}
@@ -103,12 +105,15 @@ pub returns-clause-listed : goal.returns-clause-listed
 returns-clause-listed c =
     let mid = c.leave_out.new.modules in
     let below = ends (goal.at.returns-clause-listed c).In_ok-leave_out in
-    (own_within_list mid c.args.start c.len-end.result below c.len-end.ensures.len, λ place e. absurd (cc e))
+    (own_within_list mid c.args.start c.len-end.result below c.len-end.ensures.len, λ place e. absurd (none-some place e))
 
 pub returns-clause-order : goal.returns-clause-order
 returns-clause-order c =
     let below = ends (goal.at.returns-clause-order c).In_ok-leave_out in
     (omega arith, omega (arith, below, c.len-end.ensures.len), omega (arith, c.len-end.ensures.len))
+
+pub returns-clause-cut : goal.returns-clause-cut
+returns-clause-cut c = λ shared. absurd (false≢true shared)
 
 pub returns-clause-next : goal.returns-clause-next
 returns-clause-next c = λ file.
