@@ -10,7 +10,7 @@ use Rattle.gm_name.specs.ModuleVersion.{ModuleVersion, module_at, pair_eq, pair_
 use Rattle.gm_name_table.specs.Listed.{AreModuleNumbers}
 use Rattle.gm_graph_cache.specs.declared.cache.parts.CacheParts.{CacheParts}
 use Rattle.gm_graph.specs.Private.Findings.{place_at}
-use Rattle.gm_graph.specs.Private.Gathering.{AreFilePlaces, sources_from, gathered_sources, span_after, spans_from, spans_of, steps_by}
+use Rattle.gm_graph.specs.Private.Gathering.{AreFilePlaces, source_at, sources_from, gathered_sources, span_after, spans_from, spans_of, steps_by}
 use Rattle.gm_graph_select.specs.declared.adjacency.Source.{Source}
 use Rattle.gm_graph_select.specs.declared.number_lists.Span.{Span}
 use Rattle.gm_graph_select.specs.Adjacency.{IsBelow, StepEdges, by_step, left_by, list_at, same_step}
@@ -139,6 +139,15 @@ pub from_place : (files : List Kept) (k : ℕ) (one : Kept) → k < length files
     → drop k files ≡ one ∷ drop (k + 1) files
 from_place files k one below is =
     let next : k + 1 ≡ suc k = omega arith in rw next (drop-cons files k one below ∙ rw (← is))
+
+-- one source more
+pub source_more : (number k : ℕ) (places : List (Option ℕ)) (old : List Source) {new whole : List Source} → k < length places
+    → new ≡ old ++ source_at number (get_or places k None) → old ++ sources_from number (drop k places) ≡ whole
+    → new ++ sources_from (number + 1) (drop (k + 1) places) ≡ whole
+source_more number k places old below pushed held =
+    let next : number + 1 ≡ suc number = omega arith in
+    let after : k + 1 ≡ suc k = omega arith in
+    rw (pushed, next, after) (append_assoc old _ _ ∙ (rw (drop-cons places k None below) at held))
 
 -- one span more
 pub span_more : (end : ℕ) (own : Option ListSpan) (rest : List (Option ListSpan)) (old : List Span) {span : Span} {new whole : List Span}
